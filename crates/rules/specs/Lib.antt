@@ -1,0 +1,11 @@
+pub mod Basic
+pub mod Ranges
+pub mod Alphabetic
+pub mod Numeric
+pub mod WhiteSpace
+pub mod Folding
+pub mod Unicode
+pub mod Utf8
+pub mod Text
+pub mod Sheet
+pub mod Words
