@@ -53,6 +53,11 @@ module _ {A : Type 0} where
   isSome none = false
   isSome (some a) = true
 
+module _ {A B : Type 0} (f : A → B) where
+  unfoldable pub each : List A → List B
+  each [] = []
+  each (x ∷ xs) = f x ∷ each xs
+
 -- what a word stands for in a table of words
 module _ {A : Type 0} (w : List ℕ) where
   unfoldable pub wordIn : List (List ℕ × A) → Option A

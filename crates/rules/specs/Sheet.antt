@@ -4,7 +4,7 @@ use mathlib.Core.List.{List, [], _∷_, _++_}
 use mathlib.Core.Bool.{Bool, true, false}
 use mathlib.Core.Option.{Option, none, some}
 use lib.Dec.{eqb, leb}
-use Rattle.rules.specs.Basic.{pick, tab, lf, backslash, minus, isDigit, splitAt}
+use Rattle.rules.specs.Basic.{pick, codes, tab, lf, backslash, minus, isDigit, each, splitAt, joinBy, decimal}
 
 -- "UTF-8 lines, each ended by LF": the lines of some bytes, and what stands after the last LF
 pub data Lines : Type 0 where
@@ -45,6 +45,14 @@ escapeChar c =
 unfoldable pub escape : List ℕ → List ℕ
 escape [] = []
 escape (c ∷ s) = escapeChar c ++ escape s
+
+-- the line of some fields, with its LF; pages escape their fields as the sheet does
+unfoldable pub lineOf : List (List ℕ) → List ℕ
+lineOf fs = joinBy tab (each escape fs) ++ (lf ∷ [])
+
+-- "a refusal prints `refused`, number, line"
+unfoldable pub refusedLine : ℕ → ℕ → List ℕ
+refusedLine number line = lineOf (codes "refused" ∷ decimal number ∷ decimal line ∷ [])
 
 -- "Numbers are decimal without leading zeros, zero without sign, at most 65535."
 unfoldable pub digitsFrom : ℕ → List ℕ → Option ℕ
