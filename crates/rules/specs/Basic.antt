@@ -3,7 +3,7 @@ use Prim.Native.Nat.{ℕ, zero, suc, _+_, _/_, _%_}
 use Prim.Native.Char.{code}
 use Prim.Native.String.{String}
 use mathlib.Core.List.{List, [], _∷_, _++_}
-use mathlib.Core.Bool.{Bool, true, false, _&&_}
+use mathlib.Core.Bool.{Bool, true, false, _&&_, _||_}
 use mathlib.Core.Option.{Option, none, some}
 use lib.Dec.{eqb, leb, ltb}
 
@@ -27,8 +27,17 @@ lf = 10
 abbrev pub blank : ℕ
 blank = 32
 
+abbrev pub comma : ℕ
+comma = 44
+
 abbrev pub minus : ℕ
 minus = 45
+
+abbrev pub point : ℕ
+point = 46
+
+abbrev pub slash : ℕ
+slash = 47
 
 abbrev pub backslash : ℕ
 backslash = 92
@@ -49,11 +58,37 @@ eqList (x ∷ xs) [] = false
 eqList (x ∷ xs) (y ∷ ys) = pick (eqb x y) (eqList xs ys) false
 
 module _ {A : Type 0} where
+  unfoldable pub isEmpty : List A → Bool
+  isEmpty [] = true
+  isEmpty (x ∷ xs) = false
+
+  unfoldable pub concat : List (List A) → List A
+  concat [] = []
+  concat (l ∷ ls) = l ++ concat ls
+
+  -- one entry where the test says yes, else none
+  unfoldable pub when : Bool → A → List A
+  when true a = a ∷ []
+  when false a = []
+
   unfoldable pub isSome : Option A → Bool
   isSome none = false
   isSome (some a) = true
 
+module _ {A : Type 0} (test : A → Bool) where
+  unfoldable pub any : List A → Bool
+  any [] = false
+  any (x ∷ xs) = test x || any xs
+
+  unfoldable pub all : List A → Bool
+  all [] = true
+  all (x ∷ xs) = test x && all xs
+
 module _ {A B : Type 0} (f : A → B) where
+  unfoldable pub onSome : Option A → Option B
+  onSome none = none
+  onSome (some a) = some (f a)
+
   unfoldable pub each : List A → List B
   each [] = []
   each (x ∷ xs) = f x ∷ each xs

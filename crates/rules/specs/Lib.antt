@@ -9,3 +9,13 @@ pub mod Utf8
 pub mod Text
 pub mod Sheet
 pub mod Words
+pub mod Event
+pub mod Read
+pub mod Write
+pub mod Units
+pub mod Inline
+pub mod Modes
+pub mod Finding
+pub mod Model
+pub mod Reference
+pub mod Checks

@@ -1,10 +1,10 @@
 -- Trimming (src/text.rs), over code points.
 use Prim.Native.Nat.{ℕ}
 use mathlib.Core.List.{List, [], _∷_}
-use mathlib.Core.Bool.{Bool, _&&_}
+use mathlib.Core.Bool.{Bool, _&&_, not}
 use lib.Dec.{eqb}
 use Rattle.rules.specs.Basic.{pick, blank}
-use Rattle.rules.specs.Unicode.{isWhiteSpace}
+use Rattle.rules.specs.Unicode.{isWhiteSpace, isAlphabetic}
 
 -- `str::trim_matches`: what the test drops goes from both ends
 module _ (drops : ℕ → Bool) where
@@ -36,3 +36,10 @@ retain prev (c ∷ s) = pick (eqb c blank && eqb prev blank) (retain c s) (c ∷
 -- `text_trimmed`
 unfoldable pub textTrimmed : List ℕ → List ℕ
 textTrimmed s = retain blank (textOuterTrimmed s)
+
+-- what `find_inline_quantity` does to a unit: `unit.trim_matches(|c| !c.is_alphabetic())`
+unfoldable pub isNotAlphabetic : ℕ → Bool
+isNotAlphabetic c = not (isAlphabetic c)
+
+unfoldable pub unitTrimmed : List ℕ → List ℕ
+unitTrimmed s = trimMatches isNotAlphabetic s

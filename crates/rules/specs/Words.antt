@@ -1,6 +1,7 @@
 -- The words that a sheet's lines, config keys and config values are compared with.
 use Prim.Native.Nat.{ℕ}
 use mathlib.Core.List.{List, [], _∷_}
+use mathlib.Core.Bool.{Bool, true, false}
 use Rattle.rules.specs.Basic.{codes}
 
 -- the first field of a line: its kind of event
@@ -26,6 +27,24 @@ pub data ValueKind : Type 0 where
 
 abbrev pub valueKinds : List (List ℕ × ValueKind)
 valueKinds = (codes "n", number) ∷ (codes "r", range) ∷ (codes "t", textual) ∷ []
+
+-- "lock `l` or `-`"
+abbrev pub locks : List (List ℕ × Bool)
+locks = (codes "l", true) ∷ (codes "-", false) ∷ []
+
+-- an intermediate reference: "`n` or `r`" (number or relative), "`step` or `section`"
+abbrev pub references : List (List ℕ × Bool)
+references = (codes "n", false) ∷ (codes "r", true) ∷ []
+
+pub data IntermediateTarget : Type 0 where
+  targetStep targetSection : IntermediateTarget
+
+abbrev pub targets : List (List ℕ × IntermediateTarget)
+targets = (codes "step", targetStep) ∷ (codes "section", targetSection) ∷ []
+
+-- `error` and `warning`
+pub data Severity : Type 0 where
+  severe mild : Severity
 
 -- the config keys of `metadata` in the Rust: `[mode]`, `[define]`, `[duplicate]`
 pub data ConfigKey : Type 0 where
