@@ -19,3 +19,12 @@ pub mod Finding
 pub mod Model
 pub mod Reference
 pub mod Checks
+pub mod State
+pub mod Metadata
+pub mod Components
+pub mod Pass
+pub mod Page
+pub mod Plain
+pub mod Answer
+pub mod Demand
+pub mod Evaluate
