@@ -1,0 +1,5 @@
+pub mod Places
+pub mod Windows
+pub mod Below
+pub mod Rows
+pub mod Ascii
