@@ -1,2 +1,3 @@
 pub mod Basics
 pub mod KeyTree
+pub mod Begins
