@@ -1,3 +1,4 @@
 pub mod Basics
 pub mod KeyTree
 pub mod Begins
+pub mod Chars
