@@ -138,10 +138,10 @@ read-4 : (x y z w a b d v : ℕ) → 240 + x ≡ a → 128 + y ≡ b → 128 + z
 read-4 x y z w a b d v e f i k g j m l = encode-4 _ a b d v (omega arith) (omega arith) (omega arith) (omega arith) (omega arith)
 
 -- the least second bytes rule out longer bytes than needed
-least-3 : (a b : ℕ) → 224 ≤ a → a ≤ 239 → second a b ≡ true → 32 ≤ a % 16 * 64 + b % 64
+pub least-3 : (a b : ℕ) → 224 ≤ a → a ≤ 239 → second a b ≡ true → 32 ≤ a % 16 * 64 + b % 64
 least-3 a b h g q = by-order a 224 (λ l. let e : a ≡ 224 = omega arith in let k : 160 ≤ b = low-at a b 160 q (rw e) in let u = second-to a b q in omega arith) (λ l. omega arith)
 
-least-4 : (a b : ℕ) → 240 ≤ a → a ≤ 244 → second a b ≡ true → 16 ≤ a % 8 * 64 + b % 64
+pub least-4 : (a b : ℕ) → 240 ≤ a → a ≤ 244 → second a b ≡ true → 16 ≤ a % 8 * 64 + b % 64
 least-4 a b h g q = by-order a 240 (λ l. let e : a ≡ 240 = omega arith in let k : 144 ≤ b = low-at a b 144 q (rw e) in let u = second-to a b q in omega arith) (λ l. omega arith)
 
 pub begins-encode : {a : ℕ} {s : List ℕ} {c : ℕ} → Begins a s c → encodeChar c ≡ a ∷ take (pred (sizeOf a)) s

@@ -4,3 +4,5 @@ pub mod Begins
 pub mod Chars
 pub mod Scalars
 pub mod Encodes
+pub mod Ascii
+pub mod Insides
