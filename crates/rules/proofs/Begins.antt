@@ -47,9 +47,9 @@ unfolding second lowest highest
 second-yes a b h g e1 e2 e3 e4 =
     within-yes _ _ b
     (pick-either (λ (x : ℕ). x ≤ b) (eqb a 224) _ _ (λ p. e1 (eqb-true a 224 p))
-      (λ p. pick-either (λ (x : ℕ). x ≤ b) (eqb a 240) _ _ (λ r. e2 (eqb-true a 240 r)) (λ r. h)))
+    (λ p. pick-either (λ (x : ℕ). x ≤ b) (eqb a 240) _ _ (λ r. e2 (eqb-true a 240 r)) (λ r. h)))
     (pick-either (λ (x : ℕ). b ≤ x) (eqb a 237) _ _ (λ p. e3 (eqb-true a 237 p))
-      (λ p. pick-either (λ (x : ℕ). b ≤ x) (eqb a 244) _ _ (λ r. e4 (eqb-true a 244 r)) (λ r. g)))
+    (λ p. pick-either (λ (x : ℕ). b ≤ x) (eqb a 244) _ _ (λ r. e4 (eqb-true a 244 r)) (λ r. g)))
 
 pub low-at : (a b x : ℕ) → second a b ≡ true → (pick (eqb a 224) 160 (pick (eqb a 240) 144 128) ≡ x) → x ≤ b
 unfolding second lowest highest
@@ -149,23 +149,24 @@ unfolding firstOf sizeOf sized
 begins a s c =
     pick-either P (leb a 127) _ _ (λ b q. begins-as q (one (leb-true a 127 b)))
     (λ n1. pick-either P (within 194 223 a) _ _
-      (λ b. pick-either Q (second a (getD s 0 0)) _ _
-        (λ e q. begins-as q (begins-2 a s (within-from 194 223 a b) (within-to 194 223 a b) e)) (λ e q. no-some q))
+    (λ b. pick-either Q (second a (getD s 0 0)) _ _
+    (λ e q. begins-as q (begins-2 a s (within-from 194 223 a b) (within-to 194 223 a b) e)) (λ e q. no-some q))
     (λ n2. pick-either P (within 224 239 a) _ _
-      (λ b. pick-either Q (second a (getD s 0 0) && later (getD s 1 0)) _ _
-        (λ e q. begins-as q (begins-3 a s (within-from 224 239 a b) (within-to 224 239 a b) (and-left _ _ e) (and-right (second a (getD s 0 0)) _ e)))
-        (λ e q. no-some q))
+    (λ b. pick-either Q (second a (getD s 0 0) && later (getD s 1 0)) _ _
+    (λ e q. begins-as q (begins-3 a s (within-from 224 239 a b) (within-to 224 239 a b) (and-left _ _ e) (and-right (second a (getD s 0 0)) _ e)))
+    (λ e q. no-some q))
     (λ n3. pick-either P (within 240 244 a) _ _
-      (λ b. pick-either Q (second a (getD s 0 0) && later (getD s 1 0) && later (getD s 2 0)) _ _
-        (λ e q. let f = and-left (second a (getD s 0 0) && later (getD s 1 0)) _ e in
-          begins-as q
-          (begins-4 a s (within-from 240 244 a b) (within-to 240 244 a b) (and-left _ _ f) (and-right (second a (getD s 0 0)) _ f)
-          (and-right (second a (getD s 0 0) && later (getD s 1 0)) _ e)))
-        (λ e q. no-some q))
+    (λ b. pick-either Q (second a (getD s 0 0) && later (getD s 1 0) && later (getD s 2 0)) _ _
+    (λ e q. let f = and-left (second a (getD s 0 0) && later (getD s 1 0)) _ e in
+    begins-as q
+    (begins-4 a s (within-from 240 244 a b) (within-to 240 244 a b) (and-left _ _ f) (and-right (second a (getD s 0 0)) _ f)
+    (and-right (second a (getD s 0 0) && later (getD s 1 0)) _ e)))
+    (λ e q. no-some q))
     (λ n4 q. no-some q))))
   where
     P : ℕ → Type 0
     P n = sized n a s ≡ some c → Begins a s c
+
     Q : Option ℕ → Type 0
     Q o = o ≡ some c → Begins a s c
 

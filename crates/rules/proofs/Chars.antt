@@ -33,6 +33,10 @@ pub well-utf8 : (s : List ℕ) → isUtf8 s ≡ wellFrom 0 s
 unfolding isUtf8 firstFault
 well-utf8 s = well-fault 0 0 s
 
+pub utf8-none : isUtf8 [] ≡ true
+unfolding isUtf8 firstFault faultFrom isSome
+utf8-none = refl
+
 -- ---- one character
 
 -- the bytes of the character before are passed over
@@ -108,6 +112,7 @@ well-split zero b (a ∷ p) q l h = rw (first-ascii a b p q h) (go (λ g. well-s
   where
     W : List ℕ → Bool
     W t = wellFrom (pred (sizeOf a)) t
+
     go : (pred (sizeOf a) ≤ length p → W (p ++ (b ∷ q)) ≡ (W p && wellFrom 0 q)) → (o : Option ℕ) → firstOf a p ≡ o
         → (isSome o && W (p ++ (b ∷ q))) ≡ (isSome o && W p && wellFrom 0 q)
     go ih none e = unfold isSome in refl

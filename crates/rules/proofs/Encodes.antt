@@ -69,19 +69,19 @@ unfolding encodeChar
 spelled c s =
     pick-either P (ltb c 128) _ _ (λ b. spell-1 c (ltb-true c 128 b))
     (λ n1. pick-either P (ltb c 2048) _ _
-      (λ b. let l : 128 ≤ c = ltb-false c 128 n1 in let h : c < 2048 = ltb-true c 2048 b in
-        spell-2 (192 + c / 64) (128 + c % 64) c (omega arith) (omega arith)
-        (second-yes _ _ (omega arith) (omega arith) (λ e. absurd (omega arith)) (λ e. absurd (omega arith)) (λ e. absurd (omega arith)) (λ e. absurd (omega arith)))
-        (omega arith))
+    (λ b. let l : 128 ≤ c = ltb-false c 128 n1 in let h : c < 2048 = ltb-true c 2048 b in
+    spell-2 (192 + c / 64) (128 + c % 64) c (omega arith) (omega arith)
+    (second-yes _ _ (omega arith) (omega arith) (λ e. absurd (omega arith)) (λ e. absurd (omega arith)) (λ e. absurd (omega arith)) (λ e. absurd (omega arith)))
+    (omega arith))
     (λ n2. pick-either P (ltb c 65536) _ _
-      (λ b. let l : 2048 ≤ c = ltb-false c 2048 n2 in let h : c < 65536 = ltb-true c 65536 b in
-        spell-3 (224 + c / 4096) (128 + c / 64 % 64) (128 + c % 64) c (omega arith) (omega arith)
-        (second-yes _ _ (omega arith) (omega arith) (λ e. omega arith) (λ e. absurd (omega arith)) (λ e. surrogate c s e) (λ e. absurd (omega arith)))
-        (later-yes _ (omega arith) (omega arith)) (omega arith))
+    (λ b. let l : 2048 ≤ c = ltb-false c 2048 n2 in let h : c < 65536 = ltb-true c 65536 b in
+    spell-3 (224 + c / 4096) (128 + c / 64 % 64) (128 + c % 64) c (omega arith) (omega arith)
+    (second-yes _ _ (omega arith) (omega arith) (λ e. omega arith) (λ e. absurd (omega arith)) (λ e. surrogate c s e) (λ e. absurd (omega arith)))
+    (later-yes _ (omega arith) (omega arith)) (omega arith))
     (λ n3. let l : 65536 ≤ c = ltb-false c 65536 n3 in let h : c < 1114112 = s .top in
-        spell-4 (240 + c / 262144) (128 + c / 4096 % 64) (128 + c / 64 % 64) (128 + c % 64) c (omega arith) (omega arith)
-        (second-yes _ _ (omega arith) (omega arith) (λ e. absurd (omega arith)) (λ e. omega arith) (λ e. absurd (omega arith)) (λ e. omega arith))
-        (later-yes _ (omega arith) (omega arith)) (later-yes _ (omega arith) (omega arith)) (sum-4 c h))))
+    spell-4 (240 + c / 262144) (128 + c / 4096 % 64) (128 + c / 64 % 64) (128 + c % 64) c (omega arith) (omega arith)
+    (second-yes _ _ (omega arith) (omega arith) (λ e. absurd (omega arith)) (λ e. omega arith) (λ e. absurd (omega arith)) (λ e. omega arith))
+    (later-yes _ (omega arith) (omega arith)) (later-yes _ (omega arith) (omega arith)) (sum-4 c h))))
   where
     P : List ℕ → Type 0
     P l = Spelled c l
@@ -109,7 +109,7 @@ utf8-encode {cs} h = well-utf8 (encode cs) ∙ well-encode h
 
 -- ---- the bytes of what was read
 
-encode-1 : (c : ℕ) → c < 128 → encodeChar c ≡ c ∷ []
+pub encode-1 : (c : ℕ) → c < 128 → encodeChar c ≡ c ∷ []
 unfolding encodeChar
 encode-1 c h = rw (lt-ltb c 128 h)
 

@@ -6,3 +6,4 @@ pub mod Scalars
 pub mod Encodes
 pub mod Ascii
 pub mod Insides
+pub mod Escaped
