@@ -4,7 +4,7 @@ use mathlib.Core.Path.{_≡_, refl, sym, ap, _∙_}
 use mathlib.Core.List.{List, [], _∷_, _++_}
 use mathlib.Core.Bool.{Bool, true, false, _&&_, not, and-assoc}
 use mathlib.Core.Option.{Option, none, some}
-use native.Mathlib.Nat.{le-of-suc-le-suc, not-suc-le-zero}
+use native.Mathlib.Nat.{le-of-suc-le-suc, not-suc-le-zero, add-zero}
 use native.Mathlib.Omega.{arith}
 use lib.ListN.{length, drop, take}
 use Rattle.rules.specs.Basic.{isSome}
@@ -52,6 +52,12 @@ skip-well zero s = refl
 skip-well (suc k) [] = refl
 skip-well (suc k) (a ∷ s) = skip-well k s
 
+pub skip-fault : (at k : ℕ) (s : List ℕ) → faultFrom at k s ≡ faultFrom (at + k) 0 (drop k s)
+unfolding faultFrom
+skip-fault at zero s = rw add-zero
+skip-fault at (suc k) [] = refl
+skip-fault at (suc k) (a ∷ s) = skip-fault (suc at) k s ∙ ap (λ (n : ℕ). faultFrom n 0 (drop k s)) (omega arith)
+
 -- bytes that start with a character
 pub chars-begins : {a : ℕ} {s : List ℕ} {c : ℕ} → Begins a s c → charsFrom 0 (a ∷ s) ≡ c ∷ charsFrom (pred (sizeOf a)) s
 unfolding charsFrom charOr followers
@@ -60,6 +66,10 @@ chars-begins g = rw (first-some g)
 pub well-begins : {a : ℕ} {s : List ℕ} {c : ℕ} → Begins a s c → wellFrom 0 (a ∷ s) ≡ wellFrom (pred (sizeOf a)) s
 unfolding wellFrom isSome
 well-begins g = rw (first-some g)
+
+pub fault-begins : {a : ℕ} {s : List ℕ} {c : ℕ} (at : ℕ) → Begins a s c → faultFrom at 0 (a ∷ s) ≡ faultFrom (suc at) (pred (sizeOf a)) s
+unfolding faultFrom faultOr
+fault-begins at g = rw (first-some g)
 
 -- UTF-8 that is not empty starts with a character, and goes on with UTF-8
 pub record Starts (a : ℕ) (s : List ℕ) : Type 0 where
