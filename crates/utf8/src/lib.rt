@@ -187,10 +187,7 @@ pub fn char_at(s: &[u8], at: usize) -> Char
             code: 0xfffd,
             size: 1,
         },
-        Decoded::Char { code, size } => Char {
-            code,
-            size,
-        },
+        Decoded::Char { code, size } => Char { code, size },
     }
 }
 

@@ -1,3 +1,4 @@
+use Rattle.utf8.proofs.Turns.{ascii-char, fault-char, wide-char}
 use borrow.Author.Needs.{needs}
 use native.Mathlib.Omega.{arith}
 use Rattle.utf8.proofs.char_at.Statement.{statement}
@@ -17,7 +18,7 @@ wide-requires c κs = search needs
 
 -- src/lib.rt:179:9
 returns : tie.Need-returns
-returns c = search needs
+returns c = search (needs, ascii-char)
 
 -- src/lib.rt:184:9
 decode-requires : tie.Need-decode-requires
@@ -33,11 +34,11 @@ enum-known-d c = search needs
 
 -- src/lib.rt:173:1
 returns-2 : tie.Need-returns-2
-returns-2 c = search needs
+returns-2 c = search (needs, fault-char)
 
 -- src/lib.rt:173:1
 returns-3 : tie.Need-returns-3
-returns-3 c = search needs
+returns-3 c = search (needs, wide-char)
 
 pub char-at-spec : {M : Type 1} → statement M
 char-at-spec =
