@@ -1,14 +1,14 @@
 -- Words of ASCII: the code points of a field are such a word where its bytes are.
-use Prim.Native.Nat.{ℕ, zero, suc, pred, _+_, _*_, _%_, _≤_, _<_}
-use mathlib.Core.Path.{_≡_, refl, sym, ap, _∙_}
+use Prim.Native.Nat.{ℕ, _+_, _*_, _%_, _≤_, _<_}
+use mathlib.Core.Path.{_≡_, refl, sym, _∙_}
 use mathlib.Core.List.{List, [], _∷_}
 use mathlib.Core.Bool.{Bool, true, false, _&&_}
 use mathlib.Core.Option.{Option, none, some}
 use native.Mathlib.Omega.{arith}
-use lib.Dec.{eqb, ltb}
+use lib.Dec.{ltb}
 use borrow.Author.Tests.{ltb-true, ne-eqb}
-use Rattle.rules.specs.Basic.{pick, eqList, wordIn}
-use Rattle.rules.specs.Utf8.{firstOf, charOr, followers, charsFrom, chars, second}
+use Rattle.rules.specs.Basic.{eqList, wordIn}
+use Rattle.rules.specs.Utf8.{firstOf, charOr, charsFrom, chars}
 use Rattle.rules.specs.Words.{eventWords, blockKinds, valueKinds, configKeys, defineWords, duplicateWords}
 use Rattle.rules.proofs.Basics.{by-order, and-left, and-right}
 use Rattle.rules.proofs.Begins.{Begins, one, two, three, four, begins}

@@ -1,13 +1,13 @@
 -- Table 3-7: what it means that bytes start with a character.
 use Prim.Native.Nat.{ℕ, zero, suc, pred, _+_, _*_, _%_, _≤_, _<_}
-use mathlib.Core.Path.{_≡_, refl, sym, ap, _∙_}
+use mathlib.Core.Path.{_≡_, refl, sym, _∙_}
 use mathlib.Core.List.{List, [], _∷_, _++_}
 use mathlib.Core.Bool.{Bool, true, false, _&&_, and-false}
-use mathlib.Core.Option.{Option, none, some}
+use mathlib.Core.Option.{Option, some}
 use native.Mathlib.Omega.{arith}
 use lib.Dec.{eqb, leb}
 use lib.ListN.{length, getD}
-use borrow.Author.Tests.{leb-true, leb-false, eqb-true, eqb-false, le-leb, lt-leb}
+use borrow.Author.Tests.{leb-true, eqb-true, le-leb, lt-leb}
 use Rattle.rules.specs.Basic.{pick, within}
 use Rattle.rules.specs.Utf8.{sizeOf, lowest, highest, second, later, sized, firstOf}
 use Rattle.rules.proofs.Basics.{pick-either, no-some, no-truth, some-inj, and-left, and-right, within-yes, within-low, within-high, within-from, within-to}

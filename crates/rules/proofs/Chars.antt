@@ -1,12 +1,12 @@
 -- The code points of bytes, and whether bytes are UTF-8, by parts.
-use Prim.Native.Nat.{ℕ, zero, suc, pred, _+_, _≤_, _<_, suc-le-suc}
+use Prim.Native.Nat.{ℕ, zero, suc, pred, _+_, _≤_, _<_}
 use mathlib.Core.Path.{_≡_, refl, sym, ap, _∙_}
 use mathlib.Core.List.{List, [], _∷_, _++_}
-use mathlib.Core.Bool.{Bool, true, false, _&&_, not, and-assoc}
+use mathlib.Core.Bool.{Bool, true, _&&_, not}
 use mathlib.Core.Option.{Option, none, some}
 use native.Mathlib.Nat.{le-of-suc-le-suc, not-suc-le-zero, add-zero}
 use native.Mathlib.Omega.{arith}
-use lib.ListN.{length, drop, take}
+use lib.ListN.{length, drop}
 use Rattle.rules.specs.Basic.{isSome}
 use Rattle.rules.specs.Utf8.{sizeOf, firstOf, faultOr, faultFrom, firstFault, isUtf8, charOr, followers, charsFrom, chars}
 use Rattle.rules.proofs.Basics.{and-left, and-right, no-truth}

@@ -1,17 +1,16 @@
 -- UTF-8 there and back: the bytes of scalar values read as these, and UTF-8 is the bytes of what it reads as.
-use Prim.Native.Nat.{ℕ, zero, suc, pred, _+_, _-_, _*_, _/_, _%_, _≤_, _<_}
+use Prim.Native.Nat.{ℕ, zero, suc, pred, _+_, _*_, _/_, _%_, _≤_, _<_}
 use mathlib.Core.Path.{_≡_, refl, sym, ap, _∙_}
-use mathlib.Core.List.{List, [], _∷_, _++_, append-assoc}
-use mathlib.Core.Bool.{Bool, true, false}
+use mathlib.Core.List.{List, [], _∷_, _++_}
+use mathlib.Core.Bool.{true}
 use native.Mathlib.Omega.{arith}
 use lib.Dec.{ltb}
-use lib.ListN.{length, take, drop}
+use lib.ListN.{length, take}
 use lib.Seq.{drop-append-seam}
 use borrow.Author.Tests.{ltb-true, ltb-false, lt-ltb, le-ltb}
-use Rattle.rules.specs.Basic.{pick}
 use Rattle.rules.specs.Utf8.{sizeOf, second, later, charsFrom, chars, isUtf8, encodeChar, encode}
 use Rattle.rules.proofs.Basics.{pick-either, by-order}
-use Rattle.rules.proofs.Begins.{Begins, one, two, three, four, begins-more, size-1, size-2, size-3, size-4, second-yes, second-from, second-to, low-at, high-at, later-yes, later-from, later-to}
+use Rattle.rules.proofs.Begins.{Begins, one, two, three, four, begins-more, size-1, size-2, size-3, size-4, second-yes, second-from, second-to, low-at, later-yes, later-from, later-to}
 use Rattle.rules.proofs.Chars.{wellFrom, well-utf8, chars-begins, well-begins, starts, skip-chars, skip-well}
 use Rattle.rules.proofs.Scalars.{Scalar, Scalars, scalars-none, scalars-more, scalar-low}
 

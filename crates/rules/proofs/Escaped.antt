@@ -1,14 +1,13 @@
 -- A field is UTF-8 where its escaped bytes are.
-use Prim.Native.Nat.{ℕ, _+_, _*_, _/_, _%_, _≤_, _<_}
+use Prim.Native.Nat.{ℕ, _+_, _/_, _%_, _≤_, _<_}
 use mathlib.Core.Path.{_≡_, refl, sym, ap, _∙_}
-use mathlib.Core.List.{List, [], _∷_, _++_, append-nil}
+use mathlib.Core.List.{List, [], _∷_, _++_}
 use mathlib.Core.Bool.{Bool, true, false}
 use mathlib.Core.Option.{Option, none, some}
 use native.Mathlib.Omega.{arith}
 use lib.Dec.{eqb, ltb}
-use borrow.Author.Tests.{ltb-true, eqb-true, eqb-false, ne-eqb, eq-eqb}
-use Rattle.rules.specs.Basic.{pick}
-use Rattle.rules.specs.Utf8.{chars, isUtf8, encodeChar, encode}
+use borrow.Author.Tests.{ltb-true, eqb-true, eqb-false, ne-eqb}
+use Rattle.rules.specs.Utf8.{isUtf8, encodeChar, encode}
 use Rattle.rules.specs.Sheet.{escaped, onto, unescape, escapeChar, escape}
 use Rattle.rules.proofs.Basics.{pick-either, by-order, no-some, some-inj}
 use Rattle.rules.proofs.Chars.{well-utf8, utf8-none, utf8-ascii}

@@ -1,18 +1,16 @@
--- UTF-8 there and back: the bytes of scalar values read as these, and UTF-8 is the bytes of what it reads as.
-use Prim.Native.Nat.{ℕ, zero, suc, pred, _+_, _-_, _*_, _/_, _%_, _≤_, _<_}
-use mathlib.Core.Path.{_≡_, refl, sym, ap, _∙_}
-use mathlib.Core.List.{List, [], _∷_, _++_}
+-- Scalar values: what bytes read as is such, whatever the bytes are.
+use Prim.Native.Nat.{ℕ, zero, suc, _+_, _*_, _%_, _≤_, _<_}
+use mathlib.Core.Path.{_≡_, refl, sym}
+use mathlib.Core.List.{List, [], _∷_}
 use mathlib.Core.Bool.{Bool, true, false}
 use mathlib.Core.Option.{Option, none, some}
 use native.Mathlib.Omega.{arith}
 use lib.Dec.{eqb, leb, ltb}
-use lib.ListN.{length, take}
-use borrow.Author.Tests.{ltb-true, ltb-false, leb-true, leb-false, eqb-true, eqb-false, lt-ltb, le-ltb, le-leb, lt-leb}
-use Rattle.rules.specs.Basic.{pick, within}
-use Rattle.rules.specs.Utf8.{sizeOf, second, later, firstOf, charOr, followers, charsFrom, chars, isUtf8, encodeChar, encode}
-use Rattle.rules.proofs.Basics.{pick-either, no-truth, within-low, within-high}
-use Rattle.rules.proofs.Begins.{Begins, one, two, three, four, begins, size-1, size-2, size-3, size-4, second-yes, second-from, second-to, low-at, high-at, later-yes, later-from, later-to}
-use Rattle.rules.proofs.Chars.{wellFrom, well-utf8, chars-begins, well-begins, starts}
+use borrow.Author.Tests.{ltb-true, ltb-false, leb-false, eqb-true, eqb-false, le-leb}
+use Rattle.rules.specs.Basic.{within}
+use Rattle.rules.specs.Utf8.{second, firstOf, charOr, followers, charsFrom, chars}
+use Rattle.rules.proofs.Basics.{no-truth, within-low, within-high}
+use Rattle.rules.proofs.Begins.{Begins, one, two, three, four, begins, low-at, high-at}
 
 -- a scalar value: a code point that is no surrogate
 pub record Scalar (c : ℕ) : Type 0 where

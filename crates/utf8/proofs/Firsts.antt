@@ -1,7 +1,7 @@
 -- The character that bytes start with, by what the first byte was found to be.
 use mathlib.Core.Path.{_≡_, refl, sym, ap, _∙_}
 use mathlib.Core.List.{List, [], _∷_}
-use Prim.Native.Nat.{ℕ, zero, suc, _≤_, _<_, _+_, _-_}
+use Prim.Native.Nat.{ℕ, _≤_, _<_, _+_, _-_}
 use native.Mathlib.Omega.{arith}
 use lib.ListN.{length, getD, drop, take, length-drop}
 use lib.Seq.{take-length, getD-drop}

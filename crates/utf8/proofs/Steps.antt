@@ -1,19 +1,17 @@
 -- Bytes, one character at a time: the laws that callers cite.
-use mathlib.Core.Path.{_≡_, refl, sym, ap, _∙_}
-use mathlib.Core.Bool.{Bool, true, false, not}
+use mathlib.Core.Path.{_≡_, refl}
+use mathlib.Core.Bool.{true, false, not}
 use mathlib.Core.List.{List, [], _∷_}
 use mathlib.Core.Option.{Option, none, some}
-use Prim.Native.Nat.{ℕ, zero, suc, pred, _≤_, _<_, _+_, _-_}
+use Prim.Native.Nat.{ℕ, _≤_, _<_, _+_}
 use native.Mathlib.Omega.{arith}
-use lib.ListN.{length, getD, drop, length-drop, drop-of-length-le}
+use lib.ListN.{length, drop, length-drop}
 use lib.Seq.{drop-drop}
 use Rattle.rules.specs.Basic.{isSome}
-use Rattle.rules.specs.Utf8.{sizeOf, firstOf, faultFrom, faultOr, firstFault, isUtf8, charOr, followers, charsFrom, chars}
-use Rattle.rules.proofs.Begins.{Begins, begins, begins-fits, begins-size, size-1, first-some, one}
-use Rattle.rules.proofs.Chars.{skip-chars, skip-fault, fault-begins, fits}
+use Rattle.rules.specs.Utf8.{firstOf, firstFault, isUtf8, followers, charsFrom, chars}
+use Rattle.rules.proofs.Chars.{skip-chars, fits}
 use Rattle.rules.proofs.Scalars.{Scalar, char-scalar}
 use Rattle.utf8.specs.declared.Char.{Char}
-use Rattle.utf8.specs.declared.Checked.{Checked}
 use Rattle.utf8.specs.declared.Checked.the-variants.{Valid, Fault}
 use Rattle.utf8.specs.Reading.{charOf}
 use Rattle.utf8.specs.Checking.{checkedOf}

@@ -2,9 +2,8 @@
 use mathlib.Core.Path.{_≡_, refl, sym, ap, _∙_}
 use mathlib.Core.List.{List, [], _∷_}
 use mathlib.Core.Option.{Option, none, some}
-use Prim.Native.Nat.{ℕ, zero, suc, pred, _≤_, _<_, _+_}
+use Prim.Native.Nat.{ℕ, zero, suc, _≤_, _<_, _+_}
 use native.Mathlib.Omega.{arith}
-use native.Mathlib.Numerals.{add-one}
 use lib.ListN.{length, getD, drop, length-drop, drop-of-length-le}
 use lib.Seq.{drop-drop, drop-cons}
 use Rattle.rules.specs.Utf8.{sizeOf, firstOf, faultFrom, faultOr, firstFault, charOr, followers}
@@ -13,7 +12,6 @@ use Rattle.rules.proofs.Chars.{skip-fault, fault-begins}
 use Rattle.utf8.specs.declared.Decoded.{Decoded}
 use Rattle.utf8.specs.declared.Decoded.the-variants as decoded
 use Rattle.utf8.specs.declared.Char.{Char}
-use Rattle.utf8.specs.declared.Checked.{Checked}
 use Rattle.utf8.specs.declared.Checked.the-variants.{Valid, Fault}
 use Rattle.utf8.specs.Decoding.{decodedAs, decodedOf}
 use Rattle.utf8.specs.Reading.{charOf}

@@ -1,6 +1,5 @@
 use Rattle.utf8.proofs.Bytes.{byte-past}
 use borrow.Author.Needs.{needs}
-use native.Mathlib.Omega.{arith}
 use Rattle.utf8.proofs.byte.Statement.{statement}
 use Rattle.utf8.proofs.byte.Tie as tie
 use Rattle.utf8.proofs.byte.Reads as reads

@@ -1,6 +1,5 @@
 use Rattle.utf8.proofs.Turns.{ascii-char, fault-char, wide-char}
 use borrow.Author.Needs.{needs}
-use native.Mathlib.Omega.{arith}
 use Rattle.utf8.proofs.char_at.Statement.{statement}
 use Rattle.utf8.proofs.char_at.Tie as tie
 use Rattle.utf8.proofs.char_at.Reads as reads

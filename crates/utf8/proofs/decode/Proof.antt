@@ -1,6 +1,5 @@
 use Rattle.utf8.proofs.Firsts.{part-rest}
 use borrow.Author.Needs.{needs}
-use native.Mathlib.Omega.{arith}
 use Rattle.utf8.proofs.decode.Statement.{statement}
 use Rattle.utf8.proofs.decode.Tie as tie
 use Rattle.utf8.proofs.decode.Reads as reads

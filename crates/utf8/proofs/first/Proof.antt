@@ -1,6 +1,5 @@
 use Rattle.utf8.proofs.Firsts.{first-empty, first-one, first-low, first-two, first-three, first-four, first-high}
 use borrow.Author.Needs.{needs}
-use native.Mathlib.Omega.{arith}
 use Rattle.utf8.proofs.first.Statement.{statement}
 use Rattle.utf8.proofs.first.Tie as tie
 use Rattle.utf8.proofs.first.Reads as reads

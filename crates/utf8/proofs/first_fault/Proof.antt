@@ -1,5 +1,5 @@
-use mathlib.Core.Path.{_≡_, refl}
-use Prim.Native.Nat.{ℕ, _≤_, _<_, _-_, _+_}
+use mathlib.Core.Path.{_≡_}
+use Prim.Native.Nat.{_≤_, _-_}
 use lib.ListN.{length, drop}
 use Rattle.rules.specs.Utf8.{faultFrom, firstFault}
 use Rattle.utf8.proofs.Turns.{ascii-on, fault-at, char-least, char-most, char-on, checked-end}

@@ -1,6 +1,5 @@
 use Rattle.utf8.proofs.Bytes.{four-fault, four-fault-2, four-fault-3, four-char}
 use borrow.Author.Needs.{needs}
-use native.Mathlib.Omega.{arith}
 use Rattle.utf8.proofs.four.Statement.{statement}
 use Rattle.utf8.proofs.four.Tie as tie
 use Rattle.utf8.proofs.four.Reads as reads

@@ -1,6 +1,5 @@
 use Rattle.utf8.proofs.Bytes.{high-ed, high-f4, high-else}
 use borrow.Author.Needs.{needs}
-use native.Mathlib.Omega.{arith}
 use Rattle.utf8.proofs.high.Statement.{statement}
 use Rattle.utf8.proofs.high.Tie as tie
 use Rattle.utf8.proofs.high.Reads as reads

@@ -1,6 +1,5 @@
 use Rattle.utf8.proofs.Bytes.{inside-byte}
 use borrow.Author.Needs.{needs}
-use native.Mathlib.Omega.{arith}
 use Rattle.utf8.proofs.is_inside.Statement.{statement}
 use Rattle.utf8.proofs.is_inside.Tie as tie
 use Rattle.utf8.proofs.is_inside.Reads as reads

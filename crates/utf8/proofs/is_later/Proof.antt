@@ -1,6 +1,5 @@
 use Rattle.utf8.proofs.Bytes.{later-low, later-high}
 use borrow.Author.Needs.{needs}
-use native.Mathlib.Omega.{arith}
 use Rattle.utf8.proofs.is_later.Statement.{statement}
 use Rattle.utf8.proofs.is_later.Tie as tie
 use Rattle.utf8.proofs.is_later.Reads as reads

@@ -1,6 +1,5 @@
 use Rattle.utf8.proofs.Bytes.{second-low, second-high}
 use borrow.Author.Needs.{needs}
-use native.Mathlib.Omega.{arith}
 use Rattle.utf8.proofs.is_second.Statement.{statement}
 use Rattle.utf8.proofs.is_second.Tie as tie
 use Rattle.utf8.proofs.is_second.Reads as reads

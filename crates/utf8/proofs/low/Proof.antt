@@ -1,6 +1,5 @@
 use Rattle.utf8.proofs.Bytes.{low-e0, low-f0, low-else}
 use borrow.Author.Needs.{needs}
-use native.Mathlib.Omega.{arith}
 use Rattle.utf8.proofs.low.Statement.{statement}
 use Rattle.utf8.proofs.low.Tie as tie
 use Rattle.utf8.proofs.low.Reads as reads

@@ -1,6 +1,5 @@
 use Rattle.utf8.proofs.Bytes.{three-fault, three-fault-2, three-char}
 use borrow.Author.Needs.{needs}
-use native.Mathlib.Omega.{arith}
 use Rattle.utf8.proofs.three.Statement.{statement}
 use Rattle.utf8.proofs.three.Tie as tie
 use Rattle.utf8.proofs.three.Reads as reads

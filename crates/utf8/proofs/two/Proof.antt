@@ -1,6 +1,5 @@
 use Rattle.utf8.proofs.Bytes.{two-fault, two-char}
 use borrow.Author.Needs.{needs}
-use native.Mathlib.Omega.{arith}
 use Rattle.utf8.proofs.two.Statement.{statement}
 use Rattle.utf8.proofs.two.Tie as tie
 use Rattle.utf8.proofs.two.Reads as reads
