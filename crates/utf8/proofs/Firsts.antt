@@ -1,0 +1,67 @@
+-- The character that bytes start with, by what the first byte was found to be.
+use mathlib.Core.Path.{_≡_, refl, sym, ap, _∙_}
+use mathlib.Core.List.{List, [], _∷_}
+use Prim.Native.Nat.{ℕ, _≤_, _<_, _+_, _-_}
+use native.Mathlib.Omega.{arith}
+use lib.ListN.{length, getD, drop, take, length-drop}
+use lib.Seq.{take-length, getD-drop}
+use Rattle.rules.specs.Utf8.{sizeOf, sized, firstOf}
+use Rattle.rules.proofs.Begins.{size-1, size-2, size-3, size-4, size-low, size-high}
+use Rattle.utf8.specs.declared.Decoded.{Decoded}
+use Rattle.utf8.specs.declared.Decoded.the-variants.{Char, Fault}
+use Rattle.utf8.specs.Decoding.{decodedAs, decodedOf}
+
+-- the part of a slice from a place on, as the logic has it
+pub part-rest : (s : List ℕ) (at : ℕ) → take (length s - at) (drop at s) ≡ drop at s
+part-rest s at = rw (← length-drop at s, take-length)
+
+pub first-empty : (s : List ℕ) → length s < 1 → Fault ≡ decodedOf s
+unfolding decodedOf
+first-empty [] h = refl
+first-empty (a ∷ s) h = absurd (omega arith)
+
+-- of the bytes after the first one, as many count as the size says
+same-2 : (a b : ℕ) (t : List ℕ) → b ≡ getD t 0 0 → sized 2 a (b ∷ []) ≡ sized 2 a t
+unfolding sized
+same-2 a b t e = rw e
+
+same-3 : (a b c : ℕ) (t : List ℕ) → b ≡ getD t 0 0 → c ≡ getD t 1 0 → sized 3 a (b ∷ c ∷ []) ≡ sized 3 a t
+unfolding sized
+same-3 a b c t e f = rw (e, f)
+
+same-4 : (a b c d : ℕ) (t : List ℕ) → b ≡ getD t 0 0 → c ≡ getD t 1 0 → d ≡ getD t 2 0 → sized 4 a (b ∷ c ∷ d ∷ []) ≡ sized 4 a t
+unfolding sized
+same-4 a b c d t e f g = rw (e, f, g)
+
+module _ (s : List ℕ) (a : ℕ) (some : 1 ≤ length s) (ea : a ≡ getD s 0 0) where
+  after : (i : ℕ) → getD s (1 + i) 0 ≡ getD (drop 1 s) i 0
+  after i = sym (getD-drop 1 s i 0)
+
+  of-size : (n : ℕ) → sizeOf a ≡ n → decodedOf s ≡ decodedAs n (sized n a (drop 1 s))
+  of-size n z = go s some ea
+    where
+      go : (t : List ℕ) → 1 ≤ length t → a ≡ getD t 0 0 → decodedOf t ≡ decodedAs n (sized n a (drop 1 t))
+      go [] h e = absurd (omega arith)
+      go (b ∷ t) h e = unfold decodedOf firstOf in rw (← e, z)
+
+  pub first-one : a < 128 → (x : ℕ) → x ≡ a → Char x 1 ≡ decodedOf s
+  first-one h x e = rw (of-size 1 (size-1 a (omega arith)), e) (unfold sized decodedAs in refl)
+
+  pub first-low : 128 ≤ a → a < 194 → Fault ≡ decodedOf s
+  first-low h g = rw (of-size 0 (size-low a h g)) (unfold sized decodedAs in refl)
+
+  pub first-high : 245 ≤ a → Fault ≡ decodedOf s
+  first-high h = rw (of-size 0 (size-high a h)) (unfold sized decodedAs in refl)
+
+  module _ (b : ℕ) (eb : b ≡ getD s 1 0) (r : Decoded) where
+    pub first-two : 194 ≤ a → a < 224 → r ≡ decodedAs 2 (sized 2 a (b ∷ [])) → r ≡ decodedOf s
+    first-two h g e = e ∙ ap (decodedAs 2) (same-2 a b (drop 1 s) (eb ∙ after 0)) ∙ sym (of-size 2 (size-2 a h (omega arith)))
+
+    module _ (c : ℕ) (ec : c ≡ getD s 2 0) where
+      pub first-three : 224 ≤ a → a < 240 → r ≡ decodedAs 3 (sized 3 a (b ∷ c ∷ [])) → r ≡ decodedOf s
+      first-three h g e =
+          e ∙ ap (decodedAs 3) (same-3 a b c (drop 1 s) (eb ∙ after 0) (ec ∙ after 1)) ∙ sym (of-size 3 (size-3 a h (omega arith)))
+
+      pub first-four : (d : ℕ) → d ≡ getD s 3 0 → 240 ≤ a → a < 245 → r ≡ decodedAs 4 (sized 4 a (b ∷ c ∷ d ∷ [])) → r ≡ decodedOf s
+      first-four d ed h g e =
+          e ∙ ap (decodedAs 4) (same-4 a b c d (drop 1 s) (eb ∙ after 0) (ec ∙ after 1) (ed ∙ after 2)) ∙ sym (of-size 4 (size-4 a h (omega arith)))

@@ -1,0 +1,103 @@
+use mathlib.Core.Path.{_≡_}
+use Prim.Native.Nat.{_≤_, _-_}
+use lib.ListN.{length, drop}
+use Rattle.rules.specs.Utf8.{faultFrom, firstFault}
+use Rattle.utf8.proofs.Turns.{ascii-on, fault-at, char-least, char-most, char-on, checked-end}
+use borrow.Author.Needs.{needs}
+use native.Mathlib.Omega.{arith}
+use Rattle.utf8.proofs.first_fault.Statement.{statement}
+use Rattle.utf8.proofs.first_fault.Tie as tie
+use Rattle.utf8.proofs.first_fault.Reads as reads
+use Rattle.utf8.proofs.first_fault.Lts as lts
+use Rattle.utf8.proofs.decode.Reads as decode-reads
+
+abbrev Inv-loop : tie.InvT-loop
+Inv-loop s at₀ at = (at ≤ length s) × (faultFrom at 0 (drop at s) ≡ firstFault s)
+
+abbrev μ-loop : tie.MeasureT-loop
+μ-loop s at₀ at = length s - at
+
+-- src/lib.rt:201:5
+loop-holds : tie.Need-loop-holds Inv-loop μ-loop
+unfolding firstFault
+loop-holds c = search needs
+
+-- src/lib.rt:202:17
+shared-slice-read-a : tie.Need-shared-slice-read-a Inv-loop μ-loop
+shared-slice-read-a c = search needs
+
+-- src/lib.rt:204:13
+add-at : tie.Need-add-at Inv-loop μ-loop
+add-at c = search needs
+
+-- src/lib.rt:201:5
+loop-less : tie.Need-loop-less Inv-loop μ-loop
+loop-less c = search needs
+
+-- src/lib.rt:201:5
+loop-again : tie.Need-loop-again Inv-loop μ-loop
+loop-again c = search (needs, ascii-on)
+
+-- src/lib.rt:206:17
+decode-requires : tie.Need-decode-requires Inv-loop μ-loop
+decode-requires c κs = search needs
+
+-- src/lib.rt:209:21
+enum-told : tie.Need-enum-told Inv-loop μ-loop
+enum-told c = search needs
+
+-- src/lib.rt:209:21
+returns : tie.Need-returns Inv-loop μ-loop
+returns c = search (needs, fault-at)
+
+-- src/lib.rt:211:42
+enum-known-d : tie.Need-enum-known-d Inv-loop μ-loop
+enum-known-d c = search needs
+
+-- src/lib.rt:212:21
+add-at-2 : tie.Need-add-at-2 Inv-loop μ-loop
+add-at-2 c =
+    let d = c .before .d in
+    let decode = c .before .before .before .decode in
+    let loop-test = c .before .before .before .before .before .before .loop-test in
+    let loop = c .before .before .before .before .before .before .before .loop in
+    let args = c .before .before .before .before .before .before .before .before .before .args in
+    omega (arith, char-most (args .s .now) (loop .at) (loop-test .taken) (decode .result) (decode .ensures) _ _ (d .given .1))
+
+-- src/lib.rt:201:5
+loop-less-2 : tie.Need-loop-less-2 Inv-loop μ-loop
+loop-less-2 c =
+    let d = c .before .d in
+    let decode = c .before .before .before .decode in
+    let loop-test = c .before .before .before .before .before .before .loop-test in
+    let loop = c .before .before .before .before .before .before .before .loop in
+    let args = c .before .before .before .before .before .before .before .before .before .args in
+    omega (arith, char-most (args .s .now) (loop .at) (loop-test .taken) (decode .result) (decode .ensures) _ _ (d .given .1), char-least (args .s .now) (loop .at) (loop-test .taken) (decode .result) (decode .ensures) _ _ (d .given .1))
+
+-- src/lib.rt:201:5
+loop-again-2 : tie.Need-loop-again-2 Inv-loop μ-loop
+loop-again-2 c = search (needs, char-on, char-most)
+
+-- src/lib.rt:197:1
+returns-2 : tie.Need-returns-2 Inv-loop μ-loop
+returns-2 c = search (needs, checked-end)
+
+pub first-fault-spec : {M : Type 1} → statement M
+first-fault-spec =
+    tie.close
+    (tie.spec
+    Inv-loop
+    μ-loop
+    loop-holds
+    shared-slice-read-a
+    add-at
+    loop-less
+    loop-again
+    decode-requires
+    enum-told
+    returns
+    enum-known-d
+    add-at-2
+    loop-less-2
+    loop-again-2
+    returns-2)

@@ -1,0 +1,222 @@
+ghost use mathlib.Core.Path.{_≡_};
+ghost use mathlib.Core.List.{[], _∷_};
+ghost use Prim.Native.Nat.{_≤_, _<_};
+ghost use lib.ListN.{length, drop, getD};
+ghost use Rattle.rules.specs.Utf8.{lowest, highest, second, later, sized, firstFault, isInside};
+ghost use Rattle.utf8.specs.Decoding.{decodedAs, decodedOf};
+ghost use Rattle.utf8.specs.Reading.{charOf};
+ghost use Rattle.utf8.specs.Checking.{checkedOf};
+
+// The character that bytes start with, and how many bytes it takes.
+pub enum Decoded {
+    Char { code: u32, size: usize },
+    Fault,
+}
+
+// A code point, U+FFFD for a byte where no character starts, and how many bytes it takes.
+pub struct Char {
+    pub code: u32,
+    pub size: usize,
+}
+
+// Whether bytes are UTF-8, and if not the place of the first byte where a character should start and none does.
+pub enum Checked {
+    Valid,
+    Fault(usize),
+}
+
+fn wide(b: u8) -> u32
+    ensures { λ r. ⌜ r ≡ b ⌝ }
+{
+    b as u32
+}
+
+// The byte at a place; past the end 0.
+fn byte(s: &[u8], at: usize) -> u8
+    ensures { λ r. ⌜ r ≡ getD (now (s .entry)) at 0 ⌝ }
+{
+    if at < s.len() {
+        return s[at];
+    }
+    0
+}
+
+fn low(a: u8) -> u8
+    ensures { λ r. ⌜ r ≡ lowest a ⌝ }
+{
+    if a == 0xe0 {
+        return 0xa0;
+    }
+    if a == 0xf0 {
+        return 0x90;
+    }
+    0x80
+}
+
+fn high(a: u8) -> u8
+    ensures { λ r. ⌜ r ≡ highest a ⌝ }
+{
+    if a == 0xed {
+        return 0x9f;
+    }
+    if a == 0xf4 {
+        return 0x8f;
+    }
+    0xbf
+}
+
+fn is_second(a: u8, b: u8) -> bool
+    ensures { λ r. ⌜ r ≡ second a b ⌝ }
+{
+    if b < low(a) {
+        return false;
+    }
+    b <= high(a)
+}
+
+fn is_later(b: u8) -> bool
+    ensures { λ r. ⌜ r ≡ later b ⌝ }
+{
+    if b < 0x80 {
+        return false;
+    }
+    b <= 0xbf
+}
+
+// The character of the bytes a and b, if they are one; and of three, and of four.
+fn two(a: u8, b: u8) -> Decoded
+    ensures { λ r. ⌜ r ≡ decodedAs 2 (sized 2 a (b ∷ [])) ⌝ }
+{
+    if !is_second(a, b) {
+        return Decoded::Fault;
+    }
+    Decoded::Char {
+        code: wide(a) % 32 * 64 + wide(b) % 64,
+        size: 2,
+    }
+}
+
+fn three(a: u8, b: u8, c: u8) -> Decoded
+    ensures { λ r. ⌜ r ≡ decodedAs 3 (sized 3 a (b ∷ c ∷ [])) ⌝ }
+{
+    if !is_second(a, b) {
+        return Decoded::Fault;
+    }
+    if !is_later(c) {
+        return Decoded::Fault;
+    }
+    Decoded::Char {
+        code: wide(a) % 16 * 4096 + wide(b) % 64 * 64 + wide(c) % 64,
+        size: 3,
+    }
+}
+
+fn four(a: u8, b: u8, c: u8, d: u8) -> Decoded
+    ensures { λ r. ⌜ r ≡ decodedAs 4 (sized 4 a (b ∷ c ∷ d ∷ [])) ⌝ }
+{
+    if !is_second(a, b) {
+        return Decoded::Fault;
+    }
+    if !is_later(c) {
+        return Decoded::Fault;
+    }
+    if !is_later(d) {
+        return Decoded::Fault;
+    }
+    Decoded::Char {
+        code: wide(a) % 8 * 262144 + wide(b) % 64 * 4096 + wide(c) % 64 * 64 + wide(d) % 64,
+        size: 4,
+    }
+}
+
+// The character that s starts with.
+fn first(s: &[u8]) -> Decoded
+    ensures { λ r. ⌜ r ≡ decodedOf (now (s .entry)) ⌝ }
+{
+    if s.len() < 1 {
+        return Decoded::Fault;
+    }
+    let a = s[0];
+    if a < 0x80 {
+        return Decoded::Char {
+            code: wide(a),
+            size: 1,
+        };
+    }
+    if a < 0xc2 {
+        return Decoded::Fault;
+    }
+    let b = byte(s, 1);
+    if a < 0xe0 {
+        return two(a, b);
+    }
+    let c = byte(s, 2);
+    if a < 0xf0 {
+        return three(a, b, c);
+    }
+    if a < 0xf5 {
+        let d = byte(s, 3);
+        return four(a, b, c, d);
+    }
+    Decoded::Fault
+}
+
+// The character that starts at a place.
+pub fn decode(s: &[u8], at: usize) -> Decoded
+    requires { ⌜ at ≤ length (now s) ⌝ }
+    ensures { λ r. ⌜ r ≡ decodedOf (drop at (now (s .entry))) ⌝ }
+{
+    first(&s[at..])
+}
+
+// The code point at a place.
+pub fn char_at(s: &[u8], at: usize) -> Char
+    requires { ⌜ at < length (now s) ⌝ }
+    ensures { λ r. ⌜ r ≡ charOf (drop at (now (s .entry))) ⌝ }
+{
+    let a = s[at];
+    if a < 0x80 {
+        return Char {
+            code: wide(a),
+            size: 1,
+        };
+    }
+    let d = decode(s, at);
+    match d {
+        Decoded::Fault => Char {
+            code: 0xfffd,
+            size: 1,
+        },
+        Decoded::Char { code, size } => Char { code, size },
+    }
+}
+
+pub fn first_fault(s: &[u8]) -> Checked
+    ensures { λ r. ⌜ r ≡ checkedOf (firstFault (now (s .entry))) ⌝ }
+{
+    let mut at = 0;
+    while at < s.len() {
+        let a = s[at];
+        if a < 0x80 {
+            at += 1;
+        } else {
+            let d = decode(s, at);
+            match d {
+                Decoded::Fault => {
+                    return Checked::Fault(at);
+                }
+                Decoded::Char { code: _, size } => {
+                    at += size;
+                }
+            }
+        }
+    }
+    Checked::Valid
+}
+
+// Whether a place is inside a character.
+pub fn is_inside(s: &[u8], at: usize) -> bool
+    ensures { λ r. ⌜ r ≡ isInside (now (s .entry)) at ⌝ }
+{
+    is_later(byte(s, at))
+}
