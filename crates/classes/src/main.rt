@@ -42,19 +42,25 @@ fn and_all(s: Sum, f: Folded) -> Sum {
     }
 }
 
-// The classes by number: white, alphabetic, numeric, alphanumeric.
-fn is_in(t: &[u32], class: u32, c: u32) -> bool
+enum Class {
+    White,
+    Alphabetic,
+    Numeric,
+    Alphanumeric,
+}
+
+fn is_in(t: &[u32], class: Class, c: u32) -> bool
     requires { ⌜ now t ≡ unicodeTables ⌝ }
 {
     match class {
-        0 => unicode::is_white_space(t, c),
-        1 => unicode::is_alphabetic(t, c),
-        2 => unicode::is_numeric(t, c),
-        _ => unicode::is_alphanumeric(t, c),
+        Class::White => unicode::is_white_space(t, c),
+        Class::Alphabetic => unicode::is_alphabetic(t, c),
+        Class::Numeric => unicode::is_numeric(t, c),
+        Class::Alphanumeric => unicode::is_alphanumeric(t, c),
     }
 }
 
-fn members(t: &[u32], class: u32) -> Sum
+fn members(t: &[u32], class: Class) -> Sum
     requires { ⌜ now t ≡ unicodeTables ⌝ }
 {
     let mut s = Sum { count: 0, total: 0 };
@@ -113,13 +119,13 @@ fn show_classes(t: &[u32])
     requires { ⌜ now t ≡ unicodeTables ⌝ }
 {
     io::write_all(STDOUT_FILENO, b"white");
-    show(members(t, 0));
+    show(members(t, Class::White));
     io::write_all(STDOUT_FILENO, b"alphabetic");
-    show(members(t, 1));
+    show(members(t, Class::Alphabetic));
     io::write_all(STDOUT_FILENO, b"numeric");
-    show(members(t, 2));
+    show(members(t, Class::Numeric));
     io::write_all(STDOUT_FILENO, b"alphanumeric");
-    show(members(t, 3));
+    show(members(t, Class::Alphanumeric));
 }
 
 fn show_folding(t: &[u32])
