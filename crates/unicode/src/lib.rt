@@ -1,4 +1,4 @@
-pub mod tables;
+mod tables;
 
 ghost use mathlib.Core.Path.{_≡_};
 ghost use mathlib.Core.Bool.{_||_};
