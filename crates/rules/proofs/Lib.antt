@@ -1,2 +1,4 @@
 pub mod Basics
 pub mod KeyTree
+pub mod Fields
+pub mod Numbers
