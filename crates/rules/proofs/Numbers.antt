@@ -8,9 +8,10 @@ use native.Mathlib.Omega.{arith}
 use native.Mathlib.Nat.{pow-suc}
 use lib.Dec.{eqb, leb, ltb}
 use borrow.Author.Tests.{ltb-true, ltb-false, leb-true, eqb-true, eqb-false, lt-ltb, le-ltb, le-leb, eq-eqb, ne-eqb}
-use Rattle.rules.specs.Basic.{pick, minus, isDigit, digits, decimal}
-use Rattle.rules.specs.Sheet.{digitsFrom, atMost, onlyZero, numberUpTo}
+use Rattle.rules.specs.Basic.{pick, tab, lf, backslash, minus, isDigit, digits, decimal}
+use Rattle.rules.specs.Sheet.{digitsFrom, atMost, onlyZero, numberUpTo, escape}
 use Rattle.rules.proofs.Basics.{pick-either, no-some, some-inj, within-from, within-to}
+use Rattle.rules.proofs.Fields.{Without, without-none, without-more, without-both, escape-plain}
 
 -- ---- the digits of a number, from the last one
 
@@ -146,3 +147,20 @@ decimal-number m n (c ∷ s) b q =
         let k : 0 * 10 + (c - 48) < 10 = omega arith in
         let e : 48 + (0 * 10 + (c - 48)) ≡ c = omega arith in
         digits-back (0 * 10 + (c - 48)) n s p (omega arith) r ∙ rw (decimal-one (0 * 10 + (c - 48)) k, e)
+
+-- ---- a number has nothing to escape
+
+digits-without : (b k n : ℕ) → ((d : ℕ) → d < 10 → eqb (48 + d) b ≡ false) → Without b (digits k n)
+unfolding digits
+digits-without b zero n h = without-none
+digits-without b (suc k) n h =
+    pick-either (Without b) (ltb n 10) _ _ (λ e. without-more (h n (ltb-true n 10 e)) without-none)
+    (λ e. without-both (digits-without b k (n / 10) h) (without-more (h (n % 10) (omega arith)) without-none))
+
+pub escape-decimal : (n : ℕ) → escape (decimal n) ≡ decimal n
+unfolding decimal
+escape-decimal n =
+    escape-plain
+    (digits-without backslash 10 n (λ d h. ne-eqb (48 + d) 92 (λ q. omega arith)))
+    (digits-without tab 10 n (λ d h. ne-eqb (48 + d) 9 (λ q. omega arith)))
+    (digits-without lf 10 n (λ d h. ne-eqb (48 + d) 10 (λ q. omega arith)))
