@@ -34,10 +34,10 @@ pub data AllWithout (b : ℕ) : List (List ℕ) → Type 0 where
 
 -- ---- escapes
 
-one-read : (c : ℕ) (t : List ℕ) → eqb c backslash ≡ false → unescape (c ∷ t) ≡ onto (some c) (unescape t)
+pub unescape-one : (c : ℕ) (t : List ℕ) → eqb c backslash ≡ false → unescape (c ∷ t) ≡ onto (some c) (unescape t)
 unfolding unescape onto
-one-read c [] q = rw q
-one-read c (d ∷ t) q = rw q
+unescape-one c [] q = rw q
+unescape-one c (d ∷ t) q = rw q
 
 char-read : (c : ℕ) (t : List ℕ) → unescape (escapeChar c ++ t) ≡ onto (some c) (unescape t)
 unfolding escapeChar unescape escaped
@@ -45,7 +45,7 @@ char-read c t =
     pick-either P (eqb c backslash) _ _ (λ b. ap (λ (x : ℕ). onto (some x) (unescape t)) (sym (eqb-true c 92 b)))
     (λ n1. pick-either P (eqb c tab) _ _ (λ b. ap (λ (x : ℕ). onto (some x) (unescape t)) (sym (eqb-true c 9 b)))
     (λ n2. pick-either P (eqb c lf) _ _ (λ b. ap (λ (x : ℕ). onto (some x) (unescape t)) (sym (eqb-true c 10 b)))
-    (λ n3. one-read c t n1)))
+    (λ n3. unescape-one c t n1)))
   where
     P : List ℕ → Type 0
     P l = unescape (l ++ t) ≡ onto (some c) (unescape t)
