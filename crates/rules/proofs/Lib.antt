@@ -2,6 +2,8 @@ pub mod Basics
 pub mod KeyTree
 pub mod Folds
 pub mod Cases
+pub mod Fields
+pub mod Numbers
 pub mod Begins
 pub mod Chars
 pub mod Scalars

@@ -1,0 +1,4 @@
+pub mod Scans
+pub mod Tests
+pub mod Digits
+pub mod Texts
