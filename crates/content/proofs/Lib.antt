@@ -1,2 +1,6 @@
 pub mod Plains
 pub mod Chars
+pub mod Spells
+pub mod Cuts
+pub mod Kept
+pub mod Compare

@@ -4,9 +4,9 @@ use mathlib.Core.List.{List, [], _∷_}
 use mathlib.Core.Option.{Option, none, some}
 use lib.Dec.{eqb}
 use Rattle.rules.specs.Basic.{pick, backslash}
-use Rattle.rules.specs.Sheet.{escaped}
+use Rattle.rules.specs.Sheet.{escaped, escape}
 use Rattle.rules.specs.Text.{retain}
-use Rattle.rules.specs.Utf8.{chars}
+use Rattle.rules.specs.Utf8.{chars, encode}
 
 -- the bytes that a field stands for; a backslash that escapes nothing stands for itself
 unfoldable pub pairOr : Option ℕ → List ℕ → List ℕ → List ℕ
@@ -25,3 +25,7 @@ contentIn f = chars (plainOf f)
 -- the same where of blanks that follow one another only the first is kept
 unfoldable pub keptIn : List ℕ → List ℕ
 keptIn f = retain 0 (contentIn f)
+
+-- how a content stands in a field
+abbrev pub spell : List ℕ → List ℕ
+spell cs = escape (encode cs)
