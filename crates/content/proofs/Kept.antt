@@ -52,32 +52,40 @@ ascii-code : (a : ℕ) (s : List ℕ) → a < 128 → charOf (a ∷ s) ≡ charW
 unfolding charOf charOr followers
 ascii-code a s h = let k : a ≤ 127 = omega arith in rw (first-some (one {s = s} k), size-1 a k)
 
-pair-code : (d : ℕ) → pairIn (escaped d) .code ≡ 32 → ⊥
+-- what an escape stands for
+pair-codes : (d b : ℕ) → (b ≡ 92 → ⊥) → (b ≡ 9 → ⊥) → (b ≡ 10 → ⊥) → pairIn (escaped d) .code ≡ b → ⊥
 unfolding escaped pairIn
-pair-code d =
-    pick-either P (eqb d 92) _ _ (λ _ e. omega arith)
-    (λ _. pick-either P (eqb d 116) _ _ (λ _ e. omega arith) (λ _. pick-either P (eqb d 110) _ _ (λ _ e. omega arith) (λ _ e. omega arith)))
+pair-codes d b n1 n2 n3 =
+    pick-either P (eqb d 92) _ _ (λ _ e. n1 (sym e))
+    (λ _. pick-either P (eqb d 116) _ _ (λ _ e. n2 (sym e)) (λ _. pick-either P (eqb d 110) _ _ (λ _ e. n3 (sym e)) (λ _ e. n1 (sym e))))
   where
     P : Option ℕ → Type 0
-    P o = pairIn o .code ≡ 32 → ⊥
+    P o = pairIn o .code ≡ b → ⊥
 
-blank-pair : (s : List ℕ) → charIn (92 ∷ s) .code ≡ 32 → ⊥
-blank-pair [] e = let k : charWith 92 1 .code ≡ 32 = rw char-last at e in omega arith
-blank-pair (d ∷ s) e = unfold charIn in pair-code d e
+escape-codes : (s : List ℕ) (b : ℕ) → (b ≡ 92 → ⊥) → (b ≡ 9 → ⊥) → (b ≡ 10 → ⊥) → charIn (92 ∷ s) .code ≡ b → ⊥
+escape-codes [] b n1 n2 n3 e = let k : charWith 92 1 .code ≡ b = rw char-last at e in n1 (sym k)
+escape-codes (d ∷ s) b n1 n2 n3 e = unfold charIn in pair-codes d b n1 n2 n3 e
 
-wide-code : (a : ℕ) (s : List ℕ) → 128 ≤ a → charOf (a ∷ s) .code ≡ 32 → ⊥
+wide-code : (a : ℕ) (s : List ℕ) (b : ℕ) → 128 ≤ a → b < 128 → charOf (a ∷ s) .code ≡ b → ⊥
 unfolding charOf
-wide-code a s l e = omega (arith, char-beyond a s l)
+wide-code a s b l h e = omega (arith, char-beyond a s l)
+
+-- an ASCII character that is not escaped is its byte
+pub code-byte : (a : ℕ) (s : List ℕ) (b : ℕ) → b < 128 → (b ≡ 92 → ⊥) → (b ≡ 9 → ⊥) → (b ≡ 10 → ⊥) → charIn (a ∷ s) .code ≡ b → a ≡ b
+code-byte a s b h n1 n2 n3 e =
+    by-backslash a (λ q. absurd (escape-codes s b n1 n2 n3 (rw q at e)))
+    (λ n. let k : charOf (a ∷ s) .code ≡ b = rw (char-plain a s n) at e in
+    by-order a 127 (λ l. let m : charWith a 1 .code ≡ b = rw (ascii-code a s (omega arith)) at k in m)
+    (λ l. absurd (wide-code a s b l h k)))
+
+pub byte-code : (a : ℕ) (s : List ℕ) → a < 128 → (a ≡ 92 → ⊥) → charIn (a ∷ s) ≡ charWith a 1
+byte-code a s h n = char-plain a s n ∙ ascii-code a s h
 
 pub blank-byte : (a : ℕ) (s : List ℕ) → charIn (a ∷ s) .code ≡ 32 → a ≡ 32
-blank-byte a s e =
-    by-backslash a (λ q. absurd (blank-pair s (rw q at e)))
-    (λ n. let k : charOf (a ∷ s) .code ≡ 32 = rw (char-plain a s n) at e in
-    by-order a 127 (λ l. let m : charWith a 1 .code ≡ 32 = rw (ascii-code a s (omega arith)) at k in m)
-    (λ l. absurd (wide-code a s l k)))
+blank-byte a s e = code-byte a s 32 (omega arith) (λ q. omega arith) (λ q. omega arith) (λ q. omega arith) e
 
 pub byte-blank : (s : List ℕ) → charIn (32 ∷ s) ≡ charWith 32 1
-byte-blank s = char-plain 32 s (λ e. omega arith) ∙ ascii-code 32 s (omega arith)
+byte-blank s = byte-code 32 s (omega arith) (λ e. omega arith)
 
 -- ---- the turns of `skip_blanks`
 

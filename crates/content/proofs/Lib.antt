@@ -4,3 +4,5 @@ pub mod Spells
 pub mod Cuts
 pub mod Kept
 pub mod Compare
+pub mod Words
+pub mod Retains

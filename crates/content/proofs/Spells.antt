@@ -106,7 +106,7 @@ low-char c h = go (eqb c 92) refl (eqb c 9) refl (eqb c 10) refl
     go false e false p true q = rw (eqb-true c 10 q) (record { is = λ t. unfold charIn pairIn escaped in refl; least = omega arith })
     go false e false p false q = itself (eqb-false c 92 e)
 
-escape-highs : {w : List ℕ} → Highs w → escape w ≡ w
+pub escape-highs : {w : List ℕ} → Highs w → escape w ≡ w
 unfolding escape escapeChar
 escape-highs highs-none = refl
 escape-highs (highs-more {a} {s} h g) =
