@@ -16,7 +16,7 @@ use Rattle.utf8.specs.Reading.{charOf}
 use Rattle.utf8.proofs.Turns.{charWith}
 use Rattle.content.specs.Contents.{contentIn}
 use Rattle.content.specs.Readings.{pairIn, charIn}
-use Rattle.content.specs.Parts.{Field, Cut}
+use Rattle.content.specs.Parts.{Field, Cut, CutAt}
 use Rattle.content.proofs.Plains.{by-backslash}
 use Rattle.content.proofs.Chars.{ContentFirst, content-first, content-step, char-plain, char-last, no-content}
 use Rattle.content.proofs.Spells.{content-append, field-append, field-none, field-right, field-first}
@@ -114,10 +114,6 @@ pub cut-field : {p : List ℕ} (q : List ℕ) → Field p → Cut p q
 cut-field q h = record { content = λ r t e. content-append r h; front = λ _. h; back = λ k. field-right h k }
 
 -- ---- cuts at a place
-
--- where a character of f starts, or f ends
-abbrev pub CutAt : List ℕ → ℕ → Type 0
-CutAt f at = Cut (take at f) (drop at f)
 
 pub record CutStep (f : List ℕ) (at n c : ℕ) : Type 0 where
   pub cut : CutAt f (at + n)

@@ -6,3 +6,5 @@ pub mod Kept
 pub mod Compare
 pub mod Words
 pub mod Retains
+pub mod Splits
+pub mod Paths

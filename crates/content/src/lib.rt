@@ -8,6 +8,9 @@ ghost use lib.ListN.{length, getD, drop};
 ghost use Rattle.content.specs.Contents.{keptIn};
 ghost use Rattle.content.specs.Readings.{charIn};
 ghost use Rattle.content.specs.Kept.{Skipped, KeptStep};
+ghost use Rattle.rules.specs.Model.{isPath};
+ghost use Rattle.content.specs.Contents.{contentIn};
+ghost use Rattle.content.specs.Names.{isSeparator, separatorFirst, Separated, NameAt};
 
 fn wide(b: u8) -> u32
     ensures { λ r. ⌜ r ≡ b ⌝ }
@@ -123,4 +126,87 @@ pub fn same_parts(f: &[u8], g: &[u8]) -> bool
         j += b.size;
     }
     g.len() <= j
+}
+
+fn is_separator(c: u32) -> bool
+    ensures { λ r. ⌜ r ≡ isSeparator c ⌝ }
+{
+    if c == 92 {
+        return true;
+    }
+    c == 47
+}
+
+fn separator_at(f: &[u8], at: usize) -> bool
+    ensures { λ r. ⌜ r ≡ separatorFirst (contentIn (drop at (now (f .entry)))) ⌝ }
+{
+    if f.len() <= at {
+        return false;
+    }
+    let c = char_in(f, at);
+    is_separator(c.code)
+}
+
+// Whether a name starts as a path does: with one or two points and a separator.
+fn is_path(f: &[u8]) -> bool
+    ensures { λ r. ⌜ r ≡ isPath (contentIn (now (f .entry))) ⌝ }
+{
+    if f.len() < 1 {
+        return false;
+    }
+    let a = char_in(f, 0);
+    if a.code != 46 {
+        return false;
+    }
+    let i = a.size;
+    if separator_at(f, i) {
+        return true;
+    }
+    if f.len() <= i {
+        return false;
+    }
+    let b = char_in(f, i);
+    if b.code != 46 {
+        return false;
+    }
+    separator_at(f, i + b.size)
+}
+
+// Where the path before a name ends, and where the name starts; without a path both are 0.
+pub struct NamePlace {
+    pub end: usize,
+    pub start: usize,
+}
+
+// The last separator: where it starts and where it ends.
+fn last_separator(f: &[u8]) -> NamePlace
+    ensures { λ r. ⌜ Separated (now (f .entry)) r ⌝ }
+{
+    let mut at = 0;
+    let mut end = 0;
+    let mut start = 0;
+    while at < f.len() {
+        let c = char_in(f, at);
+        let next = at + c.size;
+        if is_separator(c.code) {
+            end = at;
+            start = next;
+        }
+        at = next;
+    }
+    NamePlace { end, start }
+}
+
+pub fn name_place(f: &[u8]) -> NamePlace
+    ensures { λ r. ⌜ NameAt (now (f .entry)) r ⌝ }
+{
+    if !is_path(f) {
+        return NamePlace { end: 0, start: 0 };
+    }
+    let p = last_separator(f);
+    let start = p.start;
+    if f.len() <= start {
+        return NamePlace { end: 0, start: 0 };
+    }
+    p
 }
