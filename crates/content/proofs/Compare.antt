@@ -13,7 +13,9 @@ use Rattle.rules.proofs.Basics.{by-order}
 use Rattle.utf8.specs.declared.Char.{Char}
 use Rattle.utf8.specs.Reading.{charOf}
 use Rattle.utf8.proofs.Steps.{CharStep, char-step}
-use Rattle.content.specs.Contents.{keptIn}
+use Rattle.content.specs.Contents.{contentIn, keptIn}
+use Rattle.content.specs.Readings.{charIn}
+use Rattle.content.proofs.Chars.{content-step, content-none}
 use Rattle.content.specs.Kept.{KeptStep}
 use Rattle.content.proofs.Kept.{kept-none, kept-some}
 
@@ -44,6 +46,9 @@ pub record Stepped (g : List ℕ → List ℕ) (f : List ℕ) (i x n : ℕ) : Ty
   pub reads : g (drop i f) ≡ x ∷ g (drop (i + n) f)
   pub least : 0 < n
   pub most : i + n ≤ length f
+
+pub content-on : {f : List ℕ} {i : ℕ} {ch : Char} → i < length f → ch ≡ charIn (drop i f) → Stepped contentIn f i (ch .code) (ch .size)
+content-on {f} {i} {ch} h e = let k = content-step f i ch h e in record { reads = k .reads; least = k .least; most = k .most }
 
 pub kept-step : {f : List ℕ} {i : ℕ} {ch : Char} → KeptStep f i ch → Stepped keptIn f i (ch .code) (ch .size)
 kept-step k = record { reads = k .reads; least = k .least; most = k .most }
@@ -78,6 +83,10 @@ pub record Ending (g : List ℕ → List ℕ) (f : List ℕ) (i : ℕ) : Type 0 
 
 pub kept-ending : (f : List ℕ) (i : ℕ) → Ending keptIn f i
 kept-ending f i = record { none = kept-none f i; code = _; more = _; some = kept-some f i }
+
+pub content-ending : (f : List ℕ) (i : ℕ) → Ending contentIn f i
+content-ending f i =
+    record { none = content-none f i; code = charIn (drop i f) .code; more = contentIn (drop (i + charIn (drop i f) .size) f); some = λ h. content-step f i (charIn (drop i f)) h refl .reads }
 
 pub chars-ending : (f : List ℕ) (i : ℕ) → Ending chars f i
 unfolding chars charsFrom

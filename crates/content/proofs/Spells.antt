@@ -72,6 +72,14 @@ field-spell {f} h = go (unescape f) refl (h .well)
     go none e q = unfold isSome in no-truth q
     go (some u) e q = spelled-back f (h .noTab) (h .noLf) e (h .utf8)
 
+-- the bytes that a field stands for are UTF-8
+pub plain-utf8 : {f : List ℕ} → Field f → isUtf8 (plainOf f) ≡ true
+plain-utf8 {f} h = go (unescape f) refl (h .well)
+  where
+    go : (o : Option (List ℕ)) → unescape f ≡ o → isSome o ≡ true → isUtf8 (plainOf f) ≡ true
+    go none e q = unfold isSome in no-truth q
+    go (some u) e q = rw (plain-unescape f e) (utf8-unescape f u (h .utf8) e)
+
 pub spell-field : {cs : List ℕ} → Scalars cs → Field (spell cs)
 unfolding isSome
 spell-field {cs} h =

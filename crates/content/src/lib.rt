@@ -107,6 +107,27 @@ pub fn same_content(f: &[u8], w: &[u8]) -> bool
     w.len() <= j
 }
 
+// Whether the content of a field, with all its blanks, is a text in UTF-8.
+pub fn same_chars(f: &[u8], w: &[u8]) -> bool
+    ensures { λ r. ⌜ r ≡ eqList (contentIn (now (f .entry))) (chars (now (w .entry))) ⌝ }
+{
+    let mut i = 0;
+    let mut j = 0;
+    while i < f.len() {
+        if w.len() <= j {
+            return false;
+        }
+        let a = char_in(f, i);
+        let b = utf8::char_at(w, j);
+        if a.code != b.code {
+            return false;
+        }
+        i += a.size;
+        j += b.size;
+    }
+    w.len() <= j
+}
+
 // Whether the contents of two fields, their blanks collapsed, are the same.
 pub fn same_parts(f: &[u8], g: &[u8]) -> bool
     ensures { λ r. ⌜ r ≡ eqList (keptIn (now (f .entry))) (keptIn (now (g .entry))) ⌝ }
