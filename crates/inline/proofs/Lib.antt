@@ -1,3 +1,4 @@
 pub mod Fronts
 pub mod Seeks
 pub mod Scans
+pub mod Signs

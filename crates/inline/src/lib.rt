@@ -9,7 +9,13 @@ ghost use Rattle.rules.specs.Utf8.{isUtf8, chars};
 ghost use Rattle.rules.specs.Text.{isNotAlphabetic};
 ghost use Rattle.rules.specs.Inline.{isNoDigit, isDigitOrPoint, points as pointsIn};
 ghost use Rattle.unicode.specs.Tables.{unicodeTables};
-ghost use Rattle.inline.specs.Scans.{isNotWhite, Front};
+ghost use Rattle.inline.specs.Scans.{isNotWhite, part, Front, SignAt, UnitPart};
+
+// A part of a text, from a place to a place.
+struct Span {
+    from: usize,
+    to: usize,
+}
 
 // Whether a code point is an ASCII digit.
 fn is_digit(c: u32) -> bool
@@ -124,4 +130,19 @@ fn points(s: &[u8]) -> usize
         }
     }
     n
+}
+
+// The place of the number's minus, where one stands right before its first digit, else of that digit.
+fn sign_start(s: &[u8], at: usize, digit: usize) -> usize
+    requires { ⌜ (at ≤ digit) × (digit ≤ length (now s)) × (isUtf8 (part at digit (now s)) ≡ true) ⌝ }
+    ensures { λ r. ⌜ SignAt (now (s .entry)) at digit r ⌝ }
+{
+    if digit <= at {
+        return digit;
+    }
+    let m = digit - 1;
+    if s[m] == b'-' {
+        return m;
+    }
+    digit
 }
