@@ -1,0 +1,86 @@
+use borrow.Author.Needs.{needs}
+use native.Mathlib.Omega.{arith}
+use Rattle.units.proofs.find_from.Statement.{statement}
+use Rattle.units.proofs.find_from.Tie as tie
+use Rattle.units.proofs.find_from.Reads as reads
+use Rattle.units.proofs.find_from.Lts as lts
+use Rattle.sheet.proofs.same_bytes.Reads as same-bytes-reads
+use Rattle.units.proofs.unit_at.Reads as unit-at-reads
+
+abbrev Inv-loop : tie.InvT-loop
+Inv-loop units from name at₀ at = ?
+
+abbrev μ-loop : tie.MeasureT-loop
+μ-loop units from name at₀ at = ?
+
+-- src/lib.rt:186:5
+loop-holds : tie.Need-loop-holds Inv-loop μ-loop
+loop-holds c = search needs
+
+-- src/lib.rt:187:13
+unit-at-requires : tie.Need-unit-at-requires Inv-loop μ-loop
+unit-at-requires c κs = search needs
+
+-- src/lib.rt:190:17
+enum-told : tie.Need-enum-told Inv-loop μ-loop
+enum-told c = search needs
+
+-- src/lib.rt:190:17
+returns : tie.Need-returns Inv-loop μ-loop
+returns c = search needs
+
+-- src/lib.rt:193:17
+enum-known-u : tie.Need-enum-known-u Inv-loop μ-loop
+enum-known-u c = search needs
+
+-- src/lib.rt:197:44
+sub-same-bytes : tie.Need-sub-same-bytes Inv-loop μ-loop
+sub-same-bytes c = search needs
+
+-- src/lib.rt:197:44
+part-same-bytes-start : tie.Need-part-same-bytes-start Inv-loop μ-loop
+part-same-bytes-start c = search needs
+
+-- src/lib.rt:197:44
+part-same-bytes-end : tie.Need-part-same-bytes-end Inv-loop μ-loop
+part-same-bytes-end c = search needs
+
+-- src/lib.rt:197:20
+same-bytes-requires : tie.Need-same-bytes-requires Inv-loop μ-loop
+same-bytes-requires c κs = search needs
+
+-- src/lib.rt:198:21
+returns-2 : tie.Need-returns-2 Inv-loop μ-loop
+returns-2 c = search needs
+
+-- src/lib.rt:186:5
+loop-less : tie.Need-loop-less Inv-loop μ-loop
+loop-less c = search needs
+
+-- src/lib.rt:186:5
+loop-again : tie.Need-loop-again Inv-loop μ-loop
+loop-again c = search needs
+
+-- src/lib.rt:181:1
+returns-3 : tie.Need-returns-3 Inv-loop μ-loop
+returns-3 c = search needs
+
+pub find-from-spec : {M : Type 1} → statement M
+find-from-spec =
+    tie.close
+    (tie.spec
+    Inv-loop
+    μ-loop
+    loop-holds
+    unit-at-requires
+    enum-told
+    returns
+    enum-known-u
+    sub-same-bytes
+    part-same-bytes-start
+    part-same-bytes-end
+    same-bytes-requires
+    returns-2
+    loop-less
+    loop-again
+    returns-3)
