@@ -30,7 +30,7 @@ unfoldable pub unitsFrom : List ℕ → ℕ → List NamedUnit
 unitsFrom units at = unitsOr (unitsOf (lines (drop at units)))
 
 -- the bytes from one place to another
-unfoldable pub part : List ℕ → ℕ → ℕ → List ℕ
+abbrev pub part : List ℕ → ℕ → ℕ → List ℕ
 part s a e = take (e - a) (drop a s)
 
 unfoldable pub namedAs : List ℕ → PhysicalQuantity → NamedUnit

@@ -1,5 +1,9 @@
 use borrow.Author.Needs.{needs}
 use native.Mathlib.Omega.{arith}
+use Prim.Native.Nat.{_-_, _≤_, _<_, _+_}
+use mathlib.Core.Path.{refl}
+use lib.ListN.{length}
+use Rattle.units.proofs.Walks.{Finding, finding-out, finding-hit, finding-on, finding-end}
 use Rattle.units.proofs.find_from.Statement.{statement}
 use Rattle.units.proofs.find_from.Tie as tie
 use Rattle.units.proofs.find_from.Reads as reads
@@ -8,18 +12,18 @@ use Rattle.sheet.proofs.same_bytes.Reads as same-bytes-reads
 use Rattle.units.proofs.unit_at.Reads as unit-at-reads
 
 abbrev Inv-loop : tie.InvT-loop
-Inv-loop units from name at₀ at = ?
+Inv-loop units from name at₀ at = Finding units name from at
 
 abbrev μ-loop : tie.MeasureT-loop
-μ-loop units from name at₀ at = ?
+μ-loop units from name at₀ at = length units - at
 
 -- src/lib.rt:186:5
 loop-holds : tie.Need-loop-holds Inv-loop μ-loop
-loop-holds c = search needs
+loop-holds c = record { left = c .before .before .pre .0; is = refl }
 
 -- src/lib.rt:187:13
 unit-at-requires : tie.Need-unit-at-requires Inv-loop μ-loop
-unit-at-requires c κs = search needs
+unit-at-requires c κs = c .before .loop .inv .left
 
 -- src/lib.rt:190:17
 enum-told : tie.Need-enum-told Inv-loop μ-loop
@@ -27,7 +31,7 @@ enum-told c = search needs
 
 -- src/lib.rt:190:17
 returns : tie.Need-returns Inv-loop μ-loop
-returns c = search needs
+returns c = finding-out (c .before .before .before .before .loop .inv) (c .before .before .unit-at .ensures) (c .enum-told .given .1)
 
 -- src/lib.rt:193:17
 enum-known-u : tie.Need-enum-known-u Inv-loop μ-loop
@@ -35,15 +39,15 @@ enum-known-u c = search needs
 
 -- src/lib.rt:197:44
 sub-same-bytes : tie.Need-sub-same-bytes Inv-loop μ-loop
-sub-same-bytes c = search needs
+sub-same-bytes c = let k = c .before .before .before .unit-at .ensures .unit _ _ _ (c .before .u .given .1) in search needs
 
 -- src/lib.rt:197:44
 part-same-bytes-start : tie.Need-part-same-bytes-start Inv-loop μ-loop
-part-same-bytes-start c = search needs
+part-same-bytes-start c = let k = c .before .before .before .unit-at .ensures .unit _ _ _ (c .before .u .given .1) in search needs
 
 -- src/lib.rt:197:44
 part-same-bytes-end : tie.Need-part-same-bytes-end Inv-loop μ-loop
-part-same-bytes-end c = search needs
+part-same-bytes-end c = let k = c .before .before .before .unit-at .ensures .unit _ _ _ (c .before .u .given .1) in search needs
 
 -- src/lib.rt:197:20
 same-bytes-requires : tie.Need-same-bytes-requires Inv-loop μ-loop
@@ -51,19 +55,19 @@ same-bytes-requires c κs = search needs
 
 -- src/lib.rt:198:21
 returns-2 : tie.Need-returns-2 Inv-loop μ-loop
-returns-2 c = search needs
+returns-2 c = finding-hit (c .before .before .before .before .before .before .before .before .loop .inv) (c .before .before .before .before .before .before .before .before .before .before .before .pre .1) (c .before .before .before .before .before .before .unit-at .ensures .unit _ _ _ (c .before .before .before .before .u .given .1)) (c .before .same-bytes .ensures) (c .if1 .taken)
 
 -- src/lib.rt:186:5
 loop-less : tie.Need-loop-less Inv-loop μ-loop
-loop-less c = search needs
+loop-less c = let k = c .before .before .before .before .before .before .unit-at .ensures .unit _ _ _ (c .before .before .before .before .u .given .1) in search needs
 
 -- src/lib.rt:186:5
 loop-again : tie.Need-loop-again Inv-loop μ-loop
-loop-again c = search needs
+loop-again c = finding-on (c .before .before .before .before .before .before .before .before .loop .inv) (c .before .before .before .before .before .before .before .before .before .before .before .pre .1) (c .before .before .before .before .before .before .unit-at .ensures .unit _ _ _ (c .before .before .before .before .u .given .1)) (c .before .same-bytes .ensures) (c .if1 .left)
 
 -- src/lib.rt:181:1
 returns-3 : tie.Need-returns-3 Inv-loop μ-loop
-returns-3 c = search needs
+returns-3 c = finding-end (c .before .loop .inv) (c .loop-test .left)
 
 pub find-from-spec : {M : Type 1} → statement M
 find-from-spec =

@@ -1,5 +1,8 @@
 use borrow.Author.Needs.{needs}
 use native.Mathlib.Omega.{arith}
+use Prim.Native.Nat.{_-_, _≤_, _<_, _+_}
+use lib.ListN.{length}
+use Rattle.units.proofs.Walks.{Counting, counting-starts, counting-open, counting-full, counting-ill, counting-on, counting-end}
 use Rattle.units.proofs.is_list.Statement.{statement}
 use Rattle.units.proofs.is_list.Tie as tie
 use Rattle.units.proofs.is_list.Reads as reads
@@ -8,14 +11,14 @@ use Rattle.sheet.proofs.line_end.Reads as line-end-reads
 use Rattle.units.proofs.unit_line.Reads as unit-line-reads
 
 abbrev Inv-loop : tie.InvT-loop
-Inv-loop units at₀ n₀ at n = ?
+Inv-loop units at₀ n₀ at n = Counting units at n
 
 abbrev μ-loop : tie.MeasureT-loop
-μ-loop units at₀ n₀ at n = ?
+μ-loop units at₀ n₀ at n = length units - at
 
 -- src/lib.rt:105:5
 loop-holds : tie.Need-loop-holds Inv-loop μ-loop
-loop-holds c = search needs
+loop-holds c = counting-starts _
 
 -- src/lib.rt:106:37
 line-end-requires : tie.Need-line-end-requires Inv-loop μ-loop
@@ -31,11 +34,11 @@ enum-told c = search needs
 
 -- src/lib.rt:107:13
 returns : tie.Need-returns Inv-loop μ-loop
-returns c = search needs
+returns c = counting-open (c .before .before .before .before .loop .inv) (c .before .before .before .loop-test .taken) (c .before .before .line-end .ensures) (c .enum-told .given .1)
 
 -- src/lib.rt:110:13
 returns-2 : tie.Need-returns-2 Inv-loop μ-loop
-returns-2 c = search needs
+returns-2 c = counting-full (c .before .before .before .before .before .before .loop .inv) (c .before .before .before .before .line-end .ensures) (c .before .before .e .given .1) (c .if1 .taken)
 
 -- src/lib.rt:112:63
 sub-unit-line : tie.Need-sub-unit-line Inv-loop μ-loop
@@ -63,7 +66,7 @@ enum-told-2 c = search needs
 
 -- src/lib.rt:113:13
 returns-3 : tie.Need-returns-3 Inv-loop μ-loop
-returns-3 c = search needs
+returns-3 c = counting-ill (c .before .before .before .before .before .before .before .before .before .before .loop .inv) (c .before .before .before .before .before .before .before .before .line-end .ensures) (c .before .before .before .before .before .before .e .given .1) (c .before .before .unit-line .ensures) (c .enum-told2 .given .1)
 
 -- src/lib.rt:115:9
 add-n : tie.Need-add-n Inv-loop μ-loop
@@ -79,11 +82,11 @@ loop-less c = search needs
 
 -- src/lib.rt:105:5
 loop-again : tie.Need-loop-again Inv-loop μ-loop
-loop-again c = search needs
+loop-again c = counting-on (c .before .before .before .before .before .before .before .before .before .before .before .loop .inv) (c .before .before .before .before .before .before .before .before .before .line-end .ensures) (c .before .before .before .before .before .before .before .e .given .1) (c .before .before .before .unit-line .ensures) (c .before .before .before .before .before .if1 .left) (c .before .name-len .given .1)
 
 -- src/lib.rt:100:1
 returns-4 : tie.Need-returns-4 Inv-loop μ-loop
-returns-4 c = search needs
+returns-4 c = counting-end (c .before .loop .inv) (c .loop-test .left)
 
 pub is-list-spec : {M : Type 1} → statement M
 is-list-spec =

@@ -1,5 +1,7 @@
 use borrow.Author.Needs.{needs}
 use native.Mathlib.Omega.{arith}
+use Rattle.sheet.proofs.Scans.{field-within}
+use Rattle.units.proofs.Parts.{no-name, no-tab, two-tabs, unit-known, unit-unknown}
 use Rattle.units.proofs.unit_fields.Statement.{statement}
 use Rattle.units.proofs.unit_fields.Tie as tie
 use Rattle.units.proofs.unit_fields.Reads as reads
@@ -14,11 +16,11 @@ field-requires c κs = search needs
 
 -- src/lib.rt:69:9
 returns : tie.Need-returns
-returns c = search needs
+returns c = no-name _ (c .before .field .ensures) (c .if1 .taken)
 
 -- src/lib.rt:72:9
 returns-2 : tie.Need-returns-2
-returns-2 c = search needs
+returns-2 c = no-tab _ (c .before .before .field .ensures) (c .if2 .taken)
 
 -- src/lib.rt:74:35
 add-field : tie.Need-add-field
@@ -38,7 +40,7 @@ add-if3-2 c = search needs
 
 -- src/lib.rt:76:9
 returns-3 : tie.Need-returns-3
-returns-3 c = search needs
+returns-3 c = two-tabs _ (c .before .before .before .before .field .ensures) (c .before .before .if2 .left) (c .before .field2 .ensures) (c .if3 .taken)
 
 -- src/lib.rt:78:9
 physical-word-requires : tie.Need-physical-word-requires
@@ -50,11 +52,11 @@ is-known-requires c κs = search needs
 
 -- src/lib.rt:80:9
 returns-4 : tie.Need-returns-4
-returns-4 c = search needs
+returns-4 c = unit-known _ (c .before .before .before .before .before .before .before .field .ensures) (c .before .before .before .before .before .if2 .left) (c .before .before .before .before .field2 .ensures) (c .before .before .before .if3 .left) (c .before .before .physical-word .ensures) (c .before .is-known .ensures) (c .before .before .before .before .before .before .if1 .left) (c .if4 .taken)
 
 -- src/lib.rt:63:1
 returns-5 : tie.Need-returns-5
-returns-5 c = search needs
+returns-5 c = unit-unknown _ (c .before .before .before .before .before .before .before .field .ensures) (c .before .before .before .before .before .if2 .left) (c .before .before .before .before .field2 .ensures) (c .before .before .before .if3 .left) (c .before .before .physical-word .ensures) (c .before .is-known .ensures) (c .if4 .left)
 
 pub unit-fields-spec : {M : Type 1} → statement M
 unit-fields-spec =

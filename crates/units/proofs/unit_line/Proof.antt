@@ -1,5 +1,6 @@
 use borrow.Author.Needs.{needs}
 use native.Mathlib.Omega.{arith}
+use Rattle.units.proofs.Parts.{line-utf8, line-fault}
 use Rattle.units.proofs.unit_line.Statement.{statement}
 use Rattle.units.proofs.unit_line.Tie as tie
 use Rattle.units.proofs.unit_line.Reads as reads
@@ -25,11 +26,11 @@ enum-known-c c = search needs
 
 -- src/lib.rt:89:1
 returns : tie.Need-returns
-returns c = search needs
+returns c = line-utf8 _ (c .before .before .before .first-fault .ensures) (c .before .enum-told .given .1) (c .unit-fields .ensures)
 
 -- src/lib.rt:89:1
 returns-2 : tie.Need-returns-2
-returns-2 c = search needs
+returns-2 c = line-fault _ (c .before .before .before .first-fault .ensures) (c .before .c .given .1)
 
 pub unit-line-spec : {M : Type 1} → statement M
 unit-line-spec =
