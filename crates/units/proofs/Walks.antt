@@ -178,7 +178,10 @@ module _ {s : List ℕ} {at n : ℕ} (i : Counting s at n) where
 
   module _ {r : LineEnd} {e : ℕ} (a : LineAt s at r) (q : r ≡ At e) where
     cut : unitsOf (lines (drop at s)) ≡ withUnit (unitOf (part s at e)) (unitsOf (lines (drop (e + 1) s)))
-    cut = unfold linesFrom unitsOf in (ap unitsOf (sym (a .is) ∙ rw q))
+    cut = unfold unitsOf in (ap unitsOf parted)
+      where
+        parted : lines (drop at s) ≡ more (part s at e) (lines (drop (e + 1) s))
+        parted = unfold linesFrom in (sym (a .is) ∙ rw q)
 
     pub counting-full : n ≡ 1024 → false ≡ isSome (readUnits s)
     counting-full h = sym (counted-full (unitOf (part s at e)) (unitsOf (lines (drop (e + 1) s)))) ∙ rw (← h, ← cut) (i .is)

@@ -42,15 +42,15 @@ returns-2 c = counting-full (c .before .before .before .before .before .before .
 
 -- src/lib.rt:112:63
 sub-unit-line : tie.Need-sub-unit-line Inv-loop μ-loop
-sub-unit-line c = search needs
+sub-unit-line c = let k = c .before .before .before .before .line-end .ensures .inside _ (c .before .before .e .given .1) in search needs
 
 -- src/lib.rt:112:63
 part-unit-line-start : tie.Need-part-unit-line-start Inv-loop μ-loop
-part-unit-line-start c = search needs
+part-unit-line-start c = let k = c .before .before .before .before .line-end .ensures .inside _ (c .before .before .e .given .1) in search needs
 
 -- src/lib.rt:112:63
 part-unit-line-end : tie.Need-part-unit-line-end Inv-loop μ-loop
-part-unit-line-end c = search needs
+part-unit-line-end c = let k = c .before .before .before .before .line-end .ensures .inside _ (c .before .before .e .given .1) in search needs
 
 -- src/lib.rt:112:53
 unit-line-requires : tie.Need-unit-line-requires Inv-loop μ-loop
@@ -74,11 +74,11 @@ add-n c = search needs
 
 -- src/lib.rt:116:14
 add-at : tie.Need-add-at Inv-loop μ-loop
-add-at c = search needs
+add-at c = let k = c .before .before .before .before .before .before .before .before .before .line-end .ensures .inside _ (c .before .before .before .before .before .before .before .e .given .1) in search needs
 
 -- src/lib.rt:105:5
 loop-less : tie.Need-loop-less Inv-loop μ-loop
-loop-less c = search needs
+loop-less c = let k = c .before .before .before .before .before .before .before .before .before .line-end .ensures .inside _ (c .before .before .before .before .before .before .before .e .given .1) in search needs
 
 -- src/lib.rt:105:5
 loop-again : tie.Need-loop-again Inv-loop μ-loop
