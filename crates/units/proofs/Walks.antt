@@ -8,6 +8,7 @@ use native.Mathlib.Omega.{arith}
 use borrow.Author.Tests.{le-leb, lt-leb}
 use lib.Dec.{leb}
 use lib.ListN.{length, drop, length-drop, drop-of-length-le}
+use lib.Seq.{length-take-le}
 use Rattle.rules.specs.Basic.{pick, eqList, isEmpty, isSome}
 use Rattle.rules.specs.Utf8.{isUtf8, chars}
 use Rattle.rules.specs.Sheet.{Lines, last, more, lines}
@@ -15,6 +16,7 @@ use Rattle.rules.specs.Units.{PhysicalQuantity, NamedUnit, unitOf, withUnit, un
 use Rattle.rules.specs.Answer.{unitsOr}
 use Rattle.rules.proofs.Basics.{no-truth}
 use Rattle.rules.proofs.SameChars.{same-chars}
+use Rattle.sheet.proofs.Tests.{eq-length}
 use Rattle.sheet.specs.declared.LineEnd.{LineEnd}
 use Rattle.sheet.specs.declared.LineEnd.the-variants.{At, Nothing}
 use Rattle.sheet.specs.Lines.{linesFrom, LineAt}
@@ -51,6 +53,18 @@ list-starts s h = read-some (unitsOf (lines s)) h .0
 pub units-start : (s : List ℕ) → isSome (readUnits s) ≡ true → unitsFrom s 0 ≡ unitsOr (readUnits s)
 unfolding readUnits unitsFrom
 units-start s h = read-some (unitsOf (lines s)) h .1
+
+-- ---- a name at a place
+
+module _ (s name : List ℕ) (at : ℕ) {e : ℕ} where
+  pub named-other : at ≤ e → e ≤ length s → (e ≡ at + length name → ⊥) → false ≡ eqList name (part s at e)
+  named-other h l q =
+      let d = length-drop at s in
+      let k : length (part s at e) ≡ e - at = length-take-le (e - at) (drop at s) (omega arith) in
+      eq-length name (part s at e) (λ z. q (omega arith))
+
+  pub named-same : {b : Bool} → e ≡ at + length name → b ≡ eqList name (part s at (at + length name)) → b ≡ eqList name (part s at e)
+  named-same h q = rw h q
 
 -- ---- one turn of a search for a name
 

@@ -1,13 +1,15 @@
 // The unit list: lines of a name, a tab and a physical quantity. It is lent bytes, and nothing of it is stored.
 ghost use mathlib.Core.Path.{_≡_};
 ghost use mathlib.Core.Bool.{true};
-ghost use Rattle.rules.specs.Basic.{isSome, wordIn};
+ghost use Prim.Native.Nat.{_≤_};
+ghost use lib.ListN.{length};
+ghost use Rattle.rules.specs.Basic.{eqList, isSome, wordIn};
 ghost use Rattle.rules.specs.Utf8.{isUtf8, chars};
 ghost use Rattle.rules.specs.Sheet.{fieldsOf};
 ghost use Rattle.rules.specs.Units.{physicalWords, unitOfFields, unitOf, readUnits, findUnit, nameTwice};
 ghost use Rattle.rules.specs.Answer.{unitsOr};
 ghost use Rattle.units.specs.Quantities.{physicalAs, isKnown, unitLineAs};
-ghost use Rattle.units.specs.Lists.{unitsCheckedOf, isListFrom, unitsFrom, UnitHere};
+ghost use Rattle.units.specs.Lists.{unitsCheckedOf, isListFrom, unitsFrom, part, UnitHere};
 
 pub enum Physical {
     Volume,
@@ -177,6 +179,18 @@ pub fn unit_at(units: &[u8], at: usize) -> UnitAt
     }
 }
 
+// Whether the name from one place of a list to another is this one. Most differ in their length.
+pub fn is_named(units: &[u8], at: usize, end: usize, name: &[u8]) -> bool
+    requires { ⌜ (at ≤ end) × (end ≤ length (now units)) ⌝ }
+    ensures { λ r. ⌜ r ≡ eqList (now (name .entry)) (part (now (units .entry)) at end) ⌝ }
+{
+    let e = at + name.len();
+    if end != e {
+        return false;
+    }
+    sheet::same_bytes(name, &units[at..e])
+}
+
 // What a name stands for among the units from a place on.
 pub fn find_from(units: &[u8], from: usize, name: &[u8]) -> Physical
     requires { ⌜ (isListFrom (now units) from ≡ true) × (isUtf8 (now name) ≡ true) ⌝ }
@@ -194,7 +208,7 @@ pub fn find_from(units: &[u8], from: usize, name: &[u8]) -> Physical
                 next,
                 physical,
             } => {
-                if sheet::same_bytes(name, &units[at..name_end]) {
+                if is_named(units, at, name_end, name) {
                     return physical;
                 }
                 at = next;

@@ -8,7 +8,7 @@ use Rattle.units.proofs.find_from.Statement.{statement}
 use Rattle.units.proofs.find_from.Tie as tie
 use Rattle.units.proofs.find_from.Reads as reads
 use Rattle.units.proofs.find_from.Lts as lts
-use Rattle.sheet.proofs.same_bytes.Reads as same-bytes-reads
+use Rattle.units.proofs.is_named.Reads as is-named-reads
 use Rattle.units.proofs.unit_at.Reads as unit-at-reads
 
 abbrev Inv-loop : tie.InvT-loop
@@ -17,55 +17,43 @@ Inv-loop units from name at₀ at = Finding units name from at
 abbrev μ-loop : tie.MeasureT-loop
 μ-loop units from name at₀ at = length units - at
 
--- src/lib.rt:186:5
+-- src/lib.rt:200:5
 loop-holds : tie.Need-loop-holds Inv-loop μ-loop
 loop-holds c = record { left = c .before .before .pre .0; is = refl }
 
--- src/lib.rt:187:13
+-- src/lib.rt:201:13
 unit-at-requires : tie.Need-unit-at-requires Inv-loop μ-loop
 unit-at-requires c κs = c .before .loop .inv .left
 
--- src/lib.rt:190:17
+-- src/lib.rt:204:17
 enum-told : tie.Need-enum-told Inv-loop μ-loop
 enum-told c = search needs
 
--- src/lib.rt:190:17
+-- src/lib.rt:204:17
 returns : tie.Need-returns Inv-loop μ-loop
 returns c = finding-out (c .before .before .before .before .loop .inv) (c .before .before .unit-at .ensures) (c .enum-told .given .1)
 
--- src/lib.rt:193:17
+-- src/lib.rt:207:17
 enum-known-u : tie.Need-enum-known-u Inv-loop μ-loop
 enum-known-u c = search needs
 
--- src/lib.rt:197:44
-sub-same-bytes : tie.Need-sub-same-bytes Inv-loop μ-loop
-sub-same-bytes c = let k = c .before .before .before .unit-at .ensures .unit _ _ _ (c .before .u .given .1) in search needs
+-- src/lib.rt:211:20
+is-named-requires : tie.Need-is-named-requires Inv-loop μ-loop
+is-named-requires c κs = let k = c .before .before .before .unit-at .ensures .unit _ _ _ (c .before .u .given .1) in (omega arith, omega arith)
 
--- src/lib.rt:197:44
-part-same-bytes-start : tie.Need-part-same-bytes-start Inv-loop μ-loop
-part-same-bytes-start c = let k = c .before .before .before .unit-at .ensures .unit _ _ _ (c .before .u .given .1) in search needs
-
--- src/lib.rt:197:44
-part-same-bytes-end : tie.Need-part-same-bytes-end Inv-loop μ-loop
-part-same-bytes-end c = let k = c .before .before .before .unit-at .ensures .unit _ _ _ (c .before .u .given .1) in search needs
-
--- src/lib.rt:197:20
-same-bytes-requires : tie.Need-same-bytes-requires Inv-loop μ-loop
-same-bytes-requires c κs = search needs
-
--- src/lib.rt:198:21
+-- src/lib.rt:212:21
 returns-2 : tie.Need-returns-2 Inv-loop μ-loop
-returns-2 c = finding-hit (c .before .before .before .before .before .before .before .before .loop .inv) (c .before .before .before .before .before .before .before .before .before .before .before .pre .1) (c .before .before .before .before .before .before .unit-at .ensures .unit _ _ _ (c .before .before .before .before .u .given .1)) (c .before .same-bytes .ensures) (c .if1 .taken)
+returns-2 c = finding-hit (c .before .before .before .before .before .before .before .loop .inv) (c .before .before .before .before .before .before .before .before .before .before .pre .1) (c .before .before .before .before .before .unit-at .ensures .unit _ _ _ (c .before .before .before .u .given .1)) (c .before .is-named .ensures) (c .if1 .taken)
 
--- src/lib.rt:186:5
+-- src/lib.rt:200:5
 loop-less : tie.Need-loop-less Inv-loop μ-loop
-loop-less c = let k = c .before .before .before .before .before .before .unit-at .ensures .unit _ _ _ (c .before .before .before .before .u .given .1) in search needs
+loop-less c = let k = c .before .before .before .before .before .unit-at .ensures .unit _ _ _ (c .before .before .before .u .given .1) in search needs
 
--- src/lib.rt:186:5
+-- src/lib.rt:200:5
 loop-again : tie.Need-loop-again Inv-loop μ-loop
-loop-again c = finding-on (c .before .before .before .before .before .before .before .before .loop .inv) (c .before .before .before .before .before .before .before .before .before .before .before .pre .1) (c .before .before .before .before .before .before .unit-at .ensures .unit _ _ _ (c .before .before .before .before .u .given .1)) (c .before .same-bytes .ensures) (c .if1 .left)
+loop-again c = finding-on (c .before .before .before .before .before .before .before .loop .inv) (c .before .before .before .before .before .before .before .before .before .before .pre .1) (c .before .before .before .before .before .unit-at .ensures .unit _ _ _ (c .before .before .before .u .given .1)) (c .before .is-named .ensures) (c .if1 .left)
 
--- src/lib.rt:181:1
+-- src/lib.rt:195:1
 returns-3 : tie.Need-returns-3 Inv-loop μ-loop
 returns-3 c = finding-end (c .before .loop .inv) (c .loop-test .left)
 
@@ -80,10 +68,7 @@ find-from-spec =
     enum-told
     returns
     enum-known-u
-    sub-same-bytes
-    part-same-bytes-start
-    part-same-bytes-end
-    same-bytes-requires
+    is-named-requires
     returns-2
     loop-less
     loop-again
