@@ -2,3 +2,4 @@ pub mod Fronts
 pub mod Seeks
 pub mod Scans
 pub mod Signs
+pub mod Names

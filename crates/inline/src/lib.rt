@@ -3,13 +3,16 @@ ghost use mathlib.Core.Path.{_≡_};
 ghost use mathlib.Core.Bool.{true};
 ghost use Prim.Native.Nat.{_≤_, _<_};
 ghost use lib.ListN.{length, drop};
-ghost use Rattle.rules.specs.Basic.{isDigit};
+ghost use Rattle.rules.specs.Basic.{isDigit, isSome};
+ghost use Rattle.rules.specs.Units.{readUnits};
+ghost use Rattle.rules.specs.Answer.{unitsOr};
 ghost use Rattle.rules.specs.Unicode.{isWhiteSpace};
 ghost use Rattle.rules.specs.Utf8.{isUtf8, chars};
 ghost use Rattle.rules.specs.Text.{isNotAlphabetic};
 ghost use Rattle.rules.specs.Inline.{isNoDigit, isDigitOrPoint, points as pointsIn};
 ghost use Rattle.unicode.specs.Tables.{unicodeTables};
 ghost use Rattle.inline.specs.Scans.{isNotWhite, part, Front, SignAt, UnitPart};
+ghost use Rattle.inline.specs.Found.{InlineAt};
 
 // A part of a text, from a place to a place.
 struct Span {
@@ -101,11 +104,11 @@ fn word_end(t: &[u32], s: &[u8], at: usize) -> usize
 }
 
 // The place of the first Alphabetic character, or the end.
-fn letters_start(t: &[u32], s: &[u8], at: usize) -> usize
-    requires { ⌜ (now t ≡ unicodeTables) × (at ≤ length (now s)) × (isUtf8 (drop at (now s)) ≡ true) ⌝ }
-    ensures { λ r. ⌜ Front isNotAlphabetic (now (s .entry)) at r ⌝ }
+fn letters_start(t: &[u32], s: &[u8]) -> usize
+    requires { ⌜ (now t ≡ unicodeTables) × (isUtf8 (now s) ≡ true) ⌝ }
+    ensures { λ r. ⌜ Front isNotAlphabetic (now (s .entry)) 0 r ⌝ }
 {
-    let mut i = at;
+    let mut i = 0;
     while i < s.len() {
         let c = utf8::char_at(s, i);
         if unicode::is_alphabetic(t, c.code) {
@@ -145,4 +148,83 @@ fn sign_start(s: &[u8], at: usize, digit: usize) -> usize
         return m;
     }
     digit
+}
+
+// The unit's name in a word: what is not Alphabetic goes from both ends.
+fn unit_part(t: &[u32], s: &[u8], from: usize, to: usize) -> Span
+    requires { ⌜ (now t ≡ unicodeTables) × (from ≤ to) × (to ≤ length (now s)) × (isUtf8 (part from to (now s)) ≡ true) ⌝ }
+    ensures { λ r. ⌜ UnitPart (now (s .entry)) from to r ⌝ }
+{
+    let word = &s[from..to];
+    let a = from + letters_start(t, word);
+    let name = text::unit_trimmed(t, word);
+    Span {
+        from: a,
+        to: a + name.len(),
+    }
+}
+
+// The first quantity of a text whose unit is known.
+pub enum Inline {
+    // Where its number starts, with its sign, and ends; where its unit's name starts and ends; where the search goes on.
+    Found {
+        number_from: usize,
+        number_to: usize,
+        unit_from: usize,
+        unit_to: usize,
+        after: usize,
+    },
+    Nothing,
+}
+
+// The first quantity of the text from a place on.
+pub fn find_inline_quantity(t: &[u32], units: &[u8], s: &[u8], from: usize) -> Inline
+    requires { ⌜ (now t ≡ unicodeTables) × (isSome (readUnits (now units)) ≡ true) × (from ≤ length (now s)) × (isUtf8 (drop from (now s)) ≡ true) ⌝ }
+    ensures { λ r. ⌜ InlineAt (unitsOr (readUnits (now (units .entry)))) (now (s .entry)) from r ⌝ }
+{
+    let mut i = from;
+    'numbers: loop {
+        let digit = next_digit(s, i);
+        if digit == s.len() {
+            break Inline::Nothing;
+        }
+        let number_from = sign_start(s, i, digit);
+        let number_to = number_end(s, digit);
+        let word = blanks_end(t, s, number_to);
+        if word == s.len() {
+            break Inline::Nothing;
+        }
+        let after = word_end(t, s, word);
+        let name = unit_part(t, s, word, after);
+        let unit_from = name.from;
+        let unit_to = name.to;
+        if points(&s[digit..number_to]) <= 1 {
+            let mut at = 0;
+            while at < units.len() {
+                let u = units::unit_at(units, at);
+                match u {
+                    units::UnitAt::End => {
+                        break;
+                    }
+                    units::UnitAt::Unit {
+                        name_end,
+                        next,
+                        physical: _,
+                    } => {
+                        if units::is_named(units, at, name_end, &s[unit_from..unit_to]) {
+                            break 'numbers Inline::Found {
+                                number_from,
+                                number_to,
+                                unit_from,
+                                unit_to,
+                                after,
+                            };
+                        }
+                        at = next;
+                    }
+                }
+            }
+        }
+        i = after;
+    }
 }

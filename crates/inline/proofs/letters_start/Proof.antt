@@ -13,14 +13,14 @@ use Rattle.unicode.proofs.is_alphabetic.Reads as is-alphabetic-reads
 use Rattle.utf8.proofs.char_at.Reads as char-at-reads
 
 abbrev Inv-loop : tie.InvT-loop
-Inv-loop t s at i₀ i = Going isNotAlphabetic s at i
+Inv-loop t s i₀ i = Going isNotAlphabetic s 0 i
 
 abbrev μ-loop : tie.MeasureT-loop
-μ-loop t s at i₀ i = length s - i
+μ-loop t s i₀ i = length s - i
 
 -- src/lib.rt:103:5
 loop-holds : tie.Need-loop-holds Inv-loop μ-loop
-loop-holds c = going-start _ _ _ (c .before .before .pre .1) (c .before .before .pre .2)
+loop-holds c = going-start _ _ _ (omega arith) (c .before .before .pre .1)
 
 -- src/lib.rt:104:13
 char-at-requires : tie.Need-char-at-requires Inv-loop μ-loop
