@@ -3,3 +3,5 @@ pub mod Seeks
 pub mod Scans
 pub mod Signs
 pub mod Names
+pub mod Turns
+pub mod Lists
