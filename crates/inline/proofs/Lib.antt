@@ -5,3 +5,4 @@ pub mod Signs
 pub mod Names
 pub mod Turns
 pub mod Lists
+pub mod Items

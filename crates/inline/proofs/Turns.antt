@@ -39,12 +39,12 @@ utf8-join : (s : List ℕ) (a b e : ℕ) → a ≤ b → b ≤ e → isUtf8 (par
 utf8-join s a b e h k w v = ap isUtf8 (part-part a b e s h k) ∙ utf8-append (part a b s) (part b e s) w ∙ v
 
 -- bytes are at least one character
-record Some (t : List ℕ) : Type 0 where
-  head : ℕ
-  tail : List ℕ
-  is : chars t ≡ head ∷ tail
+pub record Some (t : List ℕ) : Type 0 where
+  pub head : ℕ
+  pub tail : List ℕ
+  pub is : chars t ≡ head ∷ tail
 
-some-chars : (t : List ℕ) → 1 ≤ length t → Some t
+pub some-chars : (t : List ℕ) → 1 ≤ length t → Some t
 some-chars [] h = absurd (omega arith)
 some-chars (a ∷ t) h = record { head = charOr (firstOf a t); tail = charsFrom (followers a (firstOf a t)) t; is = unfold chars charsFrom in refl }
 

@@ -9,10 +9,11 @@ ghost use Rattle.rules.specs.Answer.{unitsOr};
 ghost use Rattle.rules.specs.Unicode.{isWhiteSpace};
 ghost use Rattle.rules.specs.Utf8.{isUtf8, chars};
 ghost use Rattle.rules.specs.Text.{isNotAlphabetic};
-ghost use Rattle.rules.specs.Inline.{isNoDigit, isDigitOrPoint, points as pointsIn};
+ghost use Rattle.rules.specs.Inline.{isNoDigit, isDigitOrPoint, points as pointsIn, inlinePieces};
 ghost use Rattle.unicode.specs.Tables.{unicodeTables};
 ghost use Rattle.inline.specs.Scans.{isNotWhite, part, Front, SignAt, UnitPart};
 ghost use Rattle.inline.specs.Found.{InlineAt};
+ghost use Rattle.inline.specs.Items.{CountsOf, textItems};
 
 // A part of a text, from a place to a place.
 struct Span {
@@ -226,5 +227,52 @@ pub fn find_inline_quantity(t: &[u32], units: &[u8], s: &[u8], from: usize) -> I
             }
         }
         i = after;
+    }
+}
+
+// How many items a text is split into, and how many of them are quantities.
+pub struct Counts {
+    pub items: usize,
+    pub quantities: usize,
+}
+
+// One item for a text that is not empty.
+fn text_items(from: usize, to: usize) -> usize
+    ensures { λ r. ⌜ r ≡ textItems from to ⌝ }
+{
+    if from < to {
+        return 1;
+    }
+    0
+}
+
+pub fn count_items(t: &[u32], units: &[u8], s: &[u8]) -> Counts
+    requires { ⌜ (now t ≡ unicodeTables) × (isSome (readUnits (now units)) ≡ true) × (isUtf8 (now s) ≡ true) ⌝ }
+    ensures { λ r. ⌜ CountsOf (inlinePieces (unitsOr (readUnits (now (units .entry)))) (chars (now (s .entry)))) r ⌝ }
+{
+    let mut items = 0;
+    let mut quantities = 0;
+    let mut at = 0;
+    loop {
+        let f = find_inline_quantity(t, units, s, at);
+        match f {
+            Inline::Nothing => {
+                return Counts {
+                    items: items + text_items(at, s.len()),
+                    quantities,
+                };
+            }
+            Inline::Found {
+                number_from,
+                number_to: _,
+                unit_from: _,
+                unit_to: _,
+                after,
+            } => {
+                items = items + text_items(at, number_from) + 1;
+                quantities += 1;
+                at = after;
+            }
+        }
     }
 }
