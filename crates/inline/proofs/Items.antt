@@ -1,27 +1,24 @@
 -- The items of a text, counted from place to place.
 use Prim.Native.Nat.{ℕ, suc, _+_, _-_, _≤_, _<_}
 use mathlib.Core.Path.{_≡_, refl, sym, ap, _∙_}
-use mathlib.Core.Bool.{Bool, true, false}
+use mathlib.Core.Bool.{true}
 use mathlib.Core.List.{List, [], _∷_, _++_}
-use native.Mathlib.Nat.{zero-add, sub-self}
+use native.Mathlib.Nat.{zero-add}
 use native.Mathlib.Omega.{arith}
-use lib.Dec.{ltb}
-use lib.ListN.{length, take, drop, length-drop, length-append, drop-of-length-le}
+use lib.ListN.{length, drop, length-drop, length-append}
 use lib.Seq.{length-take-le}
-use borrow.Author.Tests.{lt-ltb, le-ltb, ltb-true}
-use Rattle.rules.specs.Basic.{pick}
+use borrow.Author.Tests.{lt-ltb, le-ltb}
 use Rattle.rules.specs.Utf8.{chars, isUtf8}
 use Rattle.rules.specs.Units.{NamedUnit}
-use Rattle.rules.specs.Inline.{Piece, textPiece, quantityPiece, textIfAny, inlinePieces}
+use Rattle.rules.specs.Inline.{Piece, quantityPiece, textIfAny, inlinePieces}
 use Rattle.rules.proofs.Basics.{by-order}
 use Rattle.inline.specs.declared.Inline.{Inline}
 use Rattle.inline.specs.declared.Inline.the-variants.{Found, Nothing}
-use Rattle.inline.specs.declared.Counts.{Counts}
 use Rattle.inline.specs.Scans.{part}
 use Rattle.inline.specs.Found.{inlineAs, FoundAt, InlineAt}
 use Rattle.inline.specs.Items.{quantitiesIn, CountsOf, textItems}
 use Rattle.inline.proofs.Scans.{chars-none}
-use Rattle.inline.proofs.Turns.{Some, some-chars}
+use Rattle.inline.proofs.Turns.{some-chars}
 
 pub items-yes : (a e : ℕ) → a < e → 1 ≡ textItems a e
 unfolding textItems

@@ -1,5 +1,7 @@
 pub mod Fronts
+pub mod Words
 pub mod Seeks
+pub mod Tries
 pub mod Scans
 pub mod Signs
 pub mod Names

@@ -3,16 +3,16 @@ use Prim.Native.Nat.{ℕ, _≤_}
 use mathlib.Core.Path.{_≡_, refl, sym, ap, _∙_}
 use mathlib.Core.Bool.{Bool, true, false}
 use mathlib.Core.List.{List}
-use mathlib.Core.Option.{Option, none, some}
+use mathlib.Core.Option.{some}
 use lib.ListN.{length}
 use Rattle.rules.specs.Basic.{eqList, isSome}
 use Rattle.rules.specs.Utf8.{chars, isUtf8}
-use Rattle.rules.specs.Units.{PhysicalQuantity, readUnits, findUnit}
+use Rattle.rules.specs.Units.{readUnits, findUnit}
 use Rattle.rules.specs.Answer.{unitsOr}
 use Rattle.units.specs.declared.Physical.{Physical}
 use Rattle.units.specs.declared.Physical.the-variants.{Unknown}
 use Rattle.units.specs.declared.UnitAt.{UnitAt}
-use Rattle.units.specs.declared.UnitAt.the-variants.{Unit, End}
+use Rattle.units.specs.declared.UnitAt.the-variants.{End}
 use Rattle.units.specs.Quantities.{physicalAs, isKnown}
 use Rattle.units.specs.Lists.{unitsFrom, part, UnitTurn, UnitHere}
 use Rattle.units.proofs.Parts.{known-some}

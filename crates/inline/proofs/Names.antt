@@ -1,5 +1,5 @@
 -- Where the name of a unit stands in its word.
-use Prim.Native.Nat.{ℕ, _+_, _-_, _≤_, _<_}
+use Prim.Native.Nat.{ℕ, _+_, _-_, _≤_}
 use mathlib.Core.Path.{_≡_, refl, sym, ap, _∙_}
 use mathlib.Core.Bool.{Bool, true, false}
 use mathlib.Core.List.{List, [], _∷_, _++_}
@@ -11,8 +11,7 @@ use Rattle.rules.specs.Utf8.{encode, chars, isUtf8}
 use Rattle.rules.specs.Text.{trimStart, trimOnto, trimEnd, trimMatches, isNotAlphabetic, unitTrimmed}
 use Rattle.rules.specs.Inline.{behind}
 use Rattle.rules.proofs.Encodes.{encode-chars}
-use Rattle.text.specs.Trims.{TrimmedBy, UnitTrimmedTo}
-use Rattle.inline.specs.declared.Span.{Span}
+use Rattle.text.specs.Trims.{UnitTrimmedTo}
 use Rattle.inline.specs.Scans.{part, Front, UnitPart}
 use Rattle.inline.proofs.Scans.{part-part}
 use Rattle.inline.proofs.Signs.{encode-append}

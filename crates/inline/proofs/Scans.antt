@@ -13,8 +13,7 @@ use Rattle.rules.specs.Basic.{isDigit}
 use Rattle.rules.specs.Unicode.{isWhiteSpace, isAlphabetic}
 use Rattle.rules.specs.Text.{isNotAlphabetic}
 use Rattle.rules.specs.Inline.{isNoDigit, isDigitOrPoint, points}
-use Rattle.rules.specs.Utf8.{sizeOf, firstOf, charOr, followers, encodeChar, charsFrom, chars, isUtf8}
-use Rattle.rules.specs.Inline as rules
+use Rattle.rules.specs.Utf8.{sizeOf, charOr, followers, encodeChar, charsFrom, chars, isUtf8}
 use Rattle.rules.proofs.Begins.{Begins, first-some}
 use Rattle.rules.proofs.Chars.{Starts, starts, wellFrom, well-utf8, utf8-none, skip-well, chars-append, utf8-append}
 use Rattle.rules.proofs.Scalars.{begins-scalar}
@@ -24,6 +23,7 @@ use Rattle.utf8.specs.Reading.{charOf}
 use Rattle.utf8.proofs.Steps.{CharStep, char-step}
 use Rattle.inline.specs.Scans.{isNotWhite, part, Front}
 use Rattle.inline.proofs.Fronts.{front-yes, behind-yes, front-no, behind-no, front-none, behind-none}
+use Rattle.rules.specs.Inline as rules
 
 -- ---- the character that UTF-8 starts with
 

@@ -1,12 +1,12 @@
 -- The sign of a number, by its last byte.
-use Prim.Native.Nat.{ℕ, suc, _+_, _-_, _≤_, _<_}
+use Prim.Native.Nat.{ℕ, _+_, _-_, _≤_, _<_}
 use mathlib.Core.Path.{_≡_, refl, sym, ap, _∙_}
 use mathlib.Core.Bool.{Bool, true, false}
 use mathlib.Core.List.{List, [], _∷_, _++_, append-nil, append-assoc}
 use native.Mathlib.Nat.{le-refl}
 use native.Mathlib.Omega.{arith}
 use lib.Dec.{eqb}
-use lib.ListN.{length, take, drop, getD}
+use lib.ListN.{length, getD}
 use lib.Seq.{drop-cons}
 use borrow.Author.Tests.{eqb-true}
 use Rattle.rules.specs.Basic.{pick, minus}
@@ -16,7 +16,7 @@ use Rattle.rules.proofs.Basics.{and-left}
 use Rattle.rules.proofs.Chars.{chars-split, utf8-split, utf8-none, utf8-ascii}
 use Rattle.rules.proofs.Encodes.{encode-chars, encode-1}
 use Rattle.inline.specs.Scans.{part, SignAt}
-use Rattle.inline.proofs.Seeks.{Sign, unsigned, signed, sign-is}
+use Rattle.inline.proofs.Tries.{Sign, unsigned, signed, sign-is}
 use Rattle.inline.proofs.Scans.{part-part, part-none, chars-none}
 
 -- ---- over characters

@@ -1,29 +1,27 @@
 -- One turn of the search over the bytes of a text.
 use Prim.Native.Nat.{ℕ, _+_, _-_, _≤_, _<_}
 use mathlib.Core.Path.{_≡_, refl, sym, ap, _∙_}
-use mathlib.Core.Bool.{Bool, true, false, _&&_, not}
-use mathlib.Core.List.{List, [], _∷_, _++_, append-assoc}
-use mathlib.Core.Option.{Option, none, some}
+use mathlib.Core.Bool.{true, false, _&&_, not}
+use mathlib.Core.List.{List, [], _∷_, _++_}
+use mathlib.Core.Option.{none}
 use native.Mathlib.Nat.{le-refl}
 use native.Mathlib.Omega.{arith}
-use lib.Dec.{leb}
-use lib.ListN.{length, take, drop, length-drop, drop-of-length-le}
+use lib.ListN.{length, drop, length-drop, drop-of-length-le}
 use borrow.Author.Tests.{le-leb, lt-leb, not-false}
-use Rattle.rules.specs.Basic.{pick, isDigit, isSome}
+use Rattle.rules.specs.Basic.{isDigit, isSome}
 use Rattle.rules.specs.Unicode.{isWhiteSpace}
 use Rattle.rules.specs.Utf8.{firstOf, charOr, followers, charsFrom, chars, isUtf8}
-use Rattle.rules.specs.Text.{unitTrimmed}
 use Rattle.rules.specs.Units.{NamedUnit, findUnit}
-use Rattle.rules.specs.Inline.{front, behind, isNoDigit, isDigitOrPoint, points, isNumber, sign, withoutSign, Piece, textPiece, quantityPiece, textIfAny, tryUnit, inlinePieces}
+use Rattle.rules.specs.Inline.{front, behind, isNoDigit, isDigitOrPoint, points, isNumber, sign, textIfAny, tryUnit, inlinePieces}
 use Rattle.rules.proofs.Basics.{by-order}
 use Rattle.rules.proofs.Chars.{chars-append, utf8-append, utf8-none}
 use Rattle.inline.specs.declared.Span.{Span}
-use Rattle.inline.specs.declared.Inline.{Inline}
 use Rattle.inline.specs.declared.Inline.the-variants.{Found, Nothing}
 use Rattle.inline.specs.Scans.{isNotWhite, part, Front, SignAt, UnitPart}
 use Rattle.inline.specs.Found.{inlineAs, FoundAt, InlineAt}
 use Rattle.inline.proofs.Fronts.{front-yes, behind-head, digit-number}
-use Rattle.inline.proofs.Seeks.{seek, seek-all, seek-none, seek-front, Sign, unsigned, signed, sign-is, after, number-last, number-unit, unit-known, unit-other}
+use Rattle.inline.proofs.Seeks.{seek, seek-all, seek-none, seek-front}
+use Rattle.inline.proofs.Tries.{Sign, unsigned, signed, sign-is, after, number-last, number-unit, unit-known, unit-other}
 use Rattle.inline.proofs.Scans.{part-part, part-drop, part-none, chars-none}
 
 -- ---- parts of a text
@@ -122,7 +120,7 @@ module _ {us : List NamedUnit} {s : List ℕ} {from i d m : ℕ} (g : Sought us 
     pub turn-last : {w : ℕ} → Front isWhiteSpace s e w → w ≡ length s → InlineAt us s from Nothing
     turn-last {w} b l =
         let q : behind isWhiteSpace (behind isDigitOrPoint (it .head ∷ it .tail)) ≡ [] =
-            ap (behind isWhiteSpace) after-number ∙ sym (b .behind) ∙ rw (drop-of-length-le s {i = w} (omega arith)) chars-none in
+        ap (behind isWhiteSpace) after-number ∙ sym (b .behind) ∙ rw (drop-of-length-le s {i = w} (omega arith)) chars-none in
         all-text
         (sym (number-last us (chars (part from m s)) (it .head) (it .tail) with-sign digit q
         ∙ ap textIfAny (rw (← it .is, ← chars-rest s m d (k .to) (k .sign), ← chars-rest s from m (omega (arith, g .start, k .from)) before)))
