@@ -8,3 +8,4 @@ pub mod Words
 pub mod Retains
 pub mod Splits
 pub mod Paths
+pub mod Marks
