@@ -9,3 +9,4 @@ pub mod Retains
 pub mod Splits
 pub mod Paths
 pub mod Marks
+pub mod Lines

@@ -23,10 +23,10 @@ pub record Mark (b : ℕ) : Type 0 where
   pub letter : escaped b ≡ none
 
 module _ (b : ℕ) (m : Mark b) (q : List ℕ) where
-  pair-split : (d : ℕ) (x s y t : List ℕ) → (o : Option ℕ) → pairOr o (x ++ s) (y ++ s) ≡ pairOr o x y ++ s
+  pair-split : (x y s : List ℕ) (o : Option ℕ) → pairOr o (x ++ s) (y ++ s) ≡ pairOr o x y ++ s
   unfolding pairOr
-  pair-split d x s y t none = refl
-  pair-split d x s y t (some c) = refl
+  pair-split x y s none = refl
+  pair-split x y s (some c) = refl
 
   plain-split : (p : List ℕ) → plainOf (p ++ (b ∷ q)) ≡ plainOf p ++ (b ∷ plainOf q)
   plain-split [] = plain-one b q (m .plain) ∙ (unfold plainOf in refl)
@@ -36,7 +36,7 @@ module _ (b : ℕ) (m : Mark b) (q : List ℕ) where
       (λ n. plain-one c (b ∷ q) n ∙ (unfold plainOf in (ap (λ (x : List ℕ). c ∷ x) (plain-one b q (m .plain)))))
   plain-split (c ∷ d ∷ p) =
       by-backslash c
-      (λ e. rw (e, plain-pair d (p ++ (b ∷ q)), plain-pair d p, plain-split p, plain-split (d ∷ p)) (pair-split d (plainOf p) (b ∷ plainOf q) (plainOf (d ∷ p)) [] (escaped d)))
+      (λ e. rw (e, plain-pair d (p ++ (b ∷ q)), plain-pair d p, plain-split p, plain-split (d ∷ p)) (pair-split (plainOf p) (plainOf (d ∷ p)) (b ∷ plainOf q) (escaped d)))
       (λ n. plain-one c (d ∷ (p ++ (b ∷ q))) n ∙ rw (plain-split (d ∷ p), plain-one c (d ∷ p) n))
 
   pub mark-content : (p : List ℕ) → contentIn (p ++ (b ∷ q)) ≡ contentIn p ++ (b ∷ contentIn q)

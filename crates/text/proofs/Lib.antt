@@ -1,3 +1,4 @@
 pub mod Trims
 pub mod Writes
 pub mod Names
+pub mod Paths

@@ -11,6 +11,7 @@ ghost use Rattle.content.specs.Contents.{contentIn, keptIn};
 ghost use Rattle.unicode.specs.Tables.{unicodeTables};
 ghost use Rattle.output.specs.Put.{Put};
 ghost use Rattle.text.specs.Trims.{dropsOf, StartAt, EndAt, TrimmedBy, TrimmedTo, UnitTrimmedTo, PutTrimmed};
+ghost use Rattle.text.specs.Paths.{isBack, pathBytes};
 ghost use Rattle.text.specs.Names.{startCursor, stepOf, foldFrom, rest, told};
 
 // Which characters a trimming drops at both ends.
@@ -120,6 +121,48 @@ pub fn put_kept(out: &mut [u8], at: usize, w: &[u8]) -> usize
         i += 1;
         if !gone {
             n = output::put_byte(out, n, b);
+        }
+    }
+    if n <= out.len() { n } else { out.len() + 1 }
+}
+
+// Whether an escaped backslash stands at a place.
+fn is_back(w: &[u8], at: usize) -> bool
+    ensures { λ r. ⌜ r ≡ isBack (now (w .entry)) at ⌝ }
+{
+    if w.len() <= at {
+        return false;
+    }
+    if w[at] != b'\\' {
+        return false;
+    }
+    let j = at + 1;
+    if w.len() <= j {
+        return false;
+    }
+    w[j] == b'\\'
+}
+
+// A path before a name, as a page has it: with slashes for backslashes, and with single blanks.
+pub fn put_path(out: &mut [u8], at: usize, w: &[u8]) -> usize
+    ensures { λ r. ⌜ Put (pathBytes 0 (now (w .entry))) (now (out .entry)) at (now (out .exit)) r ⌝ }
+{
+    let mut n = at;
+    let mut i = 0;
+    let mut prev = 0;
+    while i < w.len() {
+        if is_back(w, i) {
+            n = output::put_byte(out, n, b'/');
+            prev = b'/';
+            i += 2;
+        } else {
+            let b = w[i];
+            let gone = goes(b, prev);
+            prev = b;
+            i += 1;
+            if !gone {
+                n = output::put_byte(out, n, b);
+            }
         }
     }
     if n <= out.len() { n } else { out.len() + 1 }
