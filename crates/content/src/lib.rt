@@ -71,7 +71,7 @@ fn skip_blanks(f: &[u8], at: usize) -> usize
 }
 
 // The character at a place, which takes the blanks with it that go after it.
-pub fn kept_char(f: &[u8], at: usize) -> Char
+fn any_kept(f: &[u8], at: usize) -> Char
     requires { ⌜ at < length (now f) ⌝ }
     ensures { λ r. ⌜ KeptStep (now (f .entry)) at r ⌝ }
 {
@@ -83,6 +83,27 @@ pub fn kept_char(f: &[u8], at: usize) -> Char
     Char {
         code: 32,
         size: r - at,
+    }
+}
+
+// The same; most characters are no blank and no backslash.
+pub fn kept_char(f: &[u8], at: usize) -> Char
+    requires { ⌜ at < length (now f) ⌝ }
+    ensures { λ r. ⌜ KeptStep (now (f .entry)) at r ⌝ }
+{
+    let a = f[at];
+    if 0x80 <= a {
+        return utf8::char_at(f, at);
+    }
+    if a == b'\\' {
+        return any_kept(f, at);
+    }
+    if a == b' ' {
+        return any_kept(f, at);
+    }
+    Char {
+        code: wide(a),
+        size: 1,
     }
 }
 
