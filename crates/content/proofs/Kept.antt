@@ -24,7 +24,7 @@ use Rattle.content.specs.Contents.{contentIn, keptIn}
 use Rattle.content.specs.Readings.{pairIn, charIn}
 use Rattle.content.specs.Kept.{Skipped, KeptStep}
 use Rattle.content.proofs.Plains.{by-backslash}
-use Rattle.content.proofs.Chars.{ContentStep, content-step, content-none, char-plain, char-last, in-ascii, in-wide}
+use Rattle.content.proofs.Chars.{ContentStep, content-step, content-none, char-plain, char-last, in-ascii}
 
 -- ---- over code points
 
@@ -141,12 +141,6 @@ module _ (f : List ℕ) (at : ℕ) (ch : Char) (h : at < length f) (e : ch ≡ c
 -- an ASCII byte that is neither
 pub kept-ascii : (f : List ℕ) (at : ℕ) {x : ℕ} → at < length f → x ≡ getD f at 0 → getD f at 0 < 128 → (getD f at 0 ≡ 92 → ⊥) → (getD f at 0 ≡ 32 → ⊥) → KeptStep f at (charWith x 1)
 kept-ascii f at {x} h e l n m = kept-other f at (charWith x 1) h (in-ascii f at h e l n) (λ q. m (sym e ∙ q))
-
--- a character of several bytes
-pub kept-wide : (f : List ℕ) (at : ℕ) {r : Char} → at < length f → 128 ≤ getD f at 0 → r ≡ charOf (drop at f) → KeptStep f at r
-kept-wide f at {r} h l e =
-    let k : charOf (drop at f) .code ≡ 32 → ⊥ = rw (drop-cons f at 0 h) (λ q. wide-code (getD f at 0) (drop (suc at) f) 32 l (omega arith) q) in
-    kept-other f at r h (in-wide f at h l e) (rw e k)
 
 pub kept-none : (f : List ℕ) (at : ℕ) → length f ≤ at → keptIn (drop at f) ≡ []
 unfolding keptIn retain

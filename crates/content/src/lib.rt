@@ -86,14 +86,14 @@ fn any_kept(f: &[u8], at: usize) -> Char
     }
 }
 
-// The same; most characters are no blank and no backslash.
+// The same; most characters are ASCII, no blank and no backslash.
 pub fn kept_char(f: &[u8], at: usize) -> Char
     requires { ⌜ at < length (now f) ⌝ }
     ensures { λ r. ⌜ KeptStep (now (f .entry)) at r ⌝ }
 {
     let a = f[at];
     if 0x80 <= a {
-        return utf8::char_at(f, at);
+        return any_kept(f, at);
     }
     if a == b'\\' {
         return any_kept(f, at);
