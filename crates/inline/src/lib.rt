@@ -9,7 +9,7 @@ ghost use Rattle.rules.specs.Answer.{unitsOr};
 ghost use Rattle.rules.specs.Unicode.{isWhiteSpace};
 ghost use Rattle.rules.specs.Utf8.{isUtf8, chars};
 ghost use Rattle.rules.specs.Text.{isNotAlphabetic};
-ghost use Rattle.rules.specs.Inline.{isNoDigit, isDigitOrPoint, points as pointsIn, inlinePieces};
+ghost use Rattle.rules.specs.Inline.{isNoDigit, isDigitOrPoint, points as pointsIn};
 ghost use Rattle.unicode.specs.Tables.{unicodeTables};
 ghost use Rattle.inline.specs.Scans.{isNotWhite, part, Front, SignAt, UnitPart};
 ghost use Rattle.inline.specs.Found.{InlineAt};
@@ -248,7 +248,7 @@ fn text_items(from: usize, to: usize) -> usize
 
 pub fn count_items(t: &[u32], units: &[u8], s: &[u8]) -> Counts
     requires { ⌜ (now t ≡ unicodeTables) × (isSome (readUnits (now units)) ≡ true) × (isUtf8 (now s) ≡ true) ⌝ }
-    ensures { λ r. ⌜ CountsOf (inlinePieces (unitsOr (readUnits (now (units .entry)))) (chars (now (s .entry)))) r ⌝ }
+    ensures { λ r. ⌜ CountsOf (unitsOr (readUnits (now (units .entry)))) (now (s .entry)) r ⌝ }
 {
     let mut items = 0;
     let mut quantities = 0;

@@ -124,7 +124,7 @@ numbers-less c = omega (arith, turn-less (c .before .before .before .before .bef
 
 -- src/lib.rt:186:5
 numbers-again : tie.Need-numbers-again Inv-loop μ-loop Inv-numbers μ-numbers
-numbers-again c = turn-unknown (c .before .before .before .before .before .before .before .before .before .before .before .before .before .numbers .inv) (c .before .before .before .before .before .before .before .before .before .before .before .before .next-digit .ensures) (c .before .before .before .before .before .before .before .before .before .before .before .if1 .left) (c .before .before .before .before .before .before .before .before .before .before .sign-start .ensures) (c .before .before .before .before .before .before .before .before .before .number-end .ensures) (c .before .before .before .before .before .before .before .before .blanks-end .ensures) (c .before .before .before .before .before .before .before .if2 .left) (c .before .before .before .before .before .before .word-end .ensures) (c .before .before .before .before .before .unit-part .ensures) (c .before .before .before .points .ensures) (c .before .before .if3 .taken) (list-end _ _ (c .before .before .before .before .before .before .before .before .before .before .before .before .before .before .before .before .before .pre .1) (c .before .loop .inv) (c .loop-test .left))
+numbers-again c = turn-unknown (c .before .before .before .before .before .before .before .before .before .before .before .before .before .numbers .inv) (c .before .before .before .before .before .before .before .before .before .before .before .before .next-digit .ensures) (c .before .before .before .before .before .before .before .before .before .before .before .if1 .left) (c .before .before .before .before .before .before .before .before .before .before .sign-start .ensures) (c .before .before .before .before .before .before .before .before .before .number-end .ensures) (c .before .before .before .before .before .before .before .before .blanks-end .ensures) (c .before .before .before .before .before .before .before .if2 .left) (c .before .before .before .before .before .before .word-end .ensures) (c .before .before .before .before .before .unit-part .ensures) (c .before .before .before .points .ensures) (omega (arith, c .before .before .if3 .taken)) (list-end _ _ (c .before .before .before .before .before .before .before .before .before .before .before .before .before .before .before .before .before .pre .1) (c .before .loop .inv) (c .loop-test .left))
 
 -- src/lib.rt:186:5
 numbers-less-2 : tie.Need-numbers-less-2 Inv-loop μ-loop Inv-numbers μ-numbers
@@ -132,7 +132,7 @@ numbers-less-2 c = omega (arith, turn-less (c .before .before .before .before .b
 
 -- src/lib.rt:186:5
 numbers-again-2 : tie.Need-numbers-again-2 Inv-loop μ-loop Inv-numbers μ-numbers
-numbers-again-2 c = turn-unknown (c .before .before .before .before .before .before .before .before .before .before .before .before .before .before .before .before .numbers .inv) (c .before .before .before .before .before .before .before .before .before .before .before .before .before .before .before .next-digit .ensures) (c .before .before .before .before .before .before .before .before .before .before .before .before .before .before .if1 .left) (c .before .before .before .before .before .before .before .before .before .before .before .before .before .sign-start .ensures) (c .before .before .before .before .before .before .before .before .before .before .before .before .number-end .ensures) (c .before .before .before .before .before .before .before .before .before .before .before .blanks-end .ensures) (c .before .before .before .before .before .before .before .before .before .before .if2 .left) (c .before .before .before .before .before .before .before .before .before .word-end .ensures) (c .before .before .before .before .before .before .before .before .unit-part .ensures) (c .before .before .before .before .before .before .points .ensures) (c .before .before .before .before .before .if3 .taken) (list-out _ _ (c .before .before .before .before .before .before .before .before .before .before .before .before .before .before .before .before .before .before .before .before .pre .1) (c .before .before .before .before .loop .inv) (c .before .before .unit-at .ensures) (c .enum-told .given .1))
+numbers-again-2 c = turn-unknown (c .before .before .before .before .before .before .before .before .before .before .before .before .before .before .before .before .numbers .inv) (c .before .before .before .before .before .before .before .before .before .before .before .before .before .before .before .next-digit .ensures) (c .before .before .before .before .before .before .before .before .before .before .before .before .before .before .if1 .left) (c .before .before .before .before .before .before .before .before .before .before .before .before .before .sign-start .ensures) (c .before .before .before .before .before .before .before .before .before .before .before .before .number-end .ensures) (c .before .before .before .before .before .before .before .before .before .before .before .blanks-end .ensures) (c .before .before .before .before .before .before .before .before .before .before .if2 .left) (c .before .before .before .before .before .before .before .before .before .word-end .ensures) (c .before .before .before .before .before .before .before .before .unit-part .ensures) (c .before .before .before .before .before .before .points .ensures) (omega (arith, c .before .before .before .before .before .if3 .taken)) (list-out _ _ (c .before .before .before .before .before .before .before .before .before .before .before .before .before .before .before .before .before .before .before .before .pre .1) (c .before .before .before .before .loop .inv) (c .before .before .unit-at .ensures) (c .enum-told .given .1))
 
 -- src/lib.rt:186:5
 numbers-less-3 : tie.Need-numbers-less-3 Inv-loop μ-loop Inv-numbers μ-numbers
@@ -152,7 +152,7 @@ returns-2 c = turn-last (c .before .before .before .before .before .before .numb
 
 -- src/lib.rt:181:1
 returns-3 : tie.Need-returns-3 Inv-loop μ-loop Inv-numbers μ-numbers
-returns-3 c = turn-found (c .before .before .before .before .before .before .before .before .before .before .before .before .before .before .before .before .before .before .before .before .numbers .inv) (c .before .before .before .before .before .before .before .before .before .before .before .before .before .before .before .before .before .before .before .next-digit .ensures) (c .before .before .before .before .before .before .before .before .before .before .before .before .before .before .before .before .before .before .if1 .left) (c .before .before .before .before .before .before .before .before .before .before .before .before .before .before .before .before .before .sign-start .ensures) (c .before .before .before .before .before .before .before .before .before .before .before .before .before .before .before .before .number-end .ensures) (c .before .before .before .before .before .before .before .before .before .before .before .before .before .before .before .blanks-end .ensures) (c .before .before .before .before .before .before .before .before .before .before .before .before .before .before .if2 .left) (c .before .before .before .before .before .before .before .before .before .before .before .before .before .word-end .ensures) (c .before .before .before .before .before .before .before .before .before .before .before .before .unit-part .ensures) (c .before .before .before .before .before .before .before .before .before .before .points .ensures) (c .before .before .before .before .before .before .before .before .before .if3 .taken) (list-hit _ _ (c .before .before .before .before .before .before .before .before .before .before .before .before .before .before .before .before .before .before .before .before .before .before .before .before .pre .1) (c .before .before .before .before .before .before .before .before .loop .inv) ((c .before .before .before .before .before .before .before .before .before .before .before .before .unit-part .ensures) .whole) (c .before .before .before .before .before .before .unit-at .ensures .unit _ _ _ (c .before .before .before .before .u .given .1)) (c .before .is-named .ensures) (c .if4 .taken))
+returns-3 c = turn-found (c .before .before .before .before .before .before .before .before .before .before .before .before .before .before .before .before .before .before .before .before .numbers .inv) (c .before .before .before .before .before .before .before .before .before .before .before .before .before .before .before .before .before .before .before .next-digit .ensures) (c .before .before .before .before .before .before .before .before .before .before .before .before .before .before .before .before .before .before .if1 .left) (c .before .before .before .before .before .before .before .before .before .before .before .before .before .before .before .before .before .sign-start .ensures) (c .before .before .before .before .before .before .before .before .before .before .before .before .before .before .before .before .number-end .ensures) (c .before .before .before .before .before .before .before .before .before .before .before .before .before .before .before .blanks-end .ensures) (c .before .before .before .before .before .before .before .before .before .before .before .before .before .before .if2 .left) (c .before .before .before .before .before .before .before .before .before .before .before .before .before .word-end .ensures) (c .before .before .before .before .before .before .before .before .before .before .before .before .unit-part .ensures) (c .before .before .before .before .before .before .before .before .before .before .points .ensures) (omega (arith, c .before .before .before .before .before .before .before .before .before .if3 .taken)) (list-hit _ _ (c .before .before .before .before .before .before .before .before .before .before .before .before .before .before .before .before .before .before .before .before .before .before .before .before .pre .1) (c .before .before .before .before .before .before .before .before .loop .inv) ((c .before .before .before .before .before .before .before .before .before .before .before .before .unit-part .ensures) .whole) (c .before .before .before .before .before .before .unit-at .ensures .unit _ _ _ (c .before .before .before .before .u .given .1)) (c .before .is-named .ensures) (c .if4 .taken))
 
 pub find-inline-quantity-spec : {M : Type 1} → statement M
 find-inline-quantity-spec =
