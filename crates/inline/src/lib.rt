@@ -202,28 +202,24 @@ pub fn find_inline_quantity(t: &[u32], units: &[u8], s: &[u8], from: usize) -> I
         if points(&s[digit..number_to]) <= 1 {
             let mut at = 0;
             while at < units.len() {
-                let u = units::unit_at(units, at);
-                match u {
-                    units::UnitAt::End => {
-                        break;
-                    }
-                    units::UnitAt::Unit {
-                        name_end,
-                        next,
-                        physical: _,
-                    } => {
-                        if units::is_named(units, at, name_end, &s[unit_from..unit_to]) {
-                            break 'numbers Inline::Found {
-                                number_from,
-                                number_to,
-                                unit_from,
-                                unit_to,
-                                after,
-                            };
-                        }
-                        at = next;
-                    }
+                let units::UnitAt::Unit {
+                    name_end,
+                    next,
+                    physical: _,
+                } = units::unit_at(units, at)
+                else {
+                    break;
+                };
+                if units::is_named(units, at, name_end, &s[unit_from..unit_to]) {
+                    break 'numbers Inline::Found {
+                        number_from,
+                        number_to,
+                        unit_from,
+                        unit_to,
+                        after,
+                    };
                 }
+                at = next;
             }
         }
         i = after;

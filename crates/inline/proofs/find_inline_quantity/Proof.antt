@@ -86,13 +86,13 @@ loop-holds c = list-start _ _ (c .before .before .before .before .before .before
 unit-at-requires : tie.Need-unit-at-requires Inv-loop μ-loop Inv-numbers μ-numbers
 unit-at-requires c κs = c .before .loop .inv .left
 
+-- src/lib.rt:210:25
+enum-known-name-end : tie.Need-enum-known-name-end Inv-loop μ-loop Inv-numbers μ-numbers
+enum-known-name-end c = search needs
+
 -- src/lib.rt:207:25
 enum-told : tie.Need-enum-told Inv-loop μ-loop Inv-numbers μ-numbers
 enum-told c = search needs
-
--- src/lib.rt:210:25
-enum-known-u : tie.Need-enum-known-u Inv-loop μ-loop Inv-numbers μ-numbers
-enum-known-u c = search needs
 
 -- src/lib.rt:214:65
 sub-is-named : tie.Need-sub-is-named Inv-loop μ-loop Inv-numbers μ-numbers
@@ -108,15 +108,15 @@ part-is-named-end c = omega (arith, (c .before .before .before .before .before .
 
 -- src/lib.rt:214:28
 is-named-requires : tie.Need-is-named-requires Inv-loop μ-loop Inv-numbers μ-numbers
-is-named-requires c κs = let k = c .before .before .before .before .unit-at .ensures .unit _ _ _ (c .before .before .u .given .1) in (omega (arith, k .named), omega (arith, k .ended, k .within))
+is-named-requires c κs = let k = c .before .before .before .before .unit-at .ensures .unit _ _ _ (c .before .before .name-end .given .1) in (omega (arith, k .named), omega (arith, k .ended, k .within))
 
 -- src/lib.rt:203:13
 loop-less : tie.Need-loop-less Inv-loop μ-loop Inv-numbers μ-numbers
-loop-less c = let k = c .before .before .before .before .before .before .unit-at .ensures .unit _ _ _ (c .before .before .before .before .u .given .1) in omega (arith, k .named, k .ended, k .within, c .before .before .before .before .before .before .before .loop-test .taken)
+loop-less c = let k = c .before .before .before .before .before .before .unit-at .ensures .unit _ _ _ (c .before .before .before .before .name-end .given .1) in omega (arith, k .named, k .ended, k .within, c .before .before .before .before .before .before .before .loop-test .taken)
 
 -- src/lib.rt:203:13
 loop-again : tie.Need-loop-again Inv-loop μ-loop Inv-numbers μ-numbers
-loop-again c = finding-on (c .before .before .before .before .before .before .before .before .loop .inv) ((c .before .before .before .before .before .before .before .before .before .before .before .before .unit-part .ensures) .whole) (c .before .before .before .before .before .before .unit-at .ensures .unit _ _ _ (c .before .before .before .before .u .given .1)) (c .before .is-named .ensures) (c .if4 .left)
+loop-again c = finding-on (c .before .before .before .before .before .before .before .before .loop .inv) ((c .before .before .before .before .before .before .before .before .before .before .before .before .unit-part .ensures) .whole) (c .before .before .before .before .before .before .unit-at .ensures .unit _ _ _ (c .before .before .before .before .name-end .given .1)) (c .before .is-named .ensures) (c .if4 .left)
 
 -- src/lib.rt:186:5
 numbers-less : tie.Need-numbers-less Inv-loop μ-loop Inv-numbers μ-numbers
@@ -152,7 +152,7 @@ returns-2 c = turn-last (c .before .before .before .before .before .before .numb
 
 -- src/lib.rt:181:1
 returns-3 : tie.Need-returns-3 Inv-loop μ-loop Inv-numbers μ-numbers
-returns-3 c = turn-found (c .before .before .before .before .before .before .before .before .before .before .before .before .before .before .before .before .before .before .before .before .numbers .inv) (c .before .before .before .before .before .before .before .before .before .before .before .before .before .before .before .before .before .before .before .next-digit .ensures) (c .before .before .before .before .before .before .before .before .before .before .before .before .before .before .before .before .before .before .if1 .left) (c .before .before .before .before .before .before .before .before .before .before .before .before .before .before .before .before .before .sign-start .ensures) (c .before .before .before .before .before .before .before .before .before .before .before .before .before .before .before .before .number-end .ensures) (c .before .before .before .before .before .before .before .before .before .before .before .before .before .before .before .blanks-end .ensures) (c .before .before .before .before .before .before .before .before .before .before .before .before .before .before .if2 .left) (c .before .before .before .before .before .before .before .before .before .before .before .before .before .word-end .ensures) (c .before .before .before .before .before .before .before .before .before .before .before .before .unit-part .ensures) (c .before .before .before .before .before .before .before .before .before .before .points .ensures) (omega (arith, c .before .before .before .before .before .before .before .before .before .if3 .taken)) (list-hit _ _ (c .before .before .before .before .before .before .before .before .before .before .before .before .before .before .before .before .before .before .before .before .before .before .before .before .pre .1) (c .before .before .before .before .before .before .before .before .loop .inv) ((c .before .before .before .before .before .before .before .before .before .before .before .before .unit-part .ensures) .whole) (c .before .before .before .before .before .before .unit-at .ensures .unit _ _ _ (c .before .before .before .before .u .given .1)) (c .before .is-named .ensures) (c .if4 .taken))
+returns-3 c = turn-found (c .before .before .before .before .before .before .before .before .before .before .before .before .before .before .before .before .before .before .before .before .numbers .inv) (c .before .before .before .before .before .before .before .before .before .before .before .before .before .before .before .before .before .before .before .next-digit .ensures) (c .before .before .before .before .before .before .before .before .before .before .before .before .before .before .before .before .before .before .if1 .left) (c .before .before .before .before .before .before .before .before .before .before .before .before .before .before .before .before .before .sign-start .ensures) (c .before .before .before .before .before .before .before .before .before .before .before .before .before .before .before .before .number-end .ensures) (c .before .before .before .before .before .before .before .before .before .before .before .before .before .before .before .blanks-end .ensures) (c .before .before .before .before .before .before .before .before .before .before .before .before .before .before .if2 .left) (c .before .before .before .before .before .before .before .before .before .before .before .before .before .word-end .ensures) (c .before .before .before .before .before .before .before .before .before .before .before .before .unit-part .ensures) (c .before .before .before .before .before .before .before .before .before .before .points .ensures) (omega (arith, c .before .before .before .before .before .before .before .before .before .if3 .taken)) (list-hit _ _ (c .before .before .before .before .before .before .before .before .before .before .before .before .before .before .before .before .before .before .before .before .before .before .before .before .pre .1) (c .before .before .before .before .before .before .before .before .loop .inv) ((c .before .before .before .before .before .before .before .before .before .before .before .before .unit-part .ensures) .whole) (c .before .before .before .before .before .before .unit-at .ensures .unit _ _ _ (c .before .before .before .before .name-end .given .1)) (c .before .is-named .ensures) (c .if4 .taken))
 
 pub find-inline-quantity-spec : {M : Type 1} → statement M
 find-inline-quantity-spec =
@@ -175,8 +175,8 @@ find-inline-quantity-spec =
     points-requires
     loop-holds
     unit-at-requires
+    enum-known-name-end
     enum-told
-    enum-known-u
     sub-is-named
     part-is-named-start
     part-is-named-end
