@@ -18,35 +18,35 @@ Inv-loop t s i₀ i = Going isNotAlphabetic s 0 i
 abbrev μ-loop : tie.MeasureT-loop
 μ-loop t s i₀ i = length s - i
 
--- src/lib.rt:103:5
+-- src/lib.rt:113:5
 loop-holds : tie.Need-loop-holds Inv-loop μ-loop
 loop-holds c = going-start _ _ _ (omega arith) (c .before .before .pre .1)
 
--- src/lib.rt:104:13
+-- src/lib.rt:114:13
 char-at-requires : tie.Need-char-at-requires Inv-loop μ-loop
 char-at-requires c κs = search needs
 
--- src/lib.rt:105:12
+-- src/lib.rt:115:12
 is-alphabetic-requires : tie.Need-is-alphabetic-requires Inv-loop μ-loop
 is-alphabetic-requires c κs = search needs
 
--- src/lib.rt:106:13
+-- src/lib.rt:116:13
 returns : tie.Need-returns Inv-loop μ-loop
 returns c = going-stop (c .before .before .before .before .loop .inv) _ (c .before .before .before .loop-test .taken) (c .before .before .char-at .ensures) (letter-stops _ (c .before .is-alphabetic .ensures) (c .if1 .taken))
 
--- src/lib.rt:108:9
+-- src/lib.rt:118:9
 add-i : tie.Need-add-i Inv-loop μ-loop
 add-i c = omega (arith, char-step _ _ _ (c .before .before .before .before .loop-test .taken) (c .before .before .before .char-at .ensures) .most)
 
--- src/lib.rt:103:5
+-- src/lib.rt:113:5
 loop-less : tie.Need-loop-less Inv-loop μ-loop
 loop-less c = omega (arith, char-step _ _ _ (c .before .before .before .before .loop-test .taken) (c .before .before .before .char-at .ensures) .most, char-step _ _ _ (c .before .before .before .before .loop-test .taken) (c .before .before .before .char-at .ensures) .least)
 
--- src/lib.rt:103:5
+-- src/lib.rt:113:5
 loop-again : tie.Need-loop-again Inv-loop μ-loop
 loop-again c = going-on (c .before .before .before .before .before .loop .inv) _ (c .before .before .before .before .loop-test .taken) (c .before .before .before .char-at .ensures) (letter-none _ (c .before .before .is-alphabetic .ensures) (c .before .if1 .left))
 
--- src/lib.rt:98:1
+-- src/lib.rt:108:1
 returns-2 : tie.Need-returns-2 Inv-loop μ-loop
 returns-2 c = going-end (c .before .loop .inv) (c .loop-test .left)
 

@@ -20,35 +20,35 @@ Inv-loop s at i₀ i = Going isDigitOrPoint s at i
 abbrev μ-loop : tie.MeasureT-loop
 μ-loop s at i₀ i = length s - i
 
--- src/lib.rt:55:5
+-- src/lib.rt:65:5
 loop-holds : tie.Need-loop-holds Inv-loop μ-loop
 loop-holds c = going-start _ _ _ (c .before .pre .0) (c .before .pre .1)
 
--- src/lib.rt:56:13
+-- src/lib.rt:66:13
 char-at-requires : tie.Need-char-at-requires Inv-loop μ-loop
 char-at-requires c κs = search needs
 
--- src/lib.rt:57:13
+-- src/lib.rt:67:13
 is-digit-or-point-requires : tie.Need-is-digit-or-point-requires Inv-loop μ-loop
 is-digit-or-point-requires c κs = search needs
 
--- src/lib.rt:58:13
+-- src/lib.rt:68:13
 returns : tie.Need-returns Inv-loop μ-loop
 returns c = going-stop (c .before .before .before .before .loop .inv) _ (c .before .before .before .loop-test .taken) (c .before .before .char-at .ensures) (sym (c .before .is-digit-or-point .ensures) ∙ not-true _ (c .if1 .taken))
 
--- src/lib.rt:60:9
+-- src/lib.rt:70:9
 add-i : tie.Need-add-i Inv-loop μ-loop
 add-i c = omega (arith, char-step _ _ _ (c .before .before .before .before .loop-test .taken) (c .before .before .before .char-at .ensures) .most)
 
--- src/lib.rt:55:5
+-- src/lib.rt:65:5
 loop-less : tie.Need-loop-less Inv-loop μ-loop
 loop-less c = omega (arith, char-step _ _ _ (c .before .before .before .before .loop-test .taken) (c .before .before .before .char-at .ensures) .most, char-step _ _ _ (c .before .before .before .before .loop-test .taken) (c .before .before .before .char-at .ensures) .least)
 
--- src/lib.rt:55:5
+-- src/lib.rt:65:5
 loop-again : tie.Need-loop-again Inv-loop μ-loop
 loop-again c = going-on (c .before .before .before .before .before .loop .inv) _ (c .before .before .before .before .loop-test .taken) (c .before .before .before .char-at .ensures) (sym (c .before .before .is-digit-or-point .ensures) ∙ not-false _ (c .before .if1 .left))
 
--- src/lib.rt:50:1
+-- src/lib.rt:60:1
 returns-2 : tie.Need-returns-2 Inv-loop μ-loop
 returns-2 c = going-end (c .before .loop .inv) (c .loop-test .left)
 

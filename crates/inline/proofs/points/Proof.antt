@@ -16,39 +16,39 @@ Inv-loop s n₀ i₀ n i = Pointed s n i
 abbrev μ-loop : tie.MeasureT-loop
 μ-loop s n₀ i₀ n i = length s - i
 
--- src/lib.rt:119:5
+-- src/lib.rt:129:5
 loop-holds : tie.Need-loop-holds Inv-loop μ-loop
 loop-holds c = pointed-start _
 
--- src/lib.rt:120:13
+-- src/lib.rt:130:13
 char-at-requires : tie.Need-char-at-requires Inv-loop μ-loop
 char-at-requires c κs = search needs
 
--- src/lib.rt:121:9
+-- src/lib.rt:131:9
 add-i : tie.Need-add-i Inv-loop μ-loop
 add-i c = omega (arith, char-step _ _ _ (c .before .before .loop-test .taken) (c .before .char-at .ensures) .most)
 
--- src/lib.rt:123:13
+-- src/lib.rt:133:13
 add-n : tie.Need-add-n Inv-loop μ-loop
 add-n c = omega (arith, c .before .before .before .before .before .loop .inv .few)
 
--- src/lib.rt:119:5
+-- src/lib.rt:129:5
 loop-less : tie.Need-loop-less Inv-loop μ-loop
 loop-less c = omega (arith, char-step _ _ _ (c .before .before .before .before .loop-test .taken) (c .before .before .before .char-at .ensures) .most, char-step _ _ _ (c .before .before .before .before .loop-test .taken) (c .before .before .before .char-at .ensures) .least)
 
--- src/lib.rt:119:5
+-- src/lib.rt:129:5
 loop-again : tie.Need-loop-again Inv-loop μ-loop
 loop-again c = point-next (c .before .before .before .before .before .loop .inv) _ (c .before .before .before .before .loop-test .taken) (c .before .before .before .char-at .ensures) (c .if1 .taken)
 
--- src/lib.rt:119:5
+-- src/lib.rt:129:5
 loop-less-2 : tie.Need-loop-less-2 Inv-loop μ-loop
 loop-less-2 c = omega (arith, char-step _ _ _ (c .before .before .before .before .loop-test .taken) (c .before .before .before .char-at .ensures) .most, char-step _ _ _ (c .before .before .before .before .loop-test .taken) (c .before .before .before .char-at .ensures) .least)
 
--- src/lib.rt:119:5
+-- src/lib.rt:129:5
 loop-again-2 : tie.Need-loop-again-2 Inv-loop μ-loop
 loop-again-2 c = other-next (c .before .before .before .before .before .loop .inv) _ (c .before .before .before .before .loop-test .taken) (c .before .before .before .char-at .ensures) (c .if1 .left)
 
--- src/lib.rt:114:1
+-- src/lib.rt:124:1
 returns : tie.Need-returns Inv-loop μ-loop
 returns c = pointed-end (c .before .loop .inv) (c .loop-test .left)
 
