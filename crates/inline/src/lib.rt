@@ -12,7 +12,7 @@ ghost use Rattle.rules.specs.Utf8.{chars};
 ghost use Rattle.content.specs.Contents.{contentIn};
 ghost use Rattle.content.specs.Parts.{Field};
 ghost use Rattle.rules.specs.Text.{isNotAlphabetic};
-ghost use Rattle.rules.specs.Inline.{isNoDigit, isDigitOrPoint, points as pointsIn, inlinePieces};
+ghost use Rattle.rules.specs.Inline.{isNoDigit, isDigitOrPoint, points as pointsIn};
 ghost use Rattle.unicode.specs.Tables.{unicodeTables};
 ghost use Rattle.inline.specs.Scans.{isNotWhite, part, Front, SignAt, UnitPart};
 ghost use Rattle.inline.specs.Found.{InlineAt};
@@ -213,28 +213,24 @@ pub fn find_inline_quantity(t: &[u32], units: &[u8], s: &[u8], from: usize) -> I
         if points(&s[digit..number_to]) <= 1 {
             let mut at = 0;
             while at < units.len() {
-                let u = units::unit_at(units, at);
-                match u {
-                    units::UnitAt::End => {
-                        break;
-                    }
-                    units::UnitAt::Unit {
-                        name_end,
-                        next,
-                        physical: _,
-                    } => {
-                        if is_unit(units, at, name_end, &s[unit_from..unit_to]) {
-                            break 'numbers Inline::Found {
-                                number_from,
-                                number_to,
-                                unit_from,
-                                unit_to,
-                                after,
-                            };
-                        }
-                        at = next;
-                    }
+                let units::UnitAt::Unit {
+                    name_end,
+                    next,
+                    physical: _,
+                } = units::unit_at(units, at)
+                else {
+                    break;
+                };
+                if is_unit(units, at, name_end, &s[unit_from..unit_to]) {
+                    break 'numbers Inline::Found {
+                        number_from,
+                        number_to,
+                        unit_from,
+                        unit_to,
+                        after,
+                    };
                 }
+                at = next;
             }
         }
         i = after;
@@ -259,7 +255,7 @@ fn text_items(from: usize, to: usize) -> usize
 
 pub fn count_items(t: &[u32], units: &[u8], s: &[u8]) -> Counts
     requires { ⌜ (now t ≡ unicodeTables) × (isSome (readUnits (now units)) ≡ true) × (Field (now s)) ⌝ }
-    ensures { λ r. ⌜ CountsOf (inlinePieces (unitsOr (readUnits (now (units .entry)))) (contentIn (now (s .entry)))) r ⌝ }
+    ensures { λ r. ⌜ CountsOf (unitsOr (readUnits (now (units .entry)))) (now (s .entry)) r ⌝ }
 {
     let mut items = 0;
     let mut quantities = 0;

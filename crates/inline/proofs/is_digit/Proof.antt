@@ -6,11 +6,11 @@ use Rattle.inline.proofs.is_digit.Tie as tie
 use Rattle.inline.proofs.is_digit.Reads as reads
 use Rattle.inline.proofs.is_digit.Lts as lts
 
--- src/lib.rt:13:9
+-- src/lib.rt:29:9
 returns : tie.Need-returns
 returns c = sym (within-low _ _ _ (c .if1 .taken))
 
--- src/lib.rt:9:1
+-- src/lib.rt:25:1
 returns-2 : tie.Need-returns-2
 returns-2 c = rw (le-leb _ _ (c .if1 .left))
 

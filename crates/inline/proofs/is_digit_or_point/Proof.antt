@@ -7,15 +7,15 @@ use Rattle.inline.proofs.is_digit_or_point.Reads as reads
 use Rattle.inline.proofs.is_digit_or_point.Lts as lts
 use Rattle.inline.proofs.is_digit.Reads as is-digit-reads
 
--- src/lib.rt:27:8
+-- src/lib.rt:37:8
 is-digit-requires : tie.Need-is-digit-requires
 is-digit-requires c κs = search needs
 
--- src/lib.rt:28:9
+-- src/lib.rt:38:9
 returns : tie.Need-returns
 returns c = digit-passes _ (c .before .is-digit .ensures) (c .if1 .taken)
 
--- src/lib.rt:24:1
+-- src/lib.rt:34:1
 returns-2 : tie.Need-returns-2
 returns-2 c = point-passes _ (c .before .is-digit .ensures) (c .if1 .left)
 

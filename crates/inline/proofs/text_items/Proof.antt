@@ -5,11 +5,11 @@ use Rattle.inline.proofs.text_items.Tie as tie
 use Rattle.inline.proofs.text_items.Reads as reads
 use Rattle.inline.proofs.text_items.Lts as lts
 
--- src/lib.rt:244:9
+-- src/lib.rt:240:9
 returns : tie.Need-returns
 returns c = items-yes _ _ (c .if1 .taken)
 
--- src/lib.rt:240:1
+-- src/lib.rt:236:1
 returns-2 : tie.Need-returns-2
 returns-2 c = items-no _ _ (c .if1 .left)
 
