@@ -132,5 +132,9 @@ next-at s at h e (at-first {f = f} r w) =
 pub field-within : (s : List ℕ) (at : ℕ) → at ≤ length s → at + length (fieldAt s at) ≤ length s
 field-within s at h = next-at s at h refl (cut tab (drop at s)) .within
 
+-- the same of a field that was read
+pub field-to : (s : List ℕ) (at : ℕ) {f : List ℕ} → f ≡ fieldAt s at → at ≤ length s → at + length f ≤ length s
+field-to s at e h = rw e (field-within s at h)
+
 pub fields-next : (s : List ℕ) (at : ℕ) → at ≤ length s → fieldsFrom s at ≡ fieldAt s at ∷ fieldsFrom s (at + length (fieldAt s at) + 1)
 fields-next s at h = next-at s at h refl (cut tab (drop at s)) .next
