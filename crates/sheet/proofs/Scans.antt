@@ -104,9 +104,14 @@ fields-at : (s : List ℕ) (at : ℕ) → at ≤ length s → fieldsFrom s at �
 unfolding fieldsFrom fieldsOf
 fields-at s at h = rw (le-leb at (length s) h)
 
-fields-past : (s : List ℕ) (at : ℕ) → length s < at → fieldsFrom s at ≡ []
+pub fields-past : (s : List ℕ) (at : ℕ) → length s < at → fieldsFrom s at ≡ []
 unfolding fieldsFrom
 fields-past s at h = rw (lt-leb at (length s) h)
+
+-- from its start on they are all of a line's fields
+pub fields-start : (s : List ℕ) → fieldsFrom s 0 ≡ fieldsOf s
+unfolding fieldsFrom
+fields-start s = rw (le-leb 0 (length s) (omega arith))
 
 -- the fields of a line, one after the other: f is the one that starts at `at`
 record Next (s : List ℕ) (at : ℕ) (f : List ℕ) : Type 0 where
