@@ -72,12 +72,6 @@ fn duplicate_number(w: DuplicateWord) -> u32 {
     }
 }
 
-// A tab and a number.
-fn put_next(out: &mut [u8], at: usize, n: u32) -> usize {
-    let a = output::put_byte(out, at, b'\t');
-    output::put_decimal(out, a, n)
-}
-
 // A tab and a word.
 fn put_told(out: &mut [u8], at: usize, w: &[u8]) -> usize {
     let a = output::put_byte(out, at, b'\t');
@@ -86,21 +80,21 @@ fn put_told(out: &mut [u8], at: usize, w: &[u8]) -> usize {
 
 // What the field is as a word of each table.
 fn put_words(out: &mut [u8], at: usize, f: &[u8]) -> usize {
-    let a = put_next(out, at, event_number(sheet::event_word(f)));
-    let b = put_next(out, a, block_number(sheet::block_kind(f)));
-    put_next(out, b, value_number(sheet::value_kind(f)))
+    let a = output::put_number(out, at, event_number(sheet::event_word(f)));
+    let b = output::put_number(out, a, block_number(sheet::block_kind(f)));
+    output::put_number(out, b, value_number(sheet::value_kind(f)))
 }
 
 fn put_config_words(out: &mut [u8], at: usize, f: &[u8]) -> usize {
-    let a = put_next(out, at, key_number(sheet::config_key(f)));
-    let b = put_next(out, a, define_number(sheet::define_mode(f)));
-    put_next(out, b, duplicate_number(sheet::duplicate_mode(f)))
+    let a = output::put_number(out, at, key_number(sheet::config_key(f)));
+    let b = output::put_number(out, a, define_number(sheet::define_mode(f)));
+    output::put_number(out, b, duplicate_number(sheet::duplicate_mode(f)))
 }
 
 // What it is as a number.
 fn put_number(out: &mut [u8], at: usize, f: &[u8]) -> usize {
     match sheet::read_number(f) {
-        Number::Value(n) => put_next(out, at, n),
+        Number::Value(n) => output::put_number(out, at, n),
         Number::Bad => put_told(out, at, b"bad"),
     }
 }
@@ -108,7 +102,7 @@ fn put_number(out: &mut [u8], at: usize, f: &[u8]) -> usize {
 // What it is as a number with a sign.
 fn put_signed(out: &mut [u8], at: usize, f: &[u8]) -> usize {
     match sheet::read_signed(f) {
-        Signed::Plus(n) => put_next(out, at, n),
+        Signed::Plus(n) => output::put_number(out, at, n),
         Signed::Minus(n) => {
             let a = put_told(out, at, b"-");
             output::put_decimal(out, a, n)
@@ -127,7 +121,7 @@ fn put_well(out: &mut [u8], at: usize, f: &[u8]) -> usize {
 
 fn put_answer(out: &mut [u8], at: usize, r: Unescaped) -> usize {
     match r {
-        Unescaped::Done(n) => put_next(out, at, length_number(n)),
+        Unescaped::Done(n) => output::put_number(out, at, length_number(n)),
         Unescaped::Ill => put_told(out, at, b"ill"),
         Unescaped::NoRoom => put_told(out, at, b"no room"),
     }
@@ -141,7 +135,7 @@ fn length_number(n: usize) -> u32 {
 // How many bytes it has without its escapes.
 fn put_length(out: &mut [u8], at: usize, f: &[u8]) -> usize {
     match sheet::unescaped_len(f) {
-        Length::Len(n) => put_next(out, at, length_number(n)),
+        Length::Len(n) => output::put_number(out, at, length_number(n)),
         Length::Ill => put_told(out, at, b"ill"),
     }
 }
