@@ -79,10 +79,10 @@ pub record Lent : Type 0 where
 
 -- "work memory shorter than the sizes in docs/, which the limits alone fix" (docs/MEMORY.md)
 unfoldable pub wordsNeeded : ℕ
-wordsNeeded = 65536
+wordsNeeded = 24157
 
 unfoldable pub bytesNeeded : ℕ
-bytesNeeded = 262144
+bytesNeeded = 65536
 
 unfoldable pub isShort : Lent → Bool
 isShort m = ltb (m .words) wordsNeeded || ltb (m .bytes) bytesNeeded
