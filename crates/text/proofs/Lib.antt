@@ -1,0 +1,5 @@
+pub mod Ends
+pub mod Trims
+pub mod Walks
+pub mod Retains
+pub mod Names

@@ -1,0 +1,97 @@
+use borrow.Author.Needs.{needs}
+use native.Mathlib.Omega.{arith}
+use Prim.Native.Nat.{_-_}
+use lib.ListN.{length, drop}
+use Rattle.rules.specs.Text.{retain}
+use Rattle.output.proofs.Puts.{Leads, starts, turn, step, ends-in, ends-out}
+use Rattle.text.proofs.Retains.{retain-goes, retain-stays, retain-none}
+use mathlib.Core.Path.{refl}
+use Rattle.text.proofs.put_retained.Statement.{statement}
+use Rattle.text.proofs.put_retained.Tie as tie
+use Rattle.text.proofs.put_retained.Reads as reads
+use Rattle.text.proofs.put_retained.Lts as lts
+use Rattle.output.proofs.put_byte.Reads as put-byte-reads
+use Rattle.text.proofs.goes.Reads as goes-reads
+
+abbrev Inv-loop : tie.InvT-loop
+Inv-loop out₀ at w n₀ i₀ prev₀ out n i prev = Leads (retain 32 w) out₀ at (retain prev (drop i w)) out n
+
+abbrev μ-loop : tie.MeasureT-loop
+μ-loop out₀ at w n₀ i₀ prev₀ out n i prev = length w - i
+
+-- src/lib.rt:109:5
+loop-holds : tie.Need-loop-holds Inv-loop μ-loop
+loop-holds c = starts
+
+-- src/lib.rt:110:17
+shared-slice-read-b : tie.Need-shared-slice-read-b Inv-loop μ-loop
+shared-slice-read-b c = search needs
+
+-- src/lib.rt:111:13
+goes-requires : tie.Need-goes-requires Inv-loop μ-loop
+goes-requires c κs = search needs
+
+-- src/lib.rt:113:9
+add-i : tie.Need-add-i Inv-loop μ-loop
+add-i c = search needs
+
+-- src/lib.rt:115:13
+put-byte-requires : tie.Need-put-byte-requires Inv-loop μ-loop
+put-byte-requires c κs = search needs
+
+-- src/lib.rt:109:5
+loop-less : tie.Need-loop-less Inv-loop μ-loop
+loop-less c = search needs
+
+-- src/lib.rt:109:5
+loop-again : tie.Need-loop-again Inv-loop μ-loop
+loop-again c = step _ (turn (retain-stays _ _ _ _ _ (c .before .before .before .before .before .before .before .loop-test .taken) refl (c .before .before .before .before .before .goes .ensures) (c .before .before .before .before .if1 .taken)) (c .before .before .before .before .before .before .before .before .loop .inv)) (c .before .before .put-byte .ensures)
+
+-- src/lib.rt:109:5
+loop-less-2 : tie.Need-loop-less-2 Inv-loop μ-loop
+loop-less-2 c = search needs
+
+-- src/lib.rt:109:5
+loop-again-2 : tie.Need-loop-again-2 Inv-loop μ-loop
+loop-again-2 c = turn (retain-goes _ _ _ _ _ (c .before .before .before .loop-test .taken) refl (c .before .goes .ensures) (c .if1 .left)) (c .before .before .before .before .loop .inv)
+
+-- src/lib.rt:118:36
+add-result : tie.Need-add-result Inv-loop μ-loop
+add-result c = search needs
+
+-- src/lib.rt:103:1
+same-length : tie.Need-same-length Inv-loop μ-loop
+same-length c = search needs
+
+-- src/lib.rt:103:1
+returns : tie.Need-returns Inv-loop μ-loop
+returns c = ends-in (turn (retain-none _ _ _ (c .before .loop-test .left)) (c .before .before .loop .inv)) (c .if2 .taken)
+
+-- src/lib.rt:103:1
+same-length-2 : tie.Need-same-length-2 Inv-loop μ-loop
+same-length-2 c = search needs
+
+-- src/lib.rt:103:1
+returns-2 : tie.Need-returns-2 Inv-loop μ-loop
+returns-2 c = ends-out (turn (retain-none _ _ _ (c .before .loop-test .left)) (c .before .before .loop .inv)) (c .if2 .left)
+
+pub put-retained-spec : {M : Type 1} → statement M
+put-retained-spec =
+    tie.close
+    (tie.spec
+    Inv-loop
+    μ-loop
+    loop-holds
+    shared-slice-read-b
+    goes-requires
+    add-i
+    put-byte-requires
+    loop-less
+    loop-again
+    loop-less-2
+    loop-again-2
+    add-result
+    same-length
+    returns
+    same-length-2
+    returns-2)

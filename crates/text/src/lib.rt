@@ -1,0 +1,262 @@
+// Texts in UTF-8, or any bytes: trimming, and names that are folded as they are read. The Unicode tables are lent.
+use unicode::Folded;
+ghost use mathlib.Core.Path.{_≡_};
+ghost use mathlib.Core.Bool.{_&&_};
+ghost use Prim.Native.Nat.{_≤_, _-_};
+ghost use lib.Dec.{eqb};
+ghost use lib.ListN.{length, drop, take};
+ghost use Rattle.rules.specs.Basic.{blank};
+ghost use Rattle.rules.specs.Text.{retain, trimMatches};
+ghost use Rattle.rules.specs.Unicode.{sameName};
+ghost use Rattle.rules.specs.Utf8.{chars};
+ghost use Rattle.unicode.specs.Tables.{unicodeTables};
+ghost use Rattle.output.specs.Put.{Put};
+ghost use Rattle.text.specs.Trims.{dropsOf, bytesStart, bytesEnd, TrimmedBy, TrimmedTo, UnitTrimmedTo, PutTrimmed};
+ghost use Rattle.text.specs.Names.{startCursor, stepOf, foldFrom, rest, told};
+
+// Which characters a trimming drops at both ends.
+enum Dropped {
+    White,
+    NotAlphabetic,
+}
+
+fn is_dropped(t: &[u32], d: Dropped, c: u32) -> bool
+    requires { ⌜ now t ≡ unicodeTables ⌝ }
+    ensures { λ r. ⌜ r ≡ dropsOf d c ⌝ }
+{
+    match d {
+        Dropped::White => unicode::is_white_space(t, c),
+        Dropped::NotAlphabetic => !unicode::is_alphabetic(t, c),
+    }
+}
+
+// The place of the first character that stays.
+fn start_of(t: &[u32], s: &[u8], d: Dropped) -> usize
+    requires { ⌜ now t ≡ unicodeTables ⌝ }
+    ensures { λ r. ⌜ (r ≤ length (now (s .entry))) × (drop r (now (s .entry)) ≡ bytesStart (dropsOf d) 0 (now (s .entry))) ⌝ }
+{
+    let mut at = 0;
+    while at < s.len() {
+        let c = utf8::char_at(s, at);
+        if !is_dropped(t, d, c.code) {
+            return at;
+        }
+        at += c.size;
+    }
+    at
+}
+
+// The place after the last character that stays, from a place on.
+fn end_of(t: &[u32], s: &[u8], start: usize, d: Dropped) -> usize
+    requires { ⌜ (now t ≡ unicodeTables) × (start ≤ length (now s)) ⌝ }
+    ensures { λ r. ⌜ (start ≤ r) × (r ≤ length (now (s .entry))) × (take (r - start) (drop start (now (s .entry))) ≡ bytesEnd (dropsOf d) 0 (drop start (now (s .entry)))) ⌝ }
+{
+    let mut end = start;
+    let mut at = start;
+    while at < s.len() {
+        let c = utf8::char_at(s, at);
+        at += c.size;
+        if !is_dropped(t, d, c.code) {
+            end = at;
+        }
+    }
+    end
+}
+
+// The text without what is dropped at its ends.
+fn trimmed<'a>(t: &[u32], s: &'a [u8], d: Dropped) -> &'a [u8]
+    requires { ⌜ now t ≡ unicodeTables ⌝ }
+    ensures { λ r. ⌜ TrimmedBy (trimMatches (dropsOf d)) (now (s .entry)) (now r) ⌝ }
+{
+    let a = start_of(t, s, d);
+    let e = end_of(t, s, a, d);
+    &s[a..e]
+}
+
+// The text without White_Space at its ends.
+pub fn text_outer_trimmed<'a>(t: &[u32], s: &'a [u8]) -> &'a [u8]
+    requires { ⌜ now t ≡ unicodeTables ⌝ }
+    ensures { λ r. ⌜ TrimmedTo (now (s .entry)) (now r) ⌝ }
+{
+    trimmed(t, s, Dropped::White)
+}
+
+// The text without what is not Alphabetic at its ends.
+pub fn unit_trimmed<'a>(t: &[u32], s: &'a [u8]) -> &'a [u8]
+    requires { ⌜ now t ≡ unicodeTables ⌝ }
+    ensures { λ r. ⌜ UnitTrimmedTo (now (s .entry)) (now r) ⌝ }
+{
+    trimmed(t, s, Dropped::NotAlphabetic)
+}
+
+// Whether the byte b goes after the byte prev.
+fn goes(b: u8, prev: u8) -> bool
+    ensures { λ r. ⌜ r ≡ (eqb b blank && eqb prev blank) ⌝ }
+{
+    if b == 32 {
+        return prev == 32;
+    }
+    false
+}
+
+// The bytes w, and of blanks that follow one another only the first; at the front none.
+fn put_retained(out: &mut [u8], at: usize, w: &[u8]) -> usize
+    ensures { λ r. ⌜ Put (retain blank (now (w .entry))) (now (out .entry)) at (now (out .exit)) r ⌝ }
+{
+    let mut n = at;
+    let mut i = 0;
+    let mut prev = 32;
+    while i < w.len() {
+        let b = w[i];
+        let gone = goes(b, prev);
+        prev = b;
+        i += 1;
+        if !gone {
+            n = output::put_byte(out, n, b);
+        }
+    }
+    if n <= out.len() { n } else { out.len() + 1 }
+}
+
+// The text trimmed at its ends and with single blanks.
+pub fn put_text_trimmed(t: &[u32], out: &mut [u8], at: usize, s: &[u8]) -> usize
+    requires { ⌜ now t ≡ unicodeTables ⌝ }
+    ensures { λ r. ⌜ PutTrimmed (now (s .entry)) (now (out .entry)) at (now (out .exit)) r ⌝ }
+{
+    let w = text_outer_trimmed(t, s);
+    put_retained(out, at, w)
+}
+
+// Folded code points that were not given yet.
+pub enum Pending {
+    Nothing,
+    One(u32),
+    Two(u32, u32),
+}
+
+// A place in a text that is folded as it is read.
+pub struct Cursor {
+    pub at: usize,
+    pub pending: Pending,
+}
+
+// A folded code point and where to go on, or the end of the text.
+pub enum Step {
+    Code(u32, Cursor),
+    End,
+}
+
+pub fn start() -> Cursor
+    ensures { λ r. ⌜ r ≡ startCursor ⌝ }
+{
+    Cursor {
+        at: 0,
+        pending: Pending::Nothing,
+    }
+}
+
+// The first of a folding's code points, with the others pending, before the text from at on.
+fn emit(f: Folded, at: usize) -> Step
+    ensures { λ r. ⌜ r ≡ stepOf f at ⌝ }
+{
+    match f {
+        Folded::One(a) => Step::Code(
+            a,
+            Cursor {
+                at,
+                pending: Pending::Nothing,
+            },
+        ),
+        Folded::Two(a, b) => Step::Code(
+            a,
+            Cursor {
+                at,
+                pending: Pending::One(b),
+            },
+        ),
+        Folded::Three(a, b, c) => Step::Code(
+            a,
+            Cursor {
+                at,
+                pending: Pending::Two(b, c),
+            },
+        ),
+    }
+}
+
+// The first folded code point of the text from at on.
+fn fresh(t: &[u32], s: &[u8], at: usize) -> Step
+    requires { ⌜ now t ≡ unicodeTables ⌝ }
+    ensures { λ r. ⌜ told (now (s .entry)) r ≡ foldFrom (now (s .entry)) at ⌝ }
+{
+    if s.len() <= at {
+        return Step::End;
+    }
+    let c = utf8::char_at(s, at);
+    emit(unicode::fold(t, c.code), at + c.size)
+}
+
+// The next folded code point.
+pub fn next_folded(t: &[u32], s: &[u8], c: Cursor) -> Step
+    requires { ⌜ now t ≡ unicodeTables ⌝ }
+    ensures { λ r. ⌜ told (now (s .entry)) r ≡ rest (now (s .entry)) c ⌝ }
+{
+    let at = c.at;
+    let p = c.pending;
+    match p {
+        Pending::Nothing => fresh(t, s, at),
+        Pending::One(x) => Step::Code(
+            x,
+            Cursor {
+                at,
+                pending: Pending::Nothing,
+            },
+        ),
+        Pending::Two(x, y) => Step::Code(
+            x,
+            Cursor {
+                at,
+                pending: Pending::One(y),
+            },
+        ),
+    }
+}
+
+// Whether two texts have the same folding.
+pub fn same_name(t: &[u32], a: &[u8], b: &[u8]) -> bool
+    requires { ⌜ now t ≡ unicodeTables ⌝ }
+    ensures { λ r. ⌜ r ≡ sameName (chars (now (a .entry))) (chars (now (b .entry))) ⌝ }
+{
+    let mut i = start();
+    let mut j = start();
+    loop {
+        let p = next_folded(t, a, i);
+        let q = next_folded(t, b, j);
+        match p {
+            Step::End => {
+                match q {
+                    Step::End => {
+                        return true;
+                    }
+                    Step::Code(_, _) => {
+                        return false;
+                    }
+                }
+            }
+            Step::Code(x, k) => {
+                match q {
+                    Step::End => {
+                        return false;
+                    }
+                    Step::Code(y, l) => {
+                        if x != y {
+                            return false;
+                        }
+                        i = k;
+                        j = l;
+                    }
+                }
+            }
+        }
+    }
+}
