@@ -1,10 +1,10 @@
 -- Trimming a list at its end.
 use Prim.Native.Nat.{ℕ}
-use mathlib.Core.Path.{_≡_, refl, sym, ap, _∙_}
+use mathlib.Core.Path.{_≡_, refl, sym}
 use mathlib.Core.Bool.{Bool, true, false, _&&_}
 use mathlib.Core.List.{List, [], _∷_}
 use native.Mathlib.Omega.{arith}
-use Rattle.rules.specs.Basic.{pick, all}
+use Rattle.rules.specs.Basic.{all}
 use Rattle.rules.specs.Text.{trimOnto, trimEnd}
 use Rattle.rules.proofs.Basics.{and-left, and-right, no-truth}
 

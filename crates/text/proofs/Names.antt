@@ -1,8 +1,8 @@
 -- Names that are folded as they are read.
 use Prim.Native.Nat.{ℕ, _≤_, _<_, _+_}
 use mathlib.Core.Path.{_≡_, refl, sym, ap, _∙_}
-use mathlib.Core.Bool.{Bool, true, false}
-use mathlib.Core.List.{List, [], _∷_, _++_}
+use mathlib.Core.Bool.{true, false}
+use mathlib.Core.List.{List, _++_}
 use native.Mathlib.Omega.{arith}
 use borrow.Author.Tests.{eq-eqb, ne-eqb}
 use lib.ListN.{length, drop, drop-of-length-le}
@@ -15,7 +15,6 @@ use Rattle.unicode.specs.Folded.{foldedOf}
 use Rattle.utf8.specs.declared.Char.{Char}
 use Rattle.utf8.specs.Reading.{charOf}
 use Rattle.utf8.proofs.Steps.{char-step}
-use Rattle.text.specs.declared.Pending.{Pending}
 use Rattle.text.specs.declared.Pending.the-variants.{Nothing, One, Two}
 use Rattle.text.specs.declared.Cursor.{Cursor}
 use Rattle.text.specs.declared.Step.{Step}

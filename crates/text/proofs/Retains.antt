@@ -10,7 +10,7 @@ use lib.Dec.{eqb}
 use lib.ListN.{length, getD, drop, drop-of-length-le}
 use lib.Seq.{drop-cons}
 use Rattle.rules.specs.Basic.{pick, blank}
-use Rattle.rules.specs.Text.{retain, textOuterTrimmed, textTrimmed}
+use Rattle.rules.specs.Text.{retain, textTrimmed}
 use Rattle.rules.specs.Utf8.{firstOf, charOr, followers, charsFrom, chars, isUtf8}
 use Rattle.rules.proofs.Basics.{by-order}
 use Rattle.rules.proofs.Begins.{one, first-some}

@@ -1,17 +1,15 @@
 -- What is trimmed of bytes is trimmed of their code points.
 use Prim.Native.Nat.{ℕ, zero, suc, pred}
 use mathlib.Core.Path.{_≡_, refl, sym, ap, _∙_}
-use mathlib.Core.Bool.{Bool, true, false, _&&_}
+use mathlib.Core.Bool.{Bool, true, false}
 use mathlib.Core.List.{List, [], _∷_, _++_}
 use mathlib.Core.Option.{Option, none, some}
-use native.Mathlib.Nat.{le-of-suc-le-suc}
-use native.Mathlib.Omega.{arith}
-use lib.ListN.{length, take, drop}
+use lib.ListN.{take, drop}
 use Rattle.rules.specs.Basic.{pick, all, isSome}
 use Rattle.rules.specs.Text.{trimStart, trimEnd}
 use Rattle.rules.specs.Utf8.{sizeOf, firstOf, charOr, followers, charsFrom, chars, isUtf8}
 use Rattle.rules.proofs.Basics.{no-some}
-use Rattle.rules.proofs.Begins.{Begins, one, two, three, four, begins, begins-more, first-some, size-1, size-2, size-3, size-4}
+use Rattle.rules.proofs.Begins.{Begins, one, two, three, four, begins, begins-more, first-some, size-2, size-3, size-4}
 use Rattle.rules.proofs.Chars.{wellFrom, well-utf8, starts}
 use Rattle.text.specs.Trims.{bytesStart, bytesEnd}
 use Rattle.text.proofs.Ends.{all-gone, first-stays}
@@ -99,9 +97,6 @@ module _ (drops : ℕ → Bool) where
   end-from (suc k) (a ∷ s) = end-from k s
   end-from zero (a ∷ s) = go (end-from (followers a (firstOf a s)) s) (all drops (chars (a ∷ s))) refl
     where
-      f : ℕ
-      f = followers a (firstOf a s)
-
       go : charsFrom (followers a (firstOf a s)) (bytesEnd drops (followers a (firstOf a s)) s) ≡ trimEnd drops (charsFrom (followers a (firstOf a s)) s)
           → (b : Bool) → all drops (chars (a ∷ s)) ≡ b
           → charsFrom 0 (pick b [] (a ∷ bytesEnd drops (followers a (firstOf a s)) s)) ≡ trimEnd drops (charsFrom 0 (a ∷ s))

@@ -9,9 +9,9 @@ use borrow.Author.Tests.{not-true, not-false}
 use lib.ListN.{length, drop, take, length-drop, length-append, take-append-drop, drop-of-length-le}
 use lib.Seq.{drop-drop, take-add}
 use Rattle.rules.specs.Basic.{pick, all}
-use Rattle.rules.specs.Text.{trimStart, trimEnd, trimMatches, textOuterTrimmed, unitTrimmed, isNotAlphabetic}
+use Rattle.rules.specs.Text.{trimEnd, trimMatches, textOuterTrimmed, unitTrimmed, isNotAlphabetic}
 use Rattle.rules.specs.Unicode.{isWhiteSpace, isAlphabetic}
-use Rattle.rules.specs.Utf8.{firstOf, charOr, followers, charsFrom, chars, isUtf8}
+use Rattle.rules.specs.Utf8.{firstOf, followers, charsFrom, chars}
 use Rattle.utf8.specs.declared.Char.{Char}
 use Rattle.utf8.specs.Reading.{charOf}
 use Rattle.utf8.proofs.Steps.{char-step}

@@ -1,6 +1,4 @@
 use borrow.Author.Needs.{needs}
-use native.Mathlib.Omega.{arith}
-use Prim.Native.Nat.{_-_, _≤_}
 use lib.ListN.{length}
 use Rattle.text.specs.Names.{rest}
 use Rattle.text.proofs.Names.{fewer}

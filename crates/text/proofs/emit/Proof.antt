@@ -1,5 +1,4 @@
 use borrow.Author.Needs.{needs}
-use native.Mathlib.Omega.{arith}
 use Rattle.text.proofs.Names.{emit-1, emit-2, emit-3}
 use Rattle.text.proofs.emit.Statement.{statement}
 use Rattle.text.proofs.emit.Tie as tie

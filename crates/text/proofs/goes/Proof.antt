@@ -1,5 +1,3 @@
-use borrow.Author.Needs.{needs}
-use native.Mathlib.Omega.{arith}
 use Rattle.text.proofs.Retains.{goes-blank, goes-other}
 use Rattle.text.proofs.goes.Statement.{statement}
 use Rattle.text.proofs.goes.Tie as tie

@@ -1,5 +1,4 @@
 use borrow.Author.Needs.{needs}
-use native.Mathlib.Omega.{arith}
 use Rattle.text.proofs.Walks.{dropped-white, dropped-other}
 use Rattle.text.proofs.is_dropped.Statement.{statement}
 use Rattle.text.proofs.is_dropped.Tie as tie

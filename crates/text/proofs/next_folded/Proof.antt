@@ -1,5 +1,4 @@
 use borrow.Author.Needs.{needs}
-use native.Mathlib.Omega.{arith}
 use Rattle.text.proofs.Names.{next-0, next-1, next-2}
 use Rattle.text.proofs.next_folded.Statement.{statement}
 use Rattle.text.proofs.next_folded.Tie as tie

@@ -1,5 +1,4 @@
 use borrow.Author.Needs.{needs}
-use native.Mathlib.Omega.{arith}
 use Rattle.text.proofs.Walks.{trimmed-white}
 use Rattle.text.proofs.text_outer_trimmed.Statement.{statement}
 use Rattle.text.proofs.text_outer_trimmed.Tie as tie

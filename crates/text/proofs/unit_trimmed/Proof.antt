@@ -1,5 +1,4 @@
 use borrow.Author.Needs.{needs}
-use native.Mathlib.Omega.{arith}
 use Rattle.text.proofs.Walks.{trimmed-unit}
 use Rattle.text.proofs.unit_trimmed.Statement.{statement}
 use Rattle.text.proofs.unit_trimmed.Tie as tie
