@@ -11,3 +11,4 @@ pub mod Encodes
 pub mod Ascii
 pub mod Insides
 pub mod Escaped
+pub mod SameChars
