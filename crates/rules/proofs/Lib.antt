@@ -6,3 +6,5 @@ pub mod Chained
 pub mod Sim
 pub mod Search
 pub mod Parts
+pub mod SimWalk
+pub mod Quiet
