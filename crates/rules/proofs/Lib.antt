@@ -8,3 +8,4 @@ pub mod Search
 pub mod Parts
 pub mod SimWalk
 pub mod Quiet
+pub mod Fixed
