@@ -1,5 +1,14 @@
 pub mod Basics
 pub mod KeyTree
+pub mod Fields
+pub mod Numbers
+pub mod Begins
+pub mod Chars
+pub mod Scalars
+pub mod Encodes
+pub mod Ascii
+pub mod Insides
+pub mod Escaped
 pub mod Cases
 pub mod Walks
 pub mod Chained
