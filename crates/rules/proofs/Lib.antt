@@ -18,3 +18,4 @@ pub mod Parts
 pub mod SimWalk
 pub mod Quiet
 pub mod Fixed
+pub mod Given
