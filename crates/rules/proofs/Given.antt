@@ -133,7 +133,7 @@ module _ {A : Type 0} where
 abbrev pub WritesOpt : {A : Type 0} → (A → Fields) → Option A → Fields → Type 0
 WritesOpt w o p = p ≡ raw (optFields w o)
 
-eqList-true : (a b : List ℕ) → eqList a b ≡ true → a ≡ b
+pub eqList-true : (a b : List ℕ) → eqList a b ≡ true → a ≡ b
 unfolding eqList
 eqList-true [] [] q = refl
 eqList-true [] (y ∷ b) q = no-truth q

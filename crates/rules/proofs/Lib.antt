@@ -19,3 +19,4 @@ pub mod SimWalk
 pub mod Quiet
 pub mod Fixed
 pub mod Given
+pub mod Taken
