@@ -20,3 +20,4 @@ pub mod Quiet
 pub mod Fixed
 pub mod Given
 pub mod Taken
+pub mod TakenLine
