@@ -21,3 +21,4 @@ pub mod Fixed
 pub mod Given
 pub mod Taken
 pub mod TakenLine
+pub mod TakenEvent

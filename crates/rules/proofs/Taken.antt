@@ -25,14 +25,14 @@ number-field : (f : List ℕ) (n : ℕ) → GoodField f → numberOf f ≡ some 
 unfolding numberOf
 number-field f n g q = sym (escape-decimal n ∙ decimal-number 65535 n f (omega arith) q)
 
-abbrev numberFields : ℕ → Fields
+abbrev pub numberFields : ℕ → Fields
 numberFields n = decimal n ∷ []
 
 pub gives-number : Gives readNumber (Writes numberFields)
 unfolding readNumber
 gives-number = gives-saying numberOf decimal number-field
 
-two-parts : {a b : Fields} (x y : Fields) → a ≡ raw x → b ≡ raw y → (a ++ (b ++ [])) ≡ raw (x ++ y)
+pub two-parts : {a b : Fields} (x y : Fields) → a ≡ raw x → b ≡ raw y → (a ++ (b ++ [])) ≡ raw (x ++ y)
 two-parts x y p q = rw (p, q, append-nil, raw-both x y)
 
 pub gives-span : Gives readSpan (Writes spanFields)
@@ -87,7 +87,7 @@ word-field {A} w (e ∷ es) h f a g q =
     (λ b p. eqList-true f (e .0) b ∙ h .0 ∙ ap (λ (x : A). escape (w x)) (some-inj p))
     (λ b p. word-field w es (h .1) f a g p) q
 
-gives-word : {A : Type 0} (w : A → List ℕ) (table : List (List ℕ × A)) → AllWords w table → Gives (word table) (Writes (λ a. w a ∷ []))
+pub gives-word : {A : Type 0} (w : A → List ℕ) (table : List (List ℕ × A)) → AllWords w table → Gives (word table) (Writes (λ a. w a ∷ []))
 unfolding word
 gives-word w table h = gives-saying (λ f. wordIn f table) w (word-field w table h)
 

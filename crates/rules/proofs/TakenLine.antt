@@ -163,7 +163,7 @@ component-parts : (x : Component) {a b c d e f g : Fields} → a ≡ raw (spanFi
 unfolding namedFields each
 component-parts x ha hb hc hd he hf hg = rw (ha, hb, hc, hd, he, hf, hg) (simp (raw-both, append-assoc, append-nil))
 
-at-raw : {A : Type 0} {r : Reader A} {p : Fields} {a : A} (fs : Fields) → p ≡ raw fs → Back r p a → Back r (raw fs) a
+pub at-raw : {A : Type 0} {r : Reader A} {p : Fields} {a : A} (fs : Fields) → p ≡ raw fs → Back r p a → Back r (raw fs) a
 at-raw {A} {r} {p} {a} fs q b = subst (λ (x : Fields). Back r x a) q b
 
 pub record TakenComponent (c : Component) (p : Fields) : Type 0 where
