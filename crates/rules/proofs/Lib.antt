@@ -22,3 +22,4 @@ pub mod Given
 pub mod Taken
 pub mod TakenLine
 pub mod TakenEvent
+pub mod Parsed
