@@ -23,3 +23,4 @@ pub mod Taken
 pub mod TakenLine
 pub mod TakenEvent
 pub mod Parsed
+pub mod Rewritten

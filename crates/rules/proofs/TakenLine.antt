@@ -40,7 +40,7 @@ empty-is (c ∷ s) q = no-truth q
 abbrev letters : Modifiers → List ℕ
 letters m = when (m .recipe) 64 ++ when (m .ref) 38 ++ when (m .hidden) 45 ++ when (m .opt) 63 ++ when (m .new) 43
 
-five : (a b c d e : List ℕ) → a ++ (b ++ (c ++ (d ++ e))) ≡ a ++ b ++ c ++ d ++ e
+pub five : (a b c d e : List ℕ) → a ++ (b ++ (c ++ (d ++ e))) ≡ a ++ b ++ c ++ d ++ e
 five a b c d e = simp append-assoc
 
 letters-field : (s : List ℕ) (m : Modifiers) → modifierLetters s ≡ some m → s ≡ letters m
