@@ -24,3 +24,4 @@ pub mod TakenLine
 pub mod TakenEvent
 pub mod Parsed
 pub mod Rewritten
+pub mod Kept

@@ -31,7 +31,7 @@ past-leads c (d ∷ s) = go (eqb d c) refl
     go true e = ap (λ (x : ℕ). x ∷ s) (eqb-true d c e)
     go false e = refl
 
-empty-is : (s : List ℕ) → isEmpty s ≡ true → s ≡ []
+pub empty-is : (s : List ℕ) → isEmpty s ≡ true → s ≡ []
 unfolding isEmpty
 empty-is [] q = refl
 empty-is (c ∷ s) q = no-truth q
