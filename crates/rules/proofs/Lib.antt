@@ -25,3 +25,4 @@ pub mod TakenEvent
 pub mod Parsed
 pub mod Rewritten
 pub mod Kept
+pub mod Linked
