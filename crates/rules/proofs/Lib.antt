@@ -26,3 +26,4 @@ pub mod Parsed
 pub mod Rewritten
 pub mod Kept
 pub mod Linked
+pub mod Known
