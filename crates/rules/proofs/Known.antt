@@ -52,11 +52,11 @@ module _ (flags : ℕ) where
   unset true a = refl
   unset false a = refl
 
-  define-same : (e : Event) (earlier : List Event) → modeKey e ≡ none → defineAt flags (e ∷ earlier) ≡ defineAt flags earlier
+  pub define-same : (e : Event) (earlier : List Event) → modeKey e ≡ none → defineAt flags (e ∷ earlier) ≡ defineAt flags earlier
   unfolding defineAt definesBy
   define-same e earlier q = rw q (unset (hasModes flags) (defineAt flags earlier))
 
-  duplicate-same : (e : Event) (earlier : List Event) → modeKey e ≡ none → duplicateAt flags (e ∷ earlier) ≡ duplicateAt flags earlier
+  pub duplicate-same : (e : Event) (earlier : List Event) → modeKey e ≡ none → duplicateAt flags (e ∷ earlier) ≡ duplicateAt flags earlier
   unfolding duplicateAt duplicatesBy
   duplicate-same e earlier q = rw q (unset (hasModes flags) (duplicateAt flags earlier))
 
@@ -64,11 +64,11 @@ module _ (flags : ℕ) where
   unfolding unmarked unmarkedBy
   unmarked-same k e earlier q = rw q
 
-  no-entry : (m : DefineMode) (e : Event) → entryOfLine e ≡ noEntry → entryIn m e ≡ noEntry
+  pub no-entry : (m : DefineMode) (e : Event) → entryOfLine e ≡ noEntry → entryIn m e ≡ noEntry
   unfolding entryIn
   no-entry m e q = pick-either (λ (x : EntryLine). x ≡ noEntry) (isText m) _ _ (λ b. refl) (λ b. q)
 
-  text-entry : (m : DefineMode) (e : Event) → isText m ≡ true → entryIn m e ≡ noEntry
+  pub text-entry : (m : DefineMode) (e : Event) → isText m ≡ true → entryIn m e ≡ noEntry
   unfolding entryIn
   text-entry m e q = rw q
 
@@ -78,16 +78,16 @@ module _ (flags : ℕ) where
   table-is cookware st after i c = c
 
   module _ (earlier : List Event) (st : State) (h : Knows earlier st) (e : Event) where
-    same-tables : entryIn (defineAt flags earlier) e ≡ noEntry → (after : State) → after .tables .ingredients ≡ st .tables .ingredients → after .tables .cookware ≡ st .tables .cookware
+    pub same-tables : entryIn (defineAt flags earlier) e ≡ noEntry → (after : State) → after .tables .ingredients ≡ st .tables .ingredients → after .tables .cookware ≡ st .tables .cookware
         → (k : Kind) → Listed (tableOf k after) (unmarked flags k (e ∷ earlier))
     same-tables x after i c k =
         subst (Listed (tableOf k after)) (sym (unmarked-same k e earlier x))
         (subst (λ (l : List Entry). Listed l (unmarked flags k earlier)) (sym (table-is k st after i c)) (h .tables k))
 
-    same-places : entryIn (defineAt flags earlier) e ≡ noEntry → (k : Kind) → Below (length (e ∷ earlier)) (unmarked flags k (e ∷ earlier))
+    pub same-places : entryIn (defineAt flags earlier) e ≡ noEntry → (k : Kind) → Below (length (e ∷ earlier)) (unmarked flags k (e ∷ earlier))
     same-places x k = subst (Below (suc (length earlier))) (sym (unmarked-same k e earlier x)) (below-up (h .places k))
 
-    knows-same : modeKey e ≡ none → entryIn (defineAt flags earlier) e ≡ noEntry → (after : State) → after .modes ≡ st .modes
+    pub knows-same : modeKey e ≡ none → entryIn (defineAt flags earlier) e ≡ noEntry → (after : State) → after .modes ≡ st .modes
         → after .tables .ingredients ≡ st .tables .ingredients → after .tables .cookware ≡ st .tables .cookware → Agrees (after .place .block) (isText (st .modes .define))
         → Knows (e ∷ earlier) after
     knows-same q x after m i c b =

@@ -27,3 +27,4 @@ pub mod Rewritten
 pub mod Kept
 pub mod Linked
 pub mod Known
+pub mod KnownStep
