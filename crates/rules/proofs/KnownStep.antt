@@ -25,19 +25,19 @@ use Rattle.rules.proofs.Known.{Agrees, Knows, KnowsStep, define-same, d
 
 -- component lines set no mode; which of them are entries
 
-mode-none : (c : ComponentEvent) → modeKey (inside (componentEvent c)) ≡ none
+pub mode-none : (c : ComponentEvent) → modeKey (inside (componentEvent c)) ≡ none
 unfolding modeKey
 mode-none c = refl
 
-entry-ingredient : (c : Component) (i : Option Intermediate) → entryOfLine (inside (componentEvent (ingredientEvent c i))) ≡ entryLine ingredient c
+pub entry-ingredient : (c : Component) (i : Option Intermediate) → entryOfLine (inside (componentEvent (ingredientEvent c i))) ≡ entryLine ingredient c
 unfolding entryOfLine entryOfComponent
 entry-ingredient c i = refl
 
-entry-cookware : (c : Component) → entryOfLine (inside (componentEvent (cookwareEvent c))) ≡ entryLine cookware c
+pub entry-cookware : (c : Component) → entryOfLine (inside (componentEvent (cookwareEvent c))) ≡ entryLine cookware c
 unfolding entryOfLine entryOfComponent
 entry-cookware c = refl
 
-entry-timer : (s : Span) (n : Option Text) (q : Option Quantity) → entryOfLine (inside (componentEvent (timerEvent s n q))) ≡ noEntry
+pub entry-timer : (s : Span) (n : Option Text) (q : Option Quantity) → entryOfLine (inside (componentEvent (timerEvent s n q))) ≡ noEntry
 unfolding entryOfLine entryOfComponent
 entry-timer s n q = refl
 
@@ -170,7 +170,7 @@ module _ (text : List ℕ) (units : List NamedUnit) (flags : ℕ) where
     chained-knows e m after k =
         pick-either (N e) (refersToReference (m .refersTo)) _ _ (λ b. pick-either (N e) (overLimits after) _ _ (λ c. tt) (λ c. tt)) (λ b. k)
 
-    component-knows : (c : ComponentEvent) (is : List Item) → isText (st .modes .define) ≡ false → N (inside (componentEvent c)) (onComponent units flags c is st)
+    pub component-knows : (c : ComponentEvent) (is : List Item) → isText (st .modes .define) ≡ false → N (inside (componentEvent c)) (onComponent units flags c is st)
     unfolding onComponent onMade makeCookware intermediateFault unlessFault
     component-knows (cookwareEvent c) is t =
         chained-knows _ _ _ (pushed-knows cookware _ c _ is (mode-none _) (entry-cookware c) t (by-name-made cookware c st _ (h .tables cookware)))

@@ -28,3 +28,4 @@ pub mod Kept
 pub mod Linked
 pub mod Known
 pub mod KnownStep
+pub mod Faults
