@@ -29,3 +29,4 @@ pub mod Linked
 pub mod Known
 pub mod KnownStep
 pub mod Faults
+pub mod FaultWalk
