@@ -30,3 +30,4 @@ pub mod Known
 pub mod KnownStep
 pub mod Faults
 pub mod FaultWalk
+pub mod Collected
