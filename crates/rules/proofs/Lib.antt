@@ -31,3 +31,4 @@ pub mod KnownStep
 pub mod Faults
 pub mod FaultWalk
 pub mod Collected
+pub mod PlainForm
