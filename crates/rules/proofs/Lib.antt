@@ -32,3 +32,4 @@ pub mod Faults
 pub mod FaultWalk
 pub mod Collected
 pub mod PlainForm
+pub mod PlainCases
