@@ -53,9 +53,11 @@ collected sheet text units flags =
   where
     P : Outcome → Type 0
     P o = isAccepted o ≡ true → Collected sheet text units flags
+
     by-read : ltb 65536 (length sheet) ≡ false → Begins text units flags → (us : List NamedUnit) (r : Reading) → readSheet text sheet ≡ r → P (passed text flags us r)
     by-read b1 b us (unread n l) e q = no-truth q
     by-read b1 b us (events es) e q = record { begins = b; short = b1; read = e ∙ ap (λ (r : Reading). events (eventsOr r)) (sym e) }
+
     by-units : ltb 65536 (length sheet) ≡ false → ltb 65535 (length text) ≡ false → ltb 16384 (length units) ≡ false → isUtf8 text ≡ true
         → (u : Option (List NamedUnit)) → readUnits units ≡ u → P (withUnits text flags sheet u)
     by-units b1 b2 b3 b4 none eu q = no-truth q
@@ -111,6 +113,7 @@ module _ (text : List ℕ) (units : List NamedUnit) (flags : ℕ) where
       over s = unfold unlessOver in
           pick-either (λ (o : Outcome). o ≡ noRecipe fs → any isErrorEvent es ≡ true) (overLimits s) _ _
           (λ b p. absurd (let z : _≡_ {A = ℕ} 0 1 = cc in omega arith)) (λ b p. absurd (let z : _≡_ {A = ℕ} 0 1 = cc in omega arith))
+
       go : (w : Walk) → walk text units flags 1 (going firstState) es ≡ w → finish w ≡ noRecipe fs → any isErrorEvent es ≡ true
       go (going end) p q =
           pick-either (λ (o : Outcome). o ≡ noRecipe fs → any isErrorEvent es ≡ true) (isOpen (end .place .block)) _ _

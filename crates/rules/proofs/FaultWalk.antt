@@ -102,6 +102,7 @@ module _ (text : List ℕ) (units : List NamedUnit) (flags : ℕ) where
     where
       t : Takes line e st
       t = takes line e es st end w
+
       by : NoFaults text units flags (trace (suc line) (t .after) es) → (o : Option ℕ) → plainFault units flags st e ≡ o → LineFault flags earlier e o → NoFaults text units flags (trace line st (e ∷ es))
       by ih none q (clear x) = subst (NoFaults text units flags) (sym (trace-on line e es st t)) (no-fault q ih)
       by ih (some n) q (faulty x) = no-both p x
@@ -131,10 +132,11 @@ module _ (text : List ℕ) (units : List NamedUnit) (flags : ℕ) where
     faults-found (e ∷ es) earlier line st end w h =
         subst (Found earlier line (e ∷ es)) (sym (unless-on line e es st t))
         (by (faults-found es (e ∷ earlier) (suc line) (t .after) end (walk-on line e es st end t w) (next-knows earlier line e st h t))
-         (plainFault units flags st e) (fault-means text units flags earlier st h e (t .after) (t .event)))
+        (plainFault units flags st e) (fault-means text units flags earlier st h e (t .after) (t .event)))
       where
         t : Takes line e st
         t = takes line e es st end w
+
         by : Found (e ∷ earlier) (suc line) es (unlessFaulty units flags whole (trace (suc line) (t .after) es)) → (o : Option ℕ) → LineFault flags earlier e o → Found earlier line (e ∷ es) (faultOr line o (unlessFaulty units flags whole (trace (suc line) (t .after) es)))
         by ih none (clear x) = found-later earlier line e es x ih
         by ih (some n) (faulty x) =
@@ -149,20 +151,24 @@ module _ (text : List ℕ) (units : List NamedUnit) (flags : ℕ) where
       where
         t : Takes line e st
         t = takes line e rest st end w
+
         z : line + length {A = Event} [] ≡ line
         z = omega arith
+
         by : (o : Option ℕ) → LineFault flags earlier e o → faultOr line o (unlessFaulty units flags whole (trace (suc line) (t .after) rest)) ≡ declined n (line + length {A = Event} [])
         by none (clear x) = no-both x f
         by (some m) (faulty x) = unfold faultOr in (ap (λ (k : ℕ). declined k line) (one-fault x f) ∙ ap (declined n) (sym z))
     fault-at (x ∷ before) earlier line n e rest st end w h (every-more p c) f =
         unless-on line x (before ++ (e ∷ rest)) st t
         ∙ by (fault-at before (x ∷ earlier) (suc line) n e rest (t .after) end (walk-on line x (before ++ (e ∷ rest)) st end t w) (next-knows earlier line x st h t) c f)
-          (plainFault units flags st x) (fault-means text units flags earlier st h x (t .after) (t .event))
+        (plainFault units flags st x) (fault-means text units flags earlier st h x (t .after) (t .event))
       where
         t : Takes line x st
         t = takes line x (before ++ (e ∷ rest)) st end w
+
         z : suc line + length before ≡ line + length (x ∷ before)
         z = omega arith
+
         by : unlessFaulty units flags whole (trace (suc line) (t .after) (before ++ (e ∷ rest))) ≡ declined n (suc line + length before) → (o : Option ℕ) → LineFault flags earlier x o
             → faultOr line o (unlessFaulty units flags whole (trace (suc line) (t .after) (before ++ (e ∷ rest)))) ≡ declined n (line + length (x ∷ before))
         by ih none (clear y) = unfold faultOr in (ih ∙ ap (declined n) z)

@@ -199,10 +199,13 @@ module _ (text : List ℕ) (units : List NamedUnit) (flags : ℕ) (earlier : Lis
     where
       e : Event
       e = inside (componentEvent (ingredientEvent c (some i)))
+
       r : c .modifiers .ref ≡ true
       r = no-15 c i _ after q
+
       clean : LineFault flags earlier e none
       clean = not-implicit e unl (ref-explicit e unl ingredient c (entry-here ingredient c e (entry-ingredient c (some i)) t) r)
+
       by : LineFault flags earlier e (implicitFault (newEntry ingredient c st) (tableOf ingredient st) (implicitOf c (makeIngredient units flags c (some i) st .refersTo)))
       by =
           subst (λ (o : Option Earlier). LineFault flags earlier e (implicitFault (newEntry ingredient c st) (tableOf ingredient st) o)) (sym (marked-none c _ r))
@@ -219,7 +222,7 @@ module _ (text : List ℕ) (units : List NamedUnit) (flags : ℕ) (earlier : Lis
   component-fault c (textModeOpen ts) after p q =
       not-implicit (inside (componentEvent c)) (text-unlisted (st .modes .define) (agrees (textModeOpen ts) p))
       (no-line (inside (componentEvent c)) (text-unlisted (st .modes .define) (agrees (textModeOpen ts) p))
-       (text-entry flags (defineAt flags earlier) (inside (componentEvent c)) (ap isText (sym (h .define)) ∙ agrees (textModeOpen ts) p)))
+      (text-entry flags (defineAt flags earlier) (inside (componentEvent c)) (ap isText (sym (h .define)) ∙ agrees (textModeOpen ts) p)))
   component-fault c (stepOpen is) after p q =
       pick-either (LineFault flags earlier (inside (componentEvent c))) (isComponents (st .modes .define)) _ _
       (λ b. faulty (listed is-component (ap isComponents (sym (h .define)) ∙ b)))

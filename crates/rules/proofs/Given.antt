@@ -88,13 +88,14 @@ module _ {A B : Type 0} where
       on : (a : A) (fs' : Fields) → Gave r P fs a fs' → f a fs' ≡ some (b, rest) → Gave (_>>=_ r f) H fs b rest
       on a fs' k q =
           let m : Gave (f a) (λ b x. H b (k .taken ++ x)) fs' b rest =
-              h a (k .taken) (k .says) (k .back) (good-left (k .taken) fs' (subst Good (k .is) s)) fs' b rest q (good-right (k .taken) fs' (subst Good (k .is) s)) in
+          h a (k .taken) (k .says) (k .back) (good-left (k .taken) fs' (subst Good (k .is) s)) fs' b rest q (good-right (k .taken) fs' (subst Good (k .is) s)) in
           record {
             taken = k .taken ++ m .taken;
             is = k .is ∙ ap (λ (l : Fields). k .taken ++ l) (m .is) ∙ sym (append-assoc (k .taken) (m .taken) rest);
             back = after r f (k .taken) (m .taken) a b (k .back) (m .back);
             says = m .says;
           }
+
       go : (o : Option (A × Fields)) → r fs ≡ o → goOn f o ≡ some (b, rest) → Gave (_>>=_ r f) H fs b rest
       go none e q = no-some q
       go (some x) e q = on (x .0) (x .1) (g fs (x .0) (x .1) e s) q
@@ -164,6 +165,7 @@ module _ {A : Type 0} where
     where
       G : Option A → Type 0
       G x = Gave (opt r) (WritesOpt w) (f ∷ fs) x rest
+
       there : (a : A) (rest' : Fields) → eqList f (minus ∷ []) ≡ false → Gave r (Writes w) (f ∷ fs) a rest' → rest' ≡ rest → G (some a)
       there a rest' m k e =
           let (x, xs, z) = n a in
@@ -180,9 +182,11 @@ module _ {A : Type 0} where
           firstOr : Fields → List ℕ
           firstOr [] = []
           firstOr (y ∷ ys) = y
+
       got : eqList f (minus ∷ []) ≡ false → (x : Option (A × Fields)) → r (f ∷ fs) ≡ x → gotOne x ≡ some (o, rest) → G o
       got m none e p = no-some p
       got m (some x) e p = subst G (pair-left p) (there (x .0) (x .1) m (g (f ∷ fs) (x .0) (x .1) e (good-more h s)) (pair-right p))
+
       go : (b : Bool) → eqList f (minus ∷ []) ≡ b → pick b (some (none, fs)) (gotOne (r (f ∷ fs))) ≡ some (o, rest) → G o
       go true m p =
           subst G (pair-left p)

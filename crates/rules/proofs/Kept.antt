@@ -88,8 +88,10 @@ module _ (text : List ℕ) (n : ℕ) where
     where
       P : Reading → Type 0
       P r = r ≡ events es → ReadAs line (more l ls) es
+
       IH : Type 0
       IH = (xs : List Event) → suc line ≤ 4097 → readFrom text n (suc line) ls ≡ events xs → ReadAs (suc line) ls xs
+
       with-good : IH → (e : Event) → parseLine l ≡ some e → all (isGoodSpan text n) (spansOf e) ≡ true → suc line ≤ 4097 → (r : Reading) → readFrom text n (suc line) ls ≡ r → P (withEvent e r)
       with-good ih e g s m (unread a b) k2 p = no-events p
       with-good ih e g s m (events xs) k2 p =
@@ -102,12 +104,13 @@ module _ (text : List ℕ) (n : ℕ) where
             few = omega (arith, t .few);
             writes = ap (λ (x : List ℕ). x ++ sheetOf xs) (parse-writes l e (k .0) g) ∙ append-assoc l (lf ∷ []) (sheetOf xs) ∙ ap (λ (x : List ℕ). l ++ (lf ∷ x)) (t .writes);
           })
+
       go : IH → (o : Option Event) → parseLine l ≡ o → P (readLine text n line o (readFrom text n (suc line) ls))
       go ih none e p = no-events p
       go ih (some x) e p =
           pick-either P (ltb 4096 line) _ _ (λ b r. no-events r)
           (λ b. pick-either P (all (isGoodSpan text n) (spansOf x)) _ _
-           (λ s. with-good ih x e s (let m : line ≤ 4096 = ltb-false 4096 line b in omega arith) (readFrom text n (suc line) ls) refl) (λ s r. no-events r)) p
+          (λ s. with-good ih x e s (let m : line ≤ 4096 = ltb-false 4096 line b in omega arith) (readFrom text n (suc line) ls) refl) (λ s r. no-events r)) p
 
 -- every line of a sheet that was read is what is written of its event
 pub sheet-writes : (text sheet : List ℕ) (es : List Event) → readSheet text sheet ≡ events es → sheetOf es ≡ sheet

@@ -173,11 +173,11 @@ module _ (flags : ℕ) where
   meta-knows earlier st h q k v =
       record {
         define = unfold keyOf defineAt modeKey valueOf in
-          (key-define (hasModes flags) (wordIn (keyText k) configKeys) (isBracketed (keyText k)) k v st
-          ∙ ap (orElse (pick (hasModes flags) (definesBy (wordIn (keyText k) configKeys) (valueText v)) none)) (h .define));
+            (key-define (hasModes flags) (wordIn (keyText k) configKeys) (isBracketed (keyText k)) k v st
+            ∙ ap (orElse (pick (hasModes flags) (definesBy (wordIn (keyText k) configKeys) (valueText v)) none)) (h .define));
         duplicate = unfold keyOf duplicateAt modeKey valueOf in
-          (key-duplicate (hasModes flags) (wordIn (keyText k) configKeys) (isBracketed (keyText k)) k v st
-          ∙ ap (orElse (pick (hasModes flags) (duplicatesBy (wordIn (keyText k) configKeys) (valueText v)) none)) (h .duplicate));
+            (key-duplicate (hasModes flags) (wordIn (keyText k) configKeys) (isBracketed (keyText k)) k v st
+            ∙ ap (orElse (pick (hasModes flags) (duplicatesBy (wordIn (keyText k) configKeys) (valueText v)) none)) (h .duplicate));
         block = no-block _ true _ (ap (λ (p : Place). isOpen (p .block)) (left .place-is) ∙ q);
         tables = same-tables earlier st h e none-here after (ap (λ (t : Tables). t .ingredients) (left .tables-are)) (ap (λ (t : Tables). t .cookware) (left .tables-are));
         places = same-places earlier st h e none-here;
@@ -185,9 +185,12 @@ module _ (flags : ℕ) where
     where
       e : Event
       e = between (metaEvent k v)
+
       after : State
       after = onKey (pick (hasModes flags) (keyOf (keyText k)) ordinary) k v st
+
       left : Left st after
       left = key-left (pick (hasModes flags) (keyOf (keyText k)) ordinary) k v st
+
       none-here : entryIn (defineAt flags earlier) e ≡ noEntry
       none-here = no-entry (defineAt flags earlier) e (unfold entryOfLine in refl)

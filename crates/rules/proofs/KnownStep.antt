@@ -79,8 +79,10 @@ module _ (text : List ℕ) (units : List NamedUnit) (flags : ℕ) where
     where
       new : Entry
       new = newEntry j c st
+
       target : Option Earlier
       target = refersTo (st .modes) new (foundSame new (tableOf j st))
+
       by : {a b : Option Earlier} {x y : Option Unmarked} → Links a b x y → c .modifiers .ref ≡ false → implicitTarget (st .modes .define) (st .modes .duplicate) j c us ≡ x
           → MadeAs (st .modes .define) (st .modes .duplicate) j c us (asReferring j a new)
       by no-link r q =
@@ -90,6 +92,7 @@ module _ (text : List ℕ) (units : List NamedUnit) (flags : ℕ) where
           unfold asReferring setRelation setModifiers withRef isSome in as-marked (by-target (st .modes .define) (st .modes .duplicate) j c us (some _) r q) refl
       by (other-link p g) r q =
           unfold asReferring setRelation setModifiers withRef isSome in as-marked (by-target (st .modes .define) (st .modes .duplicate) j c us (some _) r q) refl
+
       go : (b : Bool) → c .modifiers .ref ≡ b → MadeAs (st .modes .define) (st .modes .duplicate) j c us (asReferring j target new)
       go true r = as-marked (has-ref (st .modes .define) (st .modes .duplicate) j c us r) (referring-ref j target new (unfold newEntry entryOf entryWith in r))
       go false r = by (line-links j c st us r h) r refl
@@ -149,19 +152,22 @@ module _ (text : List ℕ) (units : List NamedUnit) (flags : ℕ) where
             by : (j : Kind) → pushComponent j m is st .modes .define ≡ st .modes .define
             by ingredient = unfold pushComponent pushItems setTable setTables report setBlock setPlace setKept in refl
             by cookware = unfold pushComponent pushItems setTable setTables report setBlock setPlace setKept in refl
+
         modes-duplicate : pushComponent j m is st .modes .duplicate ≡ st .modes .duplicate
         modes-duplicate = by j
           where
             by : (j : Kind) → pushComponent j m is st .modes .duplicate ≡ st .modes .duplicate
             by ingredient = unfold pushComponent pushItems setTable setTables report setBlock setPlace setKept in refl
             by cookware = unfold pushComponent pushItems setTable setTables report setBlock setPlace setKept in refl
+
         opened-step : Agrees (pushComponent j m is st .place .block) (isText (st .modes .define))
         opened-step = unfold pushComponent pushItems report setBlock setPlace setKept in t
+
         made-in : Listed (pushed m (tableOf j st)) (pick (not (isMarked (defineAt flags earlier) (duplicateAt flags earlier) j c (Us j))) (record { place = length earlier; folded = foldedName j c; isOpt = c .modifiers .opt } ∷ Us j) (Us j))
         made-in =
             push-listed (defineAt flags earlier) (duplicateAt flags earlier) j c m (tableOf j st) (Us j) (length earlier) (h .tables j) (h .places j)
             (subst (λ (y : DuplicateMode). MadeAs (defineAt flags earlier) y j c (Us j) (m .entry)) (h .duplicate)
-             (subst (λ (y : DefineMode). MadeAs y (st .modes .duplicate) j c (Us j) (m .entry)) (h .define) a))
+            (subst (λ (y : DefineMode). MadeAs y (st .modes .duplicate) j c (Us j) (m .entry)) (h .define) a))
 
     -- ---- lines in a step
 
@@ -184,8 +190,10 @@ module _ (text : List ℕ) (units : List NamedUnit) (flags : ℕ) where
       where
         e : Event
         e = inside (componentEvent (ingredientEvent c (some i)))
+
         m : Made
         m = makeIngredient units flags c (some i) st
+
         go : (b : Bool) → c .modifiers .ref ≡ b → (n : Bool) → N e (unlessFault (pick {X = Option ℕ} (not b) (some 15) (pick n (some 16) none)) (unlessChained m (pushComponent ingredient m is st)))
         go false r n = tt
         go true r true = tt

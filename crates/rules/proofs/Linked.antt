@@ -95,6 +95,7 @@ module _ (f : List ℕ) (o : Bool) where
     where
       E : Earlier
       E = record { index = length es; entry = e }
+
       go : (x y : Bool) → B es us
           → Both (pick (x && y) (some E) (sameNameIn f false o es)) (pick y (some E) (sameNameIn f true o es)) (pick (x && y) (some u) (lastFitting f o us)) (pick y (some u) (lastNamed f us))
       go true true ih = same-one
@@ -135,7 +136,7 @@ marked-or false new steps refs a q h = chosen new steps refs h
 
 pub line-links : (k : Kind) (c : Component) (st : State) (us : List Unmarked) → c .modifiers .ref ≡ false → Listed (tableOf k st) us
     → Links (refersTo (st .modes) (newEntry k c st) (foundSame (newEntry k c st) (tableOf k st))) (sameNameOf true (newEntry k c st) (tableOf k st))
-      (implicitTarget (st .modes .define) (st .modes .duplicate) k c us) (lastNamed (foldedName k c) us)
+    (implicitTarget (st .modes .define) (st .modes .duplicate) k c us) (lastNamed (foldedName k c) us)
 unfolding refersTo treatAsReference isExplicit foundSame sameNameOf newEntry entryOf entryWith implicitTarget foldedName
 line-links k c st us r h =
     marked-or (c .modifiers .ref) (c .modifiers .new) (isSteps (st .modes .define)) (isReference (st .modes .duplicate)) (λ b. sameNameIn (foldedName k c) b (c .modifiers .opt) (tableOf k st)) r (search-both (foldedName k c) (c .modifiers .opt) h)

@@ -70,8 +70,10 @@ fields-taken fs e rest g q = by-word (word eventWords fs) refl q
   where
     W : Type 0
     W = (fs ≡ raw (eventFields e)) × GoodEvent e
+
     Done : EventWord → Event → Option ((Unit {0}) × Fields) → Type 0
     Done w x o = goOn (λ u. give x) o ≡ some (e, rest) → W
+
     by-end : (w : EventWord) (x : Event) (p gs hs : Fields) → fs ≡ raw (wordFields w) ++ gs → gs ≡ p ++ hs → TakenEvent (wordField w) x p
         → goOn (λ u. give x) (noMore hs) ≡ some (e, rest) → W
     by-end w x p gs (y ∷ hs) z k t q = unfold noMore in no-some q
@@ -79,12 +81,14 @@ fields-taken fs e rest g q = by-word (word eventWords fs) refl q
         let m : x ≡ e = unfold noMore give in ap (λ (o : Event × Fields). o .0) (some-inj q) in
         let n : fs ≡ raw (eventFields x) = unfold each in (z ∙ ap (λ (l : Fields). escape (wordField w) ∷ l) (k ∙ append-nil p) ∙ t .is) in
         subst (λ (y : Event). (fs ≡ raw (eventFields y)) × GoodEvent y) m (n, t .good)
+
     by-after : (w : EventWord) (gs : Fields) → fs ≡ raw (wordFields w) ++ gs → Good gs → (o : Option (Event × Fields)) → readAfter w gs ≡ o
         → goOn (λ x. _>>=_ noMore (λ u. give x)) o ≡ some (e, rest) → W
     by-after w gs z g none k q = no-some q
     by-after w gs z g (some x) k q =
         let t : Gave (readAfter w) (TakenEvent (wordField w)) gs (x .0) (x .1) = gives-after w gs (x .0) (x .1) k g in
         by-end w (x .0) (t .taken) gs (x .1) z (t .is) (t .says) q
+
     by-word : (o : Option (EventWord × Fields)) → word eventWords fs ≡ o → goOn (λ w. _>>=_ (readAfter w) (λ x. _>>=_ noMore (λ u. give x))) o ≡ some (e, rest) → W
     by-word none k q = no-some q
     by-word (some x) k q =
@@ -102,6 +106,7 @@ parse-taken l e n q = by-utf8 (isUtf8 l) refl q
         let g : Good (splitAt tab l) = split-good l u n in
         let t = fields-taken (splitAt tab l) (x .0) (x .1) g k in
         subst (Parsed l) (some-inj q) (record { fields = t .0; parts = t .1; good = subst Good (t .0) g })
+
     by-utf8 : (b : Bool) → isUtf8 l ≡ b → pick b (firstRead (readEvent (splitAt tab l))) none ≡ some e → Parsed l e
     by-utf8 true u q = by-read u (readEvent (splitAt tab l)) refl q
     by-utf8 false u q = no-some q

@@ -1,5 +1,5 @@
 -- Plain forms computed: one that is handed out and differs from its sheet, and each number of the plain form.
-use Prim.Native.Nat.{ℕ}
+use Prim.Native.Nat.{ℕ, zero, suc}
 use mathlib.Core.Path.{_≡_, refl}
 use mathlib.Core.List.{List, [], _∷_, _++_}
 use Rattle.rules.specs.Basic.{codes, concat, each}
@@ -53,7 +53,12 @@ whole = record {
       ∷ codes "start\tstep\n" ∷ codes "cookware\t0\t4\t0\t4\tpot\t-\t-\t-\t.\t0\t0\n" ∷ named (codes "SALT") (codes "&-") ∷ codes "end\tstep\n" ∷ []));
 }
 
--- an `error` line; a component in components mode; an implicit reference to the entry without OPT, where one with OPT is the last
+abbrev times : ℕ → List ℕ → List ℕ
+times zero l = []
+times (suc n) l = l ++ times n l
+
+-- an `error` line; a component in components mode; an implicit reference to the entry without OPT, where one with OPT is the last;
+-- a form with 1,025 findings: after 1,000 warnings each of 25 NEW, never redundant in steps mode, is a finding more
 abbrev refusals : List PlainCase
 refusals =
     record { sheet = codes "warning\t1\nerror\t3\nerror\t4\n"; flags = 1; answer = declined 21 2 }
@@ -69,6 +74,14 @@ refusals =
           ∷ codes "end\tstep\n" ∷ []);
       flags = 1;
       answer = declined 23 5;
+    }
+    ∷ record {
+      sheet =
+          concat
+          (mode (codes "[mode]") (codes "steps") ∷ times 1000 (codes "warning\t1\n") ∷ codes "start\tstep\n" ∷ times 25 (named (codes "salt") (codes "+"))
+          ∷ codes "end\tstep\n" ∷ []);
+      flags = 1;
+      answer = declined 24 0;
     }
     ∷ []
 

@@ -95,8 +95,8 @@ one-more n = omega arith
 
 answer-by-recipe : (sheet text units : List ℕ) (flags : ℕ) (st : State) → collection sheet text units flags ≡ recipe st
     → plainForm sheet text units flags
-      ≡ unlessFaulty (unitsOr (readUnits units)) flags (formAnswer text units flags 65536 (formBytes sheet text units flags))
-        (traceFrom text (unitsOr (readUnits units)) flags 1 (going firstState) (eventsOf text sheet))
+    ≡ unlessFaulty (unitsOr (readUnits units)) flags (formAnswer text units flags 65536 (formBytes sheet text units flags))
+    (traceFrom text (unitsOr (readUnits units)) flags 1 (going firstState) (eventsOf text sheet))
 unfolding plainAnswer isShort wordsNeeded bytesNeeded plainOf formOf
 answer-by-recipe sheet text units flags st q = rw q
 
@@ -208,9 +208,11 @@ module _ (sheet text units : List ℕ) (flags : ℕ) where
             made = z;
             fits = ap (λ (x : List ℕ). isWithinLimits x text units flags) z ∙ w;
           }
+
       by-found : (y : Yielding) {a : Answer} → Found text us flags whole [] 1 es a → a ≡ answered f → Demanded sheet text units flags f
       by-found y (all-clear c) p = by-limits y c (isWithinLimits form text units flags) refl p
       by-found y (first-at before rest e s c x) p = not-answered p
+
       by : (o : Outcome) → outcome ≡ o → Demanded sheet text units flags f
       by (refusal n l) p = not-answered (sym (by-refusal n l p) ∙ q)
       by (noRecipe fs) p = not-answered (sym (by-error fs p) ∙ q)
@@ -240,7 +242,7 @@ module _ (sheet text units : List ℕ) (flags : ℕ) where
       by-recipe (g .state) (g .has-recipe)
       ∙ ap (λ (l : List Event). unlessFaulty us flags whole (traceFrom text us flags 1 (going firstState) l)) s
       ∙ fault-at text us flags whole before [] 1 n e after firstState (g .went-on .last)
-        (ap (walk text us flags 1 (going firstState)) (sym s) ∙ g .went-on .there) (first-knows flags) (lines-every (IsClear flags) before c) x
+      (ap (walk text us flags 1 (going firstState)) (sym s) ∙ g .went-on .there) (first-knows flags) (lines-every (IsClear flags) before c) x
       ∙ ap (declined n) (one-more (length before))
   declines (overLimit a y c w) =
       let g : Yielding = accepted-yields a y in
@@ -251,21 +253,26 @@ module _ (sheet text units : List ℕ) (flags : ℕ) where
     where
       the : (m k : ℕ) → Declined sheet text units flags m k → declined m k ≡ declined n l → Declined sheet text units flags n l
       the m k d p = let z = same-number p in subst (λ (x : ℕ). Declined sheet text units flags x l) (z .0) (subst (Declined sheet text units flags m) (z .1) d)
+
       is-accepted : (y : Yielding) → isAccepted outcome ≡ true
       is-accepted y = accepted-as (recipe (y .state)) (y .has-recipe) (unfold isAccepted in refl)
+
       by-limits : (y : Yielding) → Every (IsClear flags) [] es → (b : Bool) → isWithinLimits form text units flags ≡ b → whole ≡ declined n l → Declined sheet text units flags n l
       by-limits y c true w p = not-answered (sym p ∙ within-form text units flags form w)
       by-limits y c false w p =
           the 24 0 (overLimit (is-accepted y) (recipe-means (y .state) (y .has-recipe)) (every-lines (IsClear flags) es c) w) (sym (beyond-form text units flags form w) ∙ p)
+
       by-found : (y : Yielding) {a : Answer} → Found text us flags whole [] 1 es a → a ≡ declined n l → Declined sheet text units flags n l
       by-found y (all-clear c) p = by-limits y c (isWithinLimits form text units flags) refl p
       by-found y (first-at {n = m} before rest e s c x) p =
           the m (suc (length before)) (atLine (is-accepted y) (recipe-means (y .state) (y .has-recipe)) before rest e s (every-lines (IsClear flags) before c) x) (ap (declined m) (sym (one-more (length before))) ∙ p)
+
       by-first : (fs : List Finding) → outcome ≡ noRecipe fs → FirstError 1 es → Declined sheet text units flags n l
       by-first fs p r =
           the 21 (suc (length (r .before)))
           (withError (accepted-as (noRecipe fs) p (unfold isAccepted in refl)) (r .before) (r .rest) (r .error) (r .is) (r .none-before) (r .is-error))
           (ap (declined 21) (sym (r .at-line ∙ one-more (length (r .before)))) ∙ sym (by-error fs p) ∙ q)
+
       by : (o : Outcome) → outcome ≡ o → Declined sheet text units flags n l
       by (refusal m k) p = the m k (asCollected p) (sym (by-refusal m k p) ∙ q)
       by (noRecipe fs) p = by-first fs p (first-error es 1 (error-means fs p))

@@ -104,8 +104,8 @@ module _ (c : Component) where
   ingredient-marked i h (good-more w g) =
       parse-by _ (escape (codes "ingredient")) (raw (namedFields (markRef c) ++ optFields intermediateFields i)) _ refl
       (good-more w (subst Good (sym (raw-both (namedFields (markRef c)) (optFields intermediateFields i)))
-       (good-both (marked-good c (good-left _ _ (subst Good (raw-both (namedFields c) (optFields intermediateFields i)) g)))
-        (good-right (raw (namedFields c)) _ (subst Good (raw-both (namedFields c) (optFields intermediateFields i)) g)))))
+      (good-both (marked-good c (good-left _ _ (subst Good (raw-both (namedFields c) (optFields intermediateFields i)) g)))
+      (good-right (raw (namedFields c)) _ (subst Good (raw-both (namedFields c) (optFields intermediateFields i)) g)))))
       (line-reads ingredientWord _ _ back)
     where
       back : Back readIngredient (raw (namedFields (markRef c) ++ optFields intermediateFields i)) (inside (componentEvent (ingredientEvent (markRef c) i)))
@@ -113,8 +113,8 @@ module _ (c : Component) where
           subst (λ (p : Fields). Back readIngredient p (inside (componentEvent (ingredientEvent (markRef c) i))))
           (two-parts (namedFields (markRef c)) (optFields intermediateFields i) refl refl)
           (unfold readIngredient in
-           after readComponent _ _ _ (markRef c) (inside (componentEvent (ingredientEvent (markRef c) i))) (component-back (markRef c) (marked-component c (h .0)))
-           (after (opt readIntermediate) _ _ _ i (inside (componentEvent (ingredientEvent (markRef c) i))) (h .1) (given-back (inside (componentEvent (ingredientEvent (markRef c) i))))))
+          after readComponent _ _ _ (markRef c) (inside (componentEvent (ingredientEvent (markRef c) i))) (component-back (markRef c) (marked-component c (h .0)))
+          (after (opt readIntermediate) _ _ _ i (inside (componentEvent (ingredientEvent (markRef c) i))) (h .1) (given-back (inside (componentEvent (ingredientEvent (markRef c) i))))))
 
   pub cookware-marked : GoodParts (cookwareEvent c) → Good (raw (componentFields (cookwareEvent c))) → Readable (inside (componentEvent (cookwareEvent (markRef c))))
   unfolding eventFields componentFields each readAfter readCookware
@@ -125,8 +125,8 @@ module _ (c : Component) where
       back =
           subst (λ (p : Fields). Back readCookware p (inside (componentEvent (cookwareEvent (markRef c))))) (append-nil (raw (namedFields (markRef c))))
           (unfold readCookware in
-           after readComponent _ _ _ (markRef c) (inside (componentEvent (cookwareEvent (markRef c)))) (component-back (markRef c) (marked-component c h))
-           (given-back (inside (componentEvent (cookwareEvent (markRef c))))))
+          after readComponent _ _ _ (markRef c) (inside (componentEvent (cookwareEvent (markRef c)))) (component-back (markRef c) (marked-component c h))
+          (given-back (inside (componentEvent (cookwareEvent (markRef c))))))
 
 -- ---- a text line of a component's span
 
@@ -160,13 +160,15 @@ unfolding eventFields textFields each readAfter readTextLine
 text-readable s cs b g h =
     parse-by _ (escape (codes "text")) (raw (spanFields s ++ (encode cs ∷ []))) _ refl
     (good-more text-word
-     (subst Good (sym (raw-both (spanFields s) (encode cs ∷ []))) (good-both g (good-more said good-none))))
+    (subst Good (sym (raw-both (spanFields s) (encode cs ∷ []))) (good-both g (good-more said good-none))))
     (line-reads textWord _ _ back)
   where
     said : GoodField (escape (encode cs))
     said = record { utf8 = utf8-escape (encode cs) (utf8-encode h); no-tab = escape-no-tab (encode cs); no-lf = escape-no-lf (encode cs) }
+
     t : Text
     t = record { span = s; content = cs }
+
     back : Back readTextLine (raw (spanFields s ++ (encode cs ∷ []))) (inside (textEvent t))
     back =
         subst (λ (p : Fields). Back readTextLine p (inside (textEvent t))) (append-nil _)

@@ -33,11 +33,14 @@ signed-field (c ∷ s) v g q =
   where
     P : Option Signed → Type 0
     P o = o ≡ some v → (c ∷ s) ≡ escape (signedField v)
+
     on : (x : Signed) → (c ∷ s) ≡ escape (signedField x) → some x ≡ some v → (c ∷ s) ≡ escape (signedField v)
     on x e q = subst (λ (y : Signed). (c ∷ s) ≡ escape (signedField y)) (some-inj q) e
+
     above : (o : Option ℕ) → numberUpTo 32767 (c ∷ s) ≡ o → P (signedAs false o)
     above none e q = no-some q
     above (some n) e q = on (record { negative = false; size = n }) (sym (escape-decimal n ∙ decimal-number 32767 n (c ∷ s) (omega arith) e)) q
+
     below : c ≡ 45 → (o : Option ℕ) → numberUpTo 32768 s ≡ o → P (signedAs true o)
     below z none e q = no-some q
     below z (some n) e q =

@@ -51,22 +51,27 @@ letters-field s m =
   where
     s1 : List ℕ
     s1 = past 64 s
+
     s2 : List ℕ
     s2 = past 38 s1
+
     s3 : List ℕ
     s3 = past 45 s2
+
     s4 : List ℕ
     s4 = past 63 s3
+
     on : (a b c : List ℕ) → b ≡ c → a ++ b ≡ a ++ c
     on a b c q = ap (λ (l : List ℕ). a ++ l) q
+
     whole : past 43 s4 ≡ [] → s ≡ when (leads 64 s) 64 ++ when (leads 38 s1) 38 ++ when (leads 45 s2) 45 ++ when (leads 63 s3) 63 ++ when (leads 43 s4) 43
     whole e =
         past-leads 64 s
         ∙ on (when (leads 64 s) 64) _ _
-          (past-leads 38 s1 ∙ on (when (leads 38 s1) 38) _ _
-          (past-leads 45 s2 ∙ on (when (leads 45 s2) 45) _ _
-          (past-leads 63 s3 ∙ on (when (leads 63 s3) 63) _ _
-          (past-leads 43 s4 ∙ on (when (leads 43 s4) 43) _ _ e ∙ append-nil _))))
+        (past-leads 38 s1 ∙ on (when (leads 38 s1) 38) _ _
+        (past-leads 45 s2 ∙ on (when (leads 45 s2) 45) _ _
+        (past-leads 63 s3 ∙ on (when (leads 63 s3) 63) _ _
+        (past-leads 43 s4 ∙ on (when (leads 43 s4) 43) _ _ e ∙ append-nil _))))
         ∙ five (when (leads 64 s) 64) (when (leads 38 s1) 38) (when (leads 45 s2) 45) (when (leads 63 s3) 63) (when (leads 43 s4) 43)
 
 or-point : (c : ℕ) (s l : List ℕ) → (c ∷ s) ≡ l → (c ∷ s) ≡ orPoint l
@@ -183,7 +188,12 @@ gives-component =
     (λ ms p7 h7 b7 g7. gives-give _ _ (record {
       is = component-parts _ h1 h2 h3 h4 h5 h6 h7;
       good = record {
-        place = at-raw _ h1 b1; named = at-raw _ h2 b2; aliased = at-raw _ h3 b3; amount = at-raw _ h4 b4; noted = at-raw _ h5 b5; marked = at-raw _ h7 b7
+        place = at-raw _ h1 b1;
+        named = at-raw _ h2 b2;
+        aliased = at-raw _ h3 b3;
+        amount = at-raw _ h4 b4;
+        noted = at-raw _ h5 b5;
+        marked = at-raw _ h7 b7;
       };
     }))))))))
 

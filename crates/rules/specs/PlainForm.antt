@@ -54,7 +54,7 @@ abbrev pub formBytes : List ℕ → List ℕ → List ℕ → ℕ → List ℕ
 formBytes sheet text units flags =
     sheetOf
     (plainEvents text (unitsOr (readUnits units)) flags
-     (traceFrom text (unitsOr (readUnits units)) flags 1 (going firstState) (eventsOf text sheet)))
+    (traceFrom text (unitsOr (readUnits units)) flags 1 (going firstState) (eventsOf text sheet)))
 
 -- what `plain_form` answers with memory enough: a form that is handed out has at most 65,536 bytes
 abbrev pub enough : Lent
