@@ -8,10 +8,9 @@ use lib.Dec.{eqb}
 use borrow.Author.Tests.{eqb-true}
 use Rattle.rules.specs.Basic.{pick, codes, tab, lf, minus, eqList, each}
 use Rattle.rules.specs.Utf8.{isUtf8}
-use Rattle.rules.specs.Sheet.{more, escapeChar, escape}
+use Rattle.rules.specs.Sheet.{escapeChar, escape}
 use Rattle.rules.specs.Read.{Fields, Reader, goOn, _>>=_, give, saying, gotOne, opt, field}
 use Rattle.rules.specs.Write.{optFields}
-use Rattle.rules.specs.Inline.{rest}
 use Rattle.rules.proofs.Basics.{no-some, no-truth, some-inj}
 use Rattle.rules.proofs.Fields.{Without}
 

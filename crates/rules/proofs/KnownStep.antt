@@ -19,7 +19,6 @@ use Rattle.rules.specs.Components.{Made, newEntry, foundSame, madeWith, 
 use Rattle.rules.specs.Pass.{pushItems, pushComponent, unlessChained, unlessFault, pushTimer, onMade, onComponent}
 use Rattle.rules.specs.Demand.{modeKey, defineAt, duplicateAt, EntryLine, entryLine, noEntry, entryOfComponent, entryOfLine, Unmarked, foldedName, implicitTarget, isMarked, sameKind, entryIn, unmarkedBy, unmarked}
 use Rattle.rules.proofs.Basics.{pick-either}
-use Rattle.rules.proofs.Given.{after}
 use Rattle.rules.proofs.Linked.{Below, below-more, below-up, Listed, listed-marked, listed-entry, referred-listed, Links, no-link, last-link, other-link, line-links}
 use Rattle.rules.proofs.Known.{Agrees, Knows, KnowsStep, define-same, duplicate-same, no-entry, knows-same}
 

@@ -5,7 +5,7 @@ use mathlib.Core.List.{List, [], _∷_, _++_, append-nil}
 use mathlib.Core.Bool.{Bool, true, false, _&&_}
 use mathlib.Core.Option.{Option, none, some}
 use native.Mathlib.Omega.{arith}
-use Rattle.rules.specs.Basic.{pick, tab, lf, all, each, splitAt, joinBy}
+use Rattle.rules.specs.Basic.{pick, tab, lf, each, splitAt, joinBy}
 use Rattle.rules.specs.Utf8.{isUtf8}
 use Rattle.rules.specs.Sheet.{fieldsOf, escape, lineOf}
 use Rattle.rules.specs.Words.{EventWord, eventWords}

@@ -24,7 +24,6 @@ use Rattle.rules.proofs.Quiet.{Quiet, quiet-before, form-quiet, quiet-e
 use Rattle.rules.proofs.Fixed.{OwnForm, form-fixed}
 use Rattle.rules.proofs.Kept.{form-reads}
 use Rattle.rules.proofs.Known.{first-knows}
-use Rattle.rules.proofs.Faults.{clear}
 use Rattle.rules.proofs.FaultWalk.{Every, every-lines, lines-every, clear-trace, Found, all-clear, first-at, faults-found, fault-at}
 use Rattle.rules.proofs.Collected.{Collected, collected-is, collected, recipe-yields, failed-yields, FirstError, first-error, error-at}
 

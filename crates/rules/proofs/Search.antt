@@ -7,7 +7,6 @@ use mathlib.Core.Option.{Option, none, some}
 use borrow.Author.Tests.{eqb-true}
 use Rattle.rules.specs.Basic.{pick}
 use Rattle.rules.specs.Unicode.{foldName}
-use Rattle.rules.specs.Read.{opt}
 use Rattle.rules.specs.Modes.{Modes, firstModes, isSteps, isReference}
 use Rattle.rules.specs.Model.{Kind, either, withRef, Amount, Relation, Source, Entry, setRelation, setModifiers}
 use Rattle.rules.specs.Reference.{Earlier, sameNameIn, sameNameOf, entryAt, isExplicit, treatAsReference, refersTo, asReferring}

@@ -9,7 +9,6 @@ use Rattle.rules.specs.Basic.{pick}
 use Rattle.rules.specs.Words.{DefineMode}
 use Rattle.rules.specs.Event.{Event}
 use Rattle.rules.specs.Units.{NamedUnit}
-use Rattle.rules.specs.Inline.{rest}
 use Rattle.rules.specs.Modes.{firstModes}
 use Rattle.rules.specs.Finding.{Finding}
 use Rattle.rules.specs.State.{Open, noBlock, stepOpen, textOpen, textModeOpen, State, firstState, setKept, report, overLimits, Step, next, Walk, going, failed, refused, Outcome, recipe, refusal}
