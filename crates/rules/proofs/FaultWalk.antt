@@ -1,7 +1,7 @@
 -- Over a whole walk: the first fault, or none.
 use Prim.Native.Nat.{ℕ, suc, _+_}
 use mathlib.Core.Path.{_≡_, refl, sym, ap, _∙_, subst}
-use mathlib.Core.List.{List, [], _∷_, _++_, reverseAux}
+use mathlib.Core.List.{List, [], _∷_, _++_, reverse, reverseAux}
 use mathlib.Core.Bool.{Bool, true, false}
 use mathlib.Core.Option.{Option, none, some}
 use native.Mathlib.Omega.{arith}
@@ -9,14 +9,14 @@ use lib.ListN.{length}
 use Rattle.rules.specs.Basic.{pick, any}
 use Rattle.rules.specs.Event.{Event}
 use Rattle.rules.specs.Units.{NamedUnit}
-use Rattle.rules.specs.State.{State, overLimits, Step, next, stop, Walk, going, refused}
+use Rattle.rules.specs.State.{State, firstState, overLimits, Step, next, stop, Walk, going, refused}
 use Rattle.rules.specs.Pass.{isErrorEvent, onEvent, step, walk}
 use Rattle.rules.specs.Plain.{Traced, traced, plainFault, traceFrom}
 use Rattle.rules.specs.Answer.{Answer, declined, faultOr, unlessFaulty}
 use Rattle.rules.specs.PlainForm.{EveryLine, IsClear, Faulty}
 use Rattle.rules.proofs.Walks.{not-refused, not-failed, step-fails, step-next, step-stops}
 use Rattle.rules.proofs.SimWalk.{NoFaults, no-line, no-fault}
-use Rattle.rules.proofs.Known.{Knows, KnowsStep}
+use Rattle.rules.proofs.Known.{Knows, KnowsStep, first-knows}
 use Rattle.rules.proofs.Faults.{LineFault, clear, faulty, event-knows, fault-means, no-both, one-fault}
 
 -- ---- "for every line", step by step
@@ -71,6 +71,16 @@ module _ (text : List ℕ) (units : List NamedUnit) (flags : ℕ) where
 
   pub next-knows : (earlier : List Event) (line : ℕ) (e : Event) (st : State) → Knows flags earlier st → (t : Takes line e st) → Knows flags (e ∷ earlier) (t .after)
   next-knows earlier line e st h t = subst (KnowsStep flags (e ∷ earlier)) (t .event) (event-knows text units flags earlier st h e)
+
+  -- in every state that the pass reaches, what it knows is what the lines say
+  walk-knows : (es earlier : List Event) (line : ℕ) (st end : State) → walk text units flags line (going st) es ≡ going end → Knows flags earlier st → Knows flags (reverseAux es earlier) end
+  walk-knows [] earlier line st end w h = let q : st ≡ end = unfold walk in cc in subst (Knows flags earlier) q h
+  walk-knows (e ∷ es) earlier line st end w h =
+      let t : Takes line e st = takes line e es st end w in
+      walk-knows es (e ∷ earlier) (suc line) (t .after) end (walk-on line e es st end t w) (next-knows earlier line e st h t)
+
+  pub pass-knows : (es : List Event) (st : State) → walk text units flags 1 (going firstState) es ≡ going st → Knows flags (reverse es) st
+  pass-knows es st w = walk-knows es [] 1 firstState st w (first-knows flags)
 
   trace-on : (line : ℕ) (e : Event) (es : List Event) (st : State) (t : Takes line e st)
       → traceFrom text units flags line (going st) (e ∷ es) ≡ record { line = line; state = st; event = e } ∷ traceFrom text units flags (suc line) (going (t .after)) es

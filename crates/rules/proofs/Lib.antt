@@ -32,4 +32,5 @@ pub mod Faults
 pub mod FaultWalk
 pub mod Collected
 pub mod PlainForm
+pub mod Lending
 pub mod PlainCases

@@ -6,6 +6,7 @@ use mathlib.Core.List.{List, _∷_, _++_, reverse}
 use mathlib.Core.Bool.{true, false}
 use mathlib.Core.Option.{none, some}
 use lib.ListN.{length}
+use Rattle.rules.specs.Basic.{pick}
 use Rattle.rules.specs.Event.{Event}
 use Rattle.rules.specs.Units.{readUnits}
 use Rattle.rules.specs.Modes.{isComponents}
@@ -13,7 +14,7 @@ use Rattle.rules.specs.State.{State, firstState, going, Outcome, recipe,
 use Rattle.rules.specs.Pass.{isErrorEvent}
 use Rattle.rules.specs.Page.{recipePart}
 use Rattle.rules.specs.Plain.{plainEvents, traceFrom, sheetOf}
-use Rattle.rules.specs.Answer.{Answer, answered, declined, readSheet, collection, Lent, wordsNeeded, bytesNeeded, eventsOr, unitsOr, plainAnswer}
+use Rattle.rules.specs.Answer.{Answer, answered, declined, readSheet, collection, Lent, wordsNeeded, bytesNeeded, isShort, handOut, eventsOr, unitsOr, plainAnswer}
 use Rattle.rules.specs.Demand.{isAccepted, yieldsRecipe, isWithinLimits, isComponentLine, isHeeded, defineAt, Unmarked, implicitAt, lastOfName}
 
 -- the events of a sheet
@@ -62,6 +63,14 @@ enough = record { words = wordsNeeded; bytes = bytesNeeded; room = 65536 }
 
 abbrev pub plainForm : List ℕ → List ℕ → List ℕ → ℕ → Answer
 plainForm sheet text units flags = plainAnswer sheet text units flags enough
+
+-- what is answered with other memory: "Where the form would be handed out but too little room is lent, 1 or 20 answers in its place."
+abbrev pub fitted : ℕ → Answer → Answer
+fitted room (answered bytes) = handOut room bytes
+fitted room (declined n l) = declined n l
+
+abbrev pub lentTo : Lent → Answer → Answer
+lentTo m a = pick (isShort m) (declined 1 0) (fitted (m .room) a)
 
 -- the two pages are equal in all bytes above the findings: `recipePage st` is `recipePart st` and then the findings' lines
 pub record SamePage (of against : Outcome) : Type 0 where
