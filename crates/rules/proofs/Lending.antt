@@ -41,15 +41,18 @@ plain-lent sheet text units flags m = ap (pick (isShort m) (declined 1 0)) (by (
   where
     us : List NamedUnit
     us = unitsOr (readUnits units)
+
     es : List Event
     es = eventsOf text sheet
+
     by : (o : Outcome) → plainOf text units us flags (m .room) es o ≡ fitted (m .room) (plainOf text units us flags 65536 es o)
     by (refusal n l) = unfold plainOf in refl
     by (noRecipe fs) = unfold plainOf in refl
     by (recipe st) =
         unfold plainOf formOf in
         (ap (λ (w : Answer). unlessFaulty us flags w (traceFrom text us flags 1 (going firstState) es))
-         (form-fitted text units flags (m .room) (sheetOf (plainEvents text us flags (traceFrom text us flags 1 (going firstState) es))))
-         ∙ unless-fitted us flags (m .room) _ (traceFrom text us flags 1 (going firstState) es))
+        (form-fitted text units flags (m .room) (sheetOf (plainEvents text us flags (traceFrom text us flags 1 (going firstState) es))))
+        ∙ unless-fitted us flags (m .room) _ (traceFrom text us flags 1 (going firstState) es))
+
     with-enough : plainOf text units us flags 65536 es (collection sheet text units flags) ≡ plainForm sheet text units flags
     with-enough = unfold isShort wordsNeeded bytesNeeded in refl

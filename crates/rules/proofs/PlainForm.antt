@@ -310,9 +310,9 @@ module _ (sheet text units : List ℕ) (flags : ℕ) where
     form-page =
         record {
           state = asForm (form-recipe .0) (y .state);
-          other = y .state;
+          otherState = y .state;
           yields = form-recipe .1;
-          against-yields = y .has-recipe;
+          otherYields = y .has-recipe;
           above = page-same (form-recipe .0) (y .state);
         }
 

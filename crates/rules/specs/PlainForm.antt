@@ -29,21 +29,23 @@ pub record Iff (A B : Type 0) : Type 0 where
   pub forth : A → B
   pub back : B → A
 
--- ---- lines that stand in the way of a form
+-- ---- one line, after the lines `earlier`
 
 module _ (flags : ℕ) (earlier : List Event) (e : Event) where
-  -- no component in components mode; and where it is an implicit reference, it refers to the last earlier entry of its name that is
-  -- not marked as a reference
+  -- it does not stand in a form's way: it is no component in components mode, and where it is an implicit reference, it refers to
+  -- the last earlier entry of its name that is not marked as a reference
   pub record IsClear : Type 0 where
     pub unlisted : isComponentLine e ≡ true → isComponents (defineAt flags earlier) ≡ false
     pub last : (u : Unmarked) → implicitAt flags earlier e ≡ some u → lastOfName flags earlier e ≡ some u
 
-  -- "22 component in a components-mode step, 23 implicit reference not to the last non-REF of its name", the lower number first
+  -- it does: "22 component in a components-mode step, 23 implicit reference not to the last non-REF of its name", "the lowest
+  -- number on a line first"
   pub data Faulty : ℕ → Type 0 where
     listed : isComponentLine e ≡ true → isComponents (defineAt flags earlier) ≡ true → Faulty 22
-    notLast : isComponents (defineAt flags earlier) ≡ false → (u : Unmarked) → implicitAt flags earlier e ≡ some u → (lastOfName flags earlier e ≡ some u → ⊥) → Faulty 23
+    notLast : isComponents (defineAt flags earlier) ≡ false → (u : Unmarked) → implicitAt flags earlier e ≡ some u
+        → (lastOfName flags earlier e ≡ some u → ⊥) → Faulty 23
 
-  -- what every line of a form is: no mode line that the flags heed, no implicit reference
+  -- a line of a form: no mode line that the flags heed, and no implicit reference
   pub record IsPlain : Type 0 where
     pub unheeded : isHeeded flags e ≡ false
     pub explicit : implicitAt flags earlier e ≡ none
@@ -64,7 +66,8 @@ enough = record { words = wordsNeeded; bytes = bytesNeeded; room = 65536 }
 abbrev pub plainForm : List ℕ → List ℕ → List ℕ → ℕ → Answer
 plainForm sheet text units flags = plainAnswer sheet text units flags enough
 
--- what is answered with other memory: "Where the form would be handed out but too little room is lent, 1 or 20 answers in its place."
+-- what it answers with other memory (proofs/Lending.antt): "Where the form would be handed out but too little room is lent, 1 or 20
+-- answers in its place."
 abbrev pub fitted : ℕ → Answer → Answer
 fitted room (answered bytes) = handOut room bytes
 fitted room (declined n l) = declined n l
@@ -72,13 +75,16 @@ fitted room (declined n l) = declined n l
 abbrev pub lentTo : Lent → Answer → Answer
 lentTo m a = pick (isShort m) (declined 1 0) (fitted (m .room) a)
 
--- the two pages are equal in all bytes above the findings: `recipePage st` is `recipePart st` and then the findings' lines
-pub record SamePage (of against : Outcome) : Type 0 where
+-- two collections with recipes whose pages have the same bytes above the findings: `recipePage st` is `recipePart st` and then the
+-- findings' lines
+pub record SamePage (one other : Outcome) : Type 0 where
   pub state : State
-  pub other : State
-  pub yields : of ≡ recipe state
-  pub against-yields : against ≡ recipe other
-  pub above : recipePart state ≡ recipePart other
+  pub otherState : State
+  pub yields : one ≡ recipe state
+  pub otherYields : other ≡ recipe otherState
+  pub above : recipePart state ≡ recipePart otherState
+
+-- ---- demand 3
 
 module _ (sheet text units : List ℕ) (flags : ℕ) where
   -- when a form is handed out, and which
@@ -91,30 +97,35 @@ module _ (sheet text units : List ℕ) (flags : ℕ) where
 
   -- why none is handed out: the number and the line
   pub data Declined : ℕ → ℕ → Type 0 where
-    -- 1 to 19, "as the collection"
+    -- 1 to 19: as the collection
     asCollected : {n l : ℕ} → collection sheet text units flags ≡ refusal n l → Declined n l
-    -- 21, at the first `error` line
-    withError : isAccepted (collection sheet text units flags) ≡ true → (before after : List Event) (e : Event) → eventsOf text sheet ≡ before ++ (e ∷ after)
+    -- 21: at the first `error` line
+    withError : isAccepted (collection sheet text units flags) ≡ true
+        → (before after : List Event) (e : Event) → eventsOf text sheet ≡ before ++ (e ∷ after)
         → yieldsRecipe before ≡ true → isErrorEvent e ≡ true → Declined 21 (suc (length before))
-    -- 22 or 23, at the first line that has one
-    atLine : {n : ℕ} → isAccepted (collection sheet text units flags) ≡ true → yieldsRecipe (eventsOf text sheet) ≡ true → (before after : List Event) (e : Event)
-        → eventsOf text sheet ≡ before ++ (e ∷ after) → EveryLine (IsClear flags) before → Faulty flags (reverse before) e n → Declined n (suc (length before))
+    -- 22 and 23: at the first line that has one
+    atLine : {n : ℕ} → isAccepted (collection sheet text units flags) ≡ true → yieldsRecipe (eventsOf text sheet) ≡ true
+        → (before after : List Event) (e : Event) → eventsOf text sheet ≡ before ++ (e ∷ after)
+        → EveryLine (IsClear flags) before → Faulty flags (reverse before) e n → Declined n (suc (length before))
     -- 24
-    overLimit : isAccepted (collection sheet text units flags) ≡ true → yieldsRecipe (eventsOf text sheet) ≡ true → EveryLine (IsClear flags) (eventsOf text sheet)
+    overLimit : isAccepted (collection sheet text units flags) ≡ true → yieldsRecipe (eventsOf text sheet) ≡ true
+        → EveryLine (IsClear flags) (eventsOf text sheet)
         → isWithinLimits (formBytes sheet text units flags) text units flags ≡ false → Declined 24 0
 
-  -- ---- demand 3
+  -- `form` is handed out
+  abbrev pub HandedOut : List ℕ → Type 0
+  HandedOut form = plainForm sheet text units flags ≡ answered form
 
   pub record PlainForm : Type 0 where
     -- 1. a form is handed out exactly when the demand says so
-    pub exactly : (form : List ℕ) → Iff (plainForm sheet text units flags ≡ answered form) (Demanded form)
-    -- 2. every other sheet is declined by the number and line of the table
+    pub exactly : (form : List ℕ) → Iff (HandedOut form) (Demanded form)
+    -- 2. every other sheet is declined by the number and the line of the table
     pub otherwise : (n l : ℕ) → Iff (plainForm sheet text units flags ≡ declined n l) (Declined n l)
     -- 3. the form has no mode line that the flags heed, and every reference in it is explicit
-    pub plain : (form : List ℕ) → plainForm sheet text units flags ≡ answered form → EveryLine (IsPlain flags) (eventsOf text form)
+    pub plain : (form : List ℕ) → HandedOut form → EveryLine (IsPlain flags) (eventsOf text form)
     -- 4. with the same text, units and flags it is accepted
-    pub accepted : (form : List ℕ) → plainForm sheet text units flags ≡ answered form → isAccepted (collection form text units flags) ≡ true
+    pub accepted : (form : List ℕ) → HandedOut form → isAccepted (collection form text units flags) ≡ true
     -- 5. its recipe page is the sheet's in all bytes above the findings
-    pub same : (form : List ℕ) → plainForm sheet text units flags ≡ answered form → SamePage (collection form text units flags) (collection sheet text units flags)
+    pub same : (form : List ℕ) → HandedOut form → SamePage (collection form text units flags) (collection sheet text units flags)
     -- 6. its own plain form is itself
-    pub own : (form : List ℕ) → plainForm sheet text units flags ≡ answered form → plainForm form text units flags ≡ answered form
+    pub own : (form : List ℕ) → HandedOut form → plainForm form text units flags ≡ answered form
