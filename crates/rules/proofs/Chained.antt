@@ -71,7 +71,8 @@ pub record SoundMade (m : Made) : Type 0 where
   pub entry-is : m .entry .modifiers .ref ≡ false → isDefinition (m .entry .relation) ≡ true
   pub to-is : refersToReference (m .refersTo) ≡ false
 
-entry-sound : (k : Kind) (new : Entry) (o : Option Earlier) → isDefinition (new .relation) ≡ true → asReferring k o new .modifiers .ref ≡ false → isDefinition (asReferring k o new .relation) ≡ true
+entry-sound : (k : Kind) (new : Entry) (o : Option Earlier) → isDefinition (new .relation) ≡ true → asReferring k o new .modifiers .ref ≡ false
+    → isDefinition (asReferring k o new .relation) ≡ true
 unfolding asReferring setRelation setModifiers withRef
 entry-sound k new none h q = h
 entry-sound k new (some d) h q = no-truth (sym q)
@@ -164,7 +165,8 @@ module _ (text : List ℕ) (units : List NamedUnit) (flags : ℕ) where
   ingredient-sound c (some i) is st s = go (c .modifiers .ref) refl (i .value .negative)
     where
       go : (b : Bool) → c .modifiers .ref ≡ b → (n : Bool)
-          → SoundStep (unlessFault (pick {X = Option ℕ} (not b) (some 15) (pick n (some 16) none)) (onMade units flags ingredient (makeIngredient units flags c (some i) st) is st))
+          → SoundStep (unlessFault (pick {X = Option ℕ} (not b) (some 15) (pick n (some 16) none))
+          (onMade units flags ingredient (makeIngredient units flags c (some i) st) is st))
       go false r n = refl
       go true r true = refl
       go true r false = made-sound ingredient (makeIngredient units flags c (some i) st) is st (intermediate-sound c i st r) s

@@ -37,7 +37,8 @@ pub record Collected (sheet text units : List ℕ) (flags : ℕ) : Type 0 where
   pub read : readSheet text sheet ≡ events (eventsOf text sheet)
 
 -- the collection is then the pass over the sheet's events
-pub collected-is : (sheet text units : List ℕ) (flags : ℕ) → Begins text units flags → ltb 65536 (length sheet) ≡ false → (es : List Event) → readSheet text sheet ≡ events es
+pub collected-is : (sheet text units : List ℕ) (flags : ℕ) → Begins text units flags → ltb 65536 (length sheet) ≡ false → (es : List Event)
+    → readSheet text sheet ≡ events es
     → collection sheet text units flags ≡ parseEvents text (unitsOr (readUnits units)) flags es
 unfolding collection
 collected-is sheet text units flags b s es r =
@@ -54,7 +55,8 @@ collected sheet text units flags =
     P : Outcome → Type 0
     P o = isAccepted o ≡ true → Collected sheet text units flags
 
-    by-read : ltb 65536 (length sheet) ≡ false → Begins text units flags → (us : List NamedUnit) (r : Reading) → readSheet text sheet ≡ r → P (passed text flags us r)
+    by-read : ltb 65536 (length sheet) ≡ false → Begins text units flags → (us : List NamedUnit) (r : Reading) → readSheet text sheet ≡ r
+        → P (passed text flags us r)
     by-read b1 b us (unread n l) e q = no-truth q
     by-read b1 b us (events es) e q = record { begins = b; short = b1; read = e ∙ ap (λ (r : Reading). events (eventsOr r)) (sym e) }
 
@@ -161,8 +163,10 @@ unfolding errorLine yieldsRecipe any
 error-at [] rest e line n q = let z : line ≡ line + length {A = Event} [] = omega arith in (rw q z, rw q)
 error-at (x ∷ before) rest e line n q = go (error-at before rest e (suc line)) (isErrorEvent x) refl
   where
-    go : (yieldsRecipe before ≡ true → isErrorEvent e ≡ true → (errorLine (suc line) (before ++ (e ∷ rest)) ≡ suc line + length before) × (yieldsRecipe (before ++ (e ∷ rest)) ≡ false))
-        → (b : Bool) → isErrorEvent x ≡ b → (errorLine line (x ∷ (before ++ (e ∷ rest))) ≡ line + length (x ∷ before)) × (yieldsRecipe (x ∷ (before ++ (e ∷ rest))) ≡ false)
+    go : (yieldsRecipe before ≡ true → isErrorEvent e ≡ true
+        → (errorLine (suc line) (before ++ (e ∷ rest)) ≡ suc line + length before) × (yieldsRecipe (before ++ (e ∷ rest)) ≡ false))
+        → (b : Bool) → isErrorEvent x ≡ b → (errorLine line (x ∷ (before ++ (e ∷ rest))) ≡ line + length (x ∷ before)) ×
+        (yieldsRecipe (x ∷ (before ++ (e ∷ rest))) ≡ false)
     go ih true p = no-truth (rw p at n)
     go ih false p =
         let r = ih (rw p at n) q in

@@ -33,7 +33,8 @@ module _ (P : List Event → Event → Type 0) where
   pub every-lines : (es : List Event) → Every P [] es → EveryLine P es
   every-lines es h before rest e q = every-at [] before e rest (subst (Every P []) q h)
 
-  lines-from : (earlier es : List Event) → ((before rest : List Event) (e : Event) → es ≡ before ++ (e ∷ rest) → P (reverseAux before earlier) e) → Every P earlier es
+  lines-from : (earlier es : List Event) → ((before rest : List Event) (e : Event) → es ≡ before ++ (e ∷ rest) → P (reverseAux before earlier) e)
+      → Every P earlier es
   lines-from earlier [] f = every-none
   lines-from earlier (e ∷ es) f =
       every-more (f [] es e refl) (lines-from (e ∷ earlier) es (λ before rest x q. f (e ∷ before) rest x (ap (λ (l : List Event). e ∷ l) q)))
@@ -73,7 +74,8 @@ module _ (text : List ℕ) (units : List NamedUnit) (flags : ℕ) where
   next-knows earlier line e st h t = subst (KnowsStep flags (e ∷ earlier)) (t .event) (event-knows text units flags earlier st h e)
 
   -- in every state that the pass reaches, what it knows is what the lines say
-  walk-knows : (es earlier : List Event) (line : ℕ) (st end : State) → walk text units flags line (going st) es ≡ going end → Knows flags earlier st → Knows flags (reverseAux es earlier) end
+  walk-knows : (es earlier : List Event) (line : ℕ) (st end : State) → walk text units flags line (going st) es ≡ going end → Knows flags earlier st
+      → Knows flags (reverseAux es earlier) end
   walk-knows [] earlier line st end w h = let q : st ≡ end = unfold walk in cc in subst (Knows flags earlier) q h
   walk-knows (e ∷ es) earlier line st end w h =
       let t : Takes line e st = takes line e es st end w in
@@ -83,7 +85,8 @@ module _ (text : List ℕ) (units : List NamedUnit) (flags : ℕ) where
   pass-knows es st w = walk-knows es [] 1 firstState st w (first-knows flags)
 
   trace-on : (line : ℕ) (e : Event) (es : List Event) (st : State) (t : Takes line e st)
-      → traceFrom text units flags line (going st) (e ∷ es) ≡ record { line = line; state = st; event = e } ∷ traceFrom text units flags (suc line) (going (t .after)) es
+      → traceFrom text units flags line (going st) (e ∷ es) ≡ record { line = line; state = st; event = e } ∷ traceFrom text units flags (suc line)
+      (going (t .after)) es
   unfolding traceFrom traced
   trace-on line e es st t = rw (t .steps)
 
@@ -103,7 +106,8 @@ module _ (text : List ℕ) (units : List NamedUnit) (flags : ℕ) where
   trace line st es = traceFrom text units flags line (going st) es
 
   -- lines that are all clear have no fault
-  pub clear-trace : (es earlier : List Event) (line : ℕ) (st end : State) → walk text units flags line (going st) es ≡ going end → Knows flags earlier st → Clear earlier es
+  pub clear-trace : (es earlier : List Event) (line : ℕ) (st end : State) → walk text units flags line (going st) es ≡ going end → Knows flags earlier st
+      → Clear earlier es
       → NoFaults text units flags (trace line st es)
   clear-trace [] earlier line st end w h c = unfold traceFrom in no-line
   clear-trace (e ∷ es) earlier line st end w h (every-more p c) =
@@ -113,13 +117,15 @@ module _ (text : List ℕ) (units : List NamedUnit) (flags : ℕ) where
       t : Takes line e st
       t = takes line e es st end w
 
-      by : NoFaults text units flags (trace (suc line) (t .after) es) → (o : Option ℕ) → plainFault units flags st e ≡ o → LineFault flags earlier e o → NoFaults text units flags (trace line st (e ∷ es))
+      by : NoFaults text units flags (trace (suc line) (t .after) es) → (o : Option ℕ) → plainFault units flags st e ≡ o → LineFault flags earlier e o
+          → NoFaults text units flags (trace line st (e ∷ es))
       by ih none q (clear x) = subst (NoFaults text units flags) (sym (trace-on line e es st t)) (no-fault q ih)
       by ih (some n) q (faulty x) = no-both p x
 
   module _ (whole : Answer) where
     unless-on : (line : ℕ) (e : Event) (es : List Event) (st : State) (t : Takes line e st)
-        → unlessFaulty units flags whole (trace line st (e ∷ es)) ≡ faultOr line (plainFault units flags st e) (unlessFaulty units flags whole (trace (suc line) (t .after) es))
+        → unlessFaulty units flags whole (trace line st (e ∷ es)) ≡ faultOr line (plainFault units flags st e)
+        (unlessFaulty units flags whole (trace (suc line) (t .after) es))
     unfolding unlessFaulty
     unless-on line e es st t = ap (unlessFaulty units flags whole) (trace-on line e es st t)
 
@@ -129,7 +135,8 @@ module _ (text : List ℕ) (units : List NamedUnit) (flags : ℕ) where
       first-at : {n : ℕ} (before rest : List Event) (e : Event) → es ≡ before ++ (e ∷ rest) → Clear earlier before → Faulty flags (reverseAux before earlier) e n
           → Found earlier line es (declined n (line + length before))
 
-    found-later : (earlier : List Event) (line : ℕ) (e : Event) (es : List Event) → IsClear flags earlier e → {a : Answer} → Found (e ∷ earlier) (suc line) es a → Found earlier line (e ∷ es) a
+    found-later : (earlier : List Event) (line : ℕ) (e : Event) (es : List Event) → IsClear flags earlier e → {a : Answer} → Found (e ∷ earlier) (suc line) es a
+        → Found earlier line (e ∷ es) a
     found-later earlier line e es p (all-clear c) = all-clear (every-more p c)
     found-later earlier line e es p (first-at {n} before rest x q c f) =
         let z : suc line + length before ≡ line + length (e ∷ before) = omega arith in
@@ -147,17 +154,20 @@ module _ (text : List ℕ) (units : List NamedUnit) (flags : ℕ) where
         t : Takes line e st
         t = takes line e es st end w
 
-        by : Found (e ∷ earlier) (suc line) es (unlessFaulty units flags whole (trace (suc line) (t .after) es)) → (o : Option ℕ) → LineFault flags earlier e o → Found earlier line (e ∷ es) (faultOr line o (unlessFaulty units flags whole (trace (suc line) (t .after) es)))
+        by : Found (e ∷ earlier) (suc line) es (unlessFaulty units flags whole (trace (suc line) (t .after) es)) → (o : Option ℕ) → LineFault flags earlier e o
+            → Found earlier line (e ∷ es) (faultOr line o (unlessFaulty units flags whole (trace (suc line) (t .after) es)))
         by ih none (clear x) = found-later earlier line e es x ih
         by ih (some n) (faulty x) =
             let z : line + length {A = Event} [] ≡ line = omega arith in
             subst (λ (k : ℕ). Found earlier line (e ∷ es) (declined n k)) z (first-at [] es e refl every-none x)
 
     -- and back: the first line with a fault is the one that is named
-    pub fault-at : (before earlier : List Event) (line n : ℕ) (e : Event) (rest : List Event) (st end : State) → walk text units flags line (going st) (before ++ (e ∷ rest)) ≡ going end
+    pub fault-at : (before earlier : List Event) (line n : ℕ) (e : Event) (rest : List Event) (st end : State)
+        → walk text units flags line (going st) (before ++ (e ∷ rest)) ≡ going end
         → Knows flags earlier st → Clear earlier before → Faulty flags (reverseAux before earlier) e n
         → unlessFaulty units flags whole (trace line st (before ++ (e ∷ rest))) ≡ declined n (line + length before)
-    fault-at [] earlier line n e rest st end w h c f = unless-on line e rest st t ∙ by (plainFault units flags st e) (fault-means text units flags earlier st h e (t .after) (t .event))
+    fault-at [] earlier line n e rest st end w h c f = unless-on line e rest st t
+        ∙ by (plainFault units flags st e) (fault-means text units flags earlier st h e (t .after) (t .event))
       where
         t : Takes line e st
         t = takes line e rest st end w
@@ -165,12 +175,14 @@ module _ (text : List ℕ) (units : List NamedUnit) (flags : ℕ) where
         z : line + length {A = Event} [] ≡ line
         z = omega arith
 
-        by : (o : Option ℕ) → LineFault flags earlier e o → faultOr line o (unlessFaulty units flags whole (trace (suc line) (t .after) rest)) ≡ declined n (line + length {A = Event} [])
+        by : (o : Option ℕ) → LineFault flags earlier e o
+            → faultOr line o (unlessFaulty units flags whole (trace (suc line) (t .after) rest)) ≡ declined n (line + length {A = Event} [])
         by none (clear x) = no-both x f
         by (some m) (faulty x) = unfold faultOr in (ap (λ (k : ℕ). declined k line) (one-fault x f) ∙ ap (declined n) (sym z))
     fault-at (x ∷ before) earlier line n e rest st end w h (every-more p c) f =
         unless-on line x (before ++ (e ∷ rest)) st t
-        ∙ by (fault-at before (x ∷ earlier) (suc line) n e rest (t .after) end (walk-on line x (before ++ (e ∷ rest)) st end t w) (next-knows earlier line x st h t) c f)
+        ∙ by (fault-at before (x ∷ earlier) (suc line) n e rest (t .after) end (walk-on line x (before ++ (e ∷ rest)) st end t w)
+        (next-knows earlier line x st h t) c f)
         (plainFault units flags st x) (fault-means text units flags earlier st h x (t .after) (t .event))
       where
         t : Takes line x st
@@ -179,7 +191,8 @@ module _ (text : List ℕ) (units : List NamedUnit) (flags : ℕ) where
         z : suc line + length before ≡ line + length (x ∷ before)
         z = omega arith
 
-        by : unlessFaulty units flags whole (trace (suc line) (t .after) (before ++ (e ∷ rest))) ≡ declined n (suc line + length before) → (o : Option ℕ) → LineFault flags earlier x o
+        by : unlessFaulty units flags whole (trace (suc line) (t .after) (before ++ (e ∷ rest))) ≡ declined n (suc line + length before) → (o : Option ℕ)
+            → LineFault flags earlier x o
             → faultOr line o (unlessFaulty units flags whole (trace (suc line) (t .after) (before ++ (e ∷ rest)))) ≡ declined n (line + length (x ∷ before))
         by ih none (clear y) = unfold faultOr in (ih ∙ ap (declined n) z)
         by ih (some m) (faulty y) = no-both p y

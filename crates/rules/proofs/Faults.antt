@@ -53,7 +53,8 @@ module _ (text : List ℕ) (units : List NamedUnit) (flags : ℕ) (earlier : Lis
 
   -- a line that changes neither modes nor entries
   still : (e : Event) → modeKey e ≡ none → entryOfLine e ≡ noEntry → (after : State) → after .modes ≡ st .modes
-      → after .tables .ingredients ≡ st .tables .ingredients → after .tables .cookware ≡ st .tables .cookware → Agrees (after .place .block) (isText (st .modes .define))
+      → after .tables .ingredients ≡ st .tables .ingredients → after .tables .cookware ≡ st .tables .cookware
+      → Agrees (after .place .block) (isText (st .modes .define))
       → Knows flags (e ∷ earlier) after
   still e q x = knows-same flags earlier st h e q (no-entry flags (defineAt flags earlier) e x)
 
@@ -71,7 +72,8 @@ module _ (text : List ℕ) (units : List NamedUnit) (flags : ℕ) (earlier : Lis
   between-knows (metaEvent k v) q = meta-knows flags earlier st h q k v
   between-knows (sectionEvent n) q =
       unfold onSection closeSection setPlace setKept modeKey in
-      pick-either (λ (s : State). Knows flags (between (sectionEvent n) ∷ earlier) (setPlace (record { section = record { name = onSome trimmedText n; content = [] }; stepCounter = 1; block = noBlock }) s))
+      pick-either (λ (s : State). Knows flags (between (sectionEvent n) ∷ earlier)
+      (setPlace (record { section = record { name = onSome trimmedText n; content = [] }; stepCounter = 1; block = noBlock }) s))
       (isEmptySection (st .place .section)) _ _
       (λ b. still (between (sectionEvent n)) refl (between-still (sectionEvent n)) _ refl refl refl tt)
       (λ b. still (between (sectionEvent n)) refl (between-still (sectionEvent n)) _ refl refl refl tt)
@@ -91,12 +93,14 @@ module _ (text : List ℕ) (units : List NamedUnit) (flags : ℕ) (earlier : Lis
   step-knows (endEvent stepKind) is q =
       unfold closeStep keepBlock setBlock setPlace setKept in
       pick-either (Knows flags (inside (endEvent stepKind) ∷ earlier)) (isComponents (st .modes .define)) _ _
-      (λ b. still (inside (endEvent stepKind)) refl (end-still stepKind) _ refl refl refl tt) (λ b. still (inside (endEvent stepKind)) refl (end-still stepKind) _ refl refl refl tt)
+      (λ b. still (inside (endEvent stepKind)) refl (end-still stepKind) _ refl refl refl tt)
+      (λ b. still (inside (endEvent stepKind)) refl (end-still stepKind) _ refl refl refl tt)
   step-knows (endEvent textKind) is q = tt
   step-knows (textEvent t) is q =
       unfold textInStep pushPieces pushItems setInline setTables report setBlock setPlace setKept in
       pick-either (Knows flags (inside (textEvent t) ∷ earlier)) (isComponents (st .modes .define)) _ _
-      (λ b. still (inside (textEvent t)) refl (text-still t) _ refl refl refl (h .block)) (λ b. still (inside (textEvent t)) refl (text-still t) _ refl refl refl (agrees (stepOpen is) q))
+      (λ b. still (inside (textEvent t)) refl (text-still t) _ refl refl refl (h .block))
+      (λ b. still (inside (textEvent t)) refl (text-still t) _ refl refl refl (agrees (stepOpen is) q))
   step-knows (componentEvent c) is q = component-knows text units flags earlier st h c is (agrees (stepOpen is) q)
 
   inside-knows : (i : Inside) (o : Open) → st .place .block ≡ o → N (inside i) (onInside text units flags i o st)
@@ -111,7 +115,8 @@ module _ (text : List ℕ) (units : List NamedUnit) (flags : ℕ) (earlier : Lis
   inside-knows (textEvent t) (textModeOpen ts) q = still (inside (textEvent t)) refl (text-still t) _ refl refl refl (agrees (textModeOpen ts) q)
   inside-knows (componentEvent c) (textModeOpen ts) q =
       knows-same flags earlier st h (inside (componentEvent c)) refl
-      (text-entry flags (defineAt flags earlier) (inside (componentEvent c)) (ap isText (sym (h .define)) ∙ agrees (textModeOpen ts) q)) _ refl refl refl (agrees (textModeOpen ts) q)
+      (text-entry flags (defineAt flags earlier) (inside (componentEvent c)) (ap isText (sym (h .define)) ∙ agrees (textModeOpen ts) q)) _ refl refl refl
+      (agrees (textModeOpen ts) q)
 
   parser-still : (s : Severity) (n : ℕ) → entryOfLine (parserEvent s n) ≡ noEntry
   unfolding entryOfLine
@@ -154,7 +159,8 @@ module _ (text : List ℕ) (units : List NamedUnit) (flags : ℕ) (earlier : Lis
       ref-explicit : c .modifiers .ref ≡ true → implicitAt flags earlier e ≡ none
       ref-explicit r = implicit-is ∙ (unfold implicitTarget in rw r)
 
-      link-fault : {a b : Option Earlier} {u v : Option Unmarked} → Links a b u v → implicitAt flags earlier e ≡ u → lastOfName flags earlier e ≡ v → (new : Entry) (table : List Entry) → sameNameOf true new table ≡ b
+      link-fault : {a b : Option Earlier} {u v : Option Unmarked} → Links a b u v → implicitAt flags earlier e ≡ u → lastOfName flags earlier e ≡ v
+          → (new : Entry) (table : List Entry) → sameNameOf true new table ≡ b
           → LineFault flags earlier e (implicitFault new table a)
       unfolding implicitFault isLast
       link-fault no-link p q new table s = not-implicit p
@@ -171,11 +177,13 @@ module _ (text : List ℕ) (units : List NamedUnit) (flags : ℕ) (earlier : Lis
       name-fault = go (c .modifiers .ref) refl
         where
           go : (b : Bool) → c .modifiers .ref ≡ b
-              → LineFault flags earlier e (implicitFault (newEntry j c st) (tableOf j st) (pick b none (refersTo (st .modes) (newEntry j c st) (foundSame (newEntry j c st) (tableOf j st)))))
+              → LineFault flags earlier e (implicitFault (newEntry j c st) (tableOf j st)
+              (pick b none (refersTo (st .modes) (newEntry j c st) (foundSame (newEntry j c st) (tableOf j st)))))
           go true r = unfold implicitFault in not-implicit (ref-explicit r)
           go false r = link-fault (line-links j c st (unmarked flags j earlier) r (h .tables j)) implicit-is last-is (newEntry j c st) (tableOf j st) refl
 
-  entry-here : (j : Kind) (c : Component) (e : Event) → entryOfLine e ≡ entryLine j c → isText (st .modes .define) ≡ false → entryIn (defineAt flags earlier) e ≡ entryLine j c
+  entry-here : (j : Kind) (c : Component) (e : Event) → entryOfLine e ≡ entryLine j c → isText (st .modes .define) ≡ false
+      → entryIn (defineAt flags earlier) e ≡ entryLine j c
   unfolding entryIn
   entry-here j c e q t = rw (sym (h .define), t, q)
 
@@ -194,7 +202,8 @@ module _ (text : List ℕ) (units : List NamedUnit) (flags : ℕ) (earlier : Lis
       name-fault (inside (componentEvent (cookwareEvent c))) unl cookware c (entry-here cookware c (inside (componentEvent (cookwareEvent c))) (entry-cookware c) t)
   mark-fault (ingredientEvent c none) is after t unl q =
       unfold makeIngredient in
-      name-fault (inside (componentEvent (ingredientEvent c none))) unl ingredient c (entry-here ingredient c (inside (componentEvent (ingredientEvent c none))) (entry-ingredient c none) t)
+      name-fault (inside (componentEvent (ingredientEvent c none))) unl ingredient c
+      (entry-here ingredient c (inside (componentEvent (ingredientEvent c none))) (entry-ingredient c none) t)
   mark-fault (ingredientEvent c (some i)) is after t unl q = by
     where
       e : Event
@@ -206,13 +215,15 @@ module _ (text : List ℕ) (units : List NamedUnit) (flags : ℕ) (earlier : Lis
       clean : LineFault flags earlier e none
       clean = not-implicit e unl (ref-explicit e unl ingredient c (entry-here ingredient c e (entry-ingredient c (some i)) t) r)
 
-      by : LineFault flags earlier e (implicitFault (newEntry ingredient c st) (tableOf ingredient st) (implicitOf c (makeIngredient units flags c (some i) st .refersTo)))
+      by : LineFault flags earlier e (implicitFault (newEntry ingredient c st) (tableOf ingredient st)
+          (implicitOf c (makeIngredient units flags c (some i) st .refersTo)))
       by =
           subst (λ (o : Option Earlier). LineFault flags earlier e (implicitFault (newEntry ingredient c st) (tableOf ingredient st) o)) (sym (marked-none c _ r))
           (unfold implicitFault in clean)
   mark-fault (timerEvent a x y) is after t unl q =
       not-implicit (inside (componentEvent (timerEvent a x y))) unl
-      (no-line (inside (componentEvent (timerEvent a x y))) unl (no-entry flags (defineAt flags earlier) (inside (componentEvent (timerEvent a x y))) (entry-timer a x y)))
+      (no-line (inside (componentEvent (timerEvent a x y))) unl
+      (no-entry flags (defineAt flags earlier) (inside (componentEvent (timerEvent a x y))) (entry-timer a x y)))
 
   component-fault : (c : ComponentEvent) (o : Open) (after : State) → st .place .block ≡ o → onInside text units flags (componentEvent c) o st ≡ next after
       → LineFault flags earlier (inside (componentEvent c)) (componentFault units flags st c o)
@@ -236,7 +247,8 @@ module _ (text : List ℕ) (units : List NamedUnit) (flags : ℕ) (earlier : Lis
   unfolding plainFault onEvent isComponentLine isComponentInside
   fault-means (between b) after q = no-component (between b) refl (no-entry flags (defineAt flags earlier) (between b) (between-still b))
   fault-means (inside (endEvent k)) after q = no-component (inside (endEvent k)) refl (no-entry flags (defineAt flags earlier) (inside (endEvent k)) (end-still k))
-  fault-means (inside (textEvent t)) after q = no-component (inside (textEvent t)) refl (no-entry flags (defineAt flags earlier) (inside (textEvent t)) (text-still t))
+  fault-means (inside (textEvent t)) after q = no-component (inside (textEvent t)) refl
+      (no-entry flags (defineAt flags earlier) (inside (textEvent t)) (text-still t))
   fault-means (inside (componentEvent c)) after q = component-fault c (st .place .block) after refl q
   fault-means (parserEvent s n) after q = no-component (parserEvent s n) refl (no-entry flags (defineAt flags earlier) (parserEvent s n) (parser-still s n))
 

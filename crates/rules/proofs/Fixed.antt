@@ -52,7 +52,8 @@ module _ (text : List ℕ) (units : List NamedUnit) (flags : ℕ) where
       where
         go : (b : Bool) → c .modifiers .ref ≡ b → pick b none (madeByName units flags j c (M o) .refersTo) ≡ none
         go true q = refl
-        go false q = unfold madeByName madeWith newEntry entryOf entryWith firstModes in no-reference (newEntry j c (M o)) (foundSame (newEntry j c (M o)) (tableOf j (M o))) q
+        go false q = unfold madeByName madeWith newEntry entryOf entryWith firstModes in no-reference (newEntry j c (M o))
+            (foundSame (newEntry j c (M o)) (tableOf j (M o))) q
 
     no-ingredient : (o : Open) (c : Component) (i : Option Intermediate) → implicitIngredient units flags (M o) c i ≡ none
     unfolding implicitIngredient makeIngredient madeIntermediate
@@ -148,7 +149,8 @@ module _ (text : List ℕ) (units : List NamedUnit) (flags : ℕ) where
       (formOpen (st .modes .define) (st .place .block)) e)
 
   -- the simulation of a form by itself keeps its states of that shape
-  formed-next : (st after : State) (e : Event) → Formed st → isErrorEvent e ≡ false → isHeeded flags e ≡ false → onEvent text units flags e st ≡ next after → Formed after
+  formed-next : (st after : State) (e : Event) → Formed st → isErrorEvent e ≡ false → isHeeded flags e ≡ false → onEvent text units flags e st ≡ next after
+      → Formed after
   formed-next st after e q ne h a =
       by (subst (λ (x : State). Sim text units flags x (next after) (e ∷ [])) q
       (subst (Sim text units flags (asForm (st .findings) st) (next after)) (formed-fixed st e q h)
@@ -164,7 +166,8 @@ module _ (text : List ℕ) (units : List NamedUnit) (flags : ℕ) where
     pub same : plainEvents text units flags (traceFrom text units flags line (going st) es) ≡ es
     pub faultless : NoFaults text units flags (traceFrom text units flags line (going st) es)
 
-  walk-fixed : {es : List Event} → Quiet flags es → (line : ℕ) (st end : State) → Formed st → walk text units flags line (going st) es ≡ going end → OwnForm line st es
+  walk-fixed : {es : List Event} → Quiet flags es → (line : ℕ) (st end : State) → Formed st → walk text units flags line (going st) es ≡ going end
+      → OwnForm line st es
   unfolding walk traceFrom traced plainEvents
   walk-fixed quiet-none line st end q w = record { same = refl; faultless = no-line }
   walk-fixed (quiet-more {e} {es} h g) line st end q w = go (walk-fixed g (suc line)) (isErrorEvent e) refl (onEvent text units flags e st) refl

@@ -70,7 +70,8 @@ pair-right : {A B : Type 0} {a b : A} {x y : B} → _≡_ {A = Option (A × B)} 
 pair-right {A} {B} q = ap (λ (p : A × B). p .1) (some-inj q)
 
 module _ {A B : Type 0} where
-  bind-reads : (r : Reader A) (f : A → Reader B) (fs : Fields) (a : A) (fs' : Fields) (x : Option (B × Fields)) → r fs ≡ some (a, fs') → f a fs' ≡ x → _>>=_ r f fs ≡ x
+  bind-reads : (r : Reader A) (f : A → Reader B) (fs : Fields) (a : A) (fs' : Fields) (x : Option (B × Fields)) → r fs ≡ some (a, fs') → f a fs' ≡ x
+      → _>>=_ r f fs ≡ x
   unfolding _>>=_ goOn
   bind-reads r f fs a fs' x p q = rw p q
 

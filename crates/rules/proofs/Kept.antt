@@ -68,7 +68,8 @@ module _ (text : List ℕ) (n : ℕ) where
   -- events that were read
   pub data ReadLines : List Event → Type 0 where
     read-none : ReadLines []
-    read-more : {e : Event} {es : List Event} → Readable e → GoodEvent e → Good (raw (eventFields e)) → all (isGoodSpan text n) (spansOf e) ≡ true → ReadLines es → ReadLines (e ∷ es)
+    read-more : {e : Event} {es : List Event} → Readable e → GoodEvent e → Good (raw (eventFields e)) → all (isGoodSpan text n) (spansOf e) ≡ true → ReadLines es
+        → ReadLines (e ∷ es)
 
   no-events : {P : Type 0} {a b : ℕ} {es : List Event} → unread a b ≡ events es → P
   no-events q = absurd (let z : _≡_ {A = ℕ} 0 1 = cc in omega arith)
@@ -92,7 +93,8 @@ module _ (text : List ℕ) (n : ℕ) where
       IH : Type 0
       IH = (xs : List Event) → suc line ≤ 4097 → readFrom text n (suc line) ls ≡ events xs → ReadAs (suc line) ls xs
 
-      with-good : IH → (e : Event) → parseLine l ≡ some e → all (isGoodSpan text n) (spansOf e) ≡ true → suc line ≤ 4097 → (r : Reading) → readFrom text n (suc line) ls ≡ r → P (withEvent e r)
+      with-good : IH → (e : Event) → parseLine l ≡ some e → all (isGoodSpan text n) (spansOf e) ≡ true → suc line ≤ 4097 → (r : Reading)
+          → readFrom text n (suc line) ls ≡ r → P (withEvent e r)
       with-good ih e g s m (unread a b) k2 p = no-events p
       with-good ih e g s m (events xs) k2 p =
           let t : ReadAs (suc line) ls xs = ih xs m k2 in
@@ -102,7 +104,8 @@ module _ (text : List ℕ) (n : ℕ) where
           (record {
             lines-good = read-more (parse-written l e (k .0) g) (d .parts) (d .good) s (t .lines-good);
             few = omega (arith, t .few);
-            writes = ap (λ (x : List ℕ). x ++ sheetOf xs) (parse-writes l e (k .0) g) ∙ append-assoc l (lf ∷ []) (sheetOf xs) ∙ ap (λ (x : List ℕ). l ++ (lf ∷ x)) (t .writes);
+            writes = ap (λ (x : List ℕ). x ++ sheetOf xs) (parse-writes l e (k .0) g) ∙ append-assoc l (lf ∷ []) (sheetOf xs)
+                ∙ ap (λ (x : List ℕ). l ++ (lf ∷ x)) (t .writes);
           })
 
       go : IH → (o : Option Event) → parseLine l ≡ o → P (readLine text n line o (readFrom text n (suc line) ls))
@@ -138,7 +141,8 @@ module _ (text : List ℕ) (n : ℕ) where
 
 -- ---- the form's events are readable
 
-ingredient-spans : (c : Component) (x : Option Earlier) (i : Option Intermediate) → componentSpans (ingredientEvent (markedIf c x) i) ≡ componentSpans (ingredientEvent c i)
+ingredient-spans : (c : Component) (x : Option Earlier) (i : Option Intermediate)
+    → componentSpans (ingredientEvent (markedIf c x) i) ≡ componentSpans (ingredientEvent c i)
 unfolding markedIf markRef componentSpans namedSpans
 ingredient-spans c none i = refl
 ingredient-spans c (some d) i = refl
@@ -154,19 +158,22 @@ marked-spans units flags st (ingredientEvent c i) = ingredient-spans c _ i
 marked-spans units flags st (cookwareEvent c) = cookware-spans c _
 marked-spans units flags st (timerEvent s n q) = refl
 
-ingredient-readable : (c : Component) (x : Option Earlier) (i : Option Intermediate) → Readable (inside (componentEvent (ingredientEvent c i))) → GoodParts (ingredientEvent c i) → Good (raw (componentFields (ingredientEvent c i)))
+ingredient-readable : (c : Component) (x : Option Earlier) (i : Option Intermediate) → Readable (inside (componentEvent (ingredientEvent c i)))
+    → GoodParts (ingredientEvent c i) → Good (raw (componentFields (ingredientEvent c i)))
     → Readable (inside (componentEvent (ingredientEvent (markedIf c x) i)))
 unfolding markedIf
 ingredient-readable c none i r p g = r
 ingredient-readable c (some d) i r p g = ingredient-marked c i p g
 
-cookware-readable : (c : Component) (x : Option Earlier) → Readable (inside (componentEvent (cookwareEvent c))) → GoodParts (cookwareEvent c) → Good (raw (componentFields (cookwareEvent c)))
+cookware-readable : (c : Component) (x : Option Earlier) → Readable (inside (componentEvent (cookwareEvent c))) → GoodParts (cookwareEvent c)
+    → Good (raw (componentFields (cookwareEvent c)))
     → Readable (inside (componentEvent (cookwareEvent (markedIf c x))))
 unfolding markedIf
 cookware-readable c none r p g = r
 cookware-readable c (some d) r p g = cookware-marked c p g
 
-marked-readable : (units : List NamedUnit) (flags : ℕ) (st : State) (c : ComponentEvent) → Readable (inside (componentEvent c)) → GoodParts c → Good (raw (componentFields c))
+marked-readable : (units : List NamedUnit) (flags : ℕ) (st : State) (c : ComponentEvent) → Readable (inside (componentEvent c)) → GoodParts c
+    → Good (raw (componentFields c))
     → Readable (inside (componentEvent (markedComponent units flags st c)))
 unfolding markedComponent
 marked-readable units flags st (ingredientEvent c i) r p g = ingredient-readable c _ i r p g
@@ -211,7 +218,8 @@ module _ (text : List ℕ) (n : ℕ) where
     between-piece st (startEvent stepKind) r s =
         pick-either AtMostOne (isText (st .modes .define)) _ _ (λ b. piece-one start-readable refl) (λ b. listed-piece st (between (startEvent stepKind)) r s)
 
-    step-piece : (st : State) (i : Inside) → Readable (inside i) → GoodInside i → Good (raw (eventFields (inside i))) → all (isGoodSpan text n) (spansOf (inside i)) ≡ true
+    step-piece : (st : State) (i : Inside) → Readable (inside i) → GoodInside i → Good (raw (eventFields (inside i)))
+        → all (isGoodSpan text n) (spansOf (inside i)) ≡ true
         → AtMostOne (unlessListed st (inside (inPlainStep units flags st i)))
     unfolding inPlainStep spansOf eventFields
     step-piece st (endEvent x) r p g s = listed-piece st (inside (endEvent x)) r s
@@ -227,7 +235,8 @@ module _ (text : List ℕ) (n : ℕ) where
     text-piece (textEvent x) r p g s = piece-one r s
     text-piece (componentEvent c) r p g s = piece-one (source-readable text c p g) (own-span c s)
 
-    event-piece : (st : State) (e : Event) → Readable e → GoodEvent e → Good (raw (eventFields e)) → all (isGoodSpan text n) (spansOf e) ≡ true → AtMostOne (plainEvent text units flags st e)
+    event-piece : (st : State) (e : Event) → Readable e → GoodEvent e → Good (raw (eventFields e)) → all (isGoodSpan text n) (spansOf e) ≡ true
+        → AtMostOne (plainEvent text units flags st e)
     unfolding plainEvent
     event-piece st (between b) r p g s = between-piece st b r s
     event-piece st (parserEvent x y) r p g s = piece-one r s
@@ -247,21 +256,30 @@ module _ (text : List ℕ) (n : ℕ) where
     unfolding traceFrom traced plainEvents
     trace-good read-none line w = record { lines-good = written-none; few = omega arith }
     trace-good (read-more {e} {es} r p g s h) line (going st) =
-        let t : FormLines es (plainEvents text units flags (traceFrom text units flags (suc line) (step text units flags line e (going st)) es)) = trace-good h (suc line) (step text units flags line e (going st)) in
+        let t : FormLines es (plainEvents text units flags (traceFrom text units flags (suc line) (step text units flags line e (going st)) es)) = trace-good h
+        (suc line) (step text units flags line e (going st)) in
         let q : AtMostOne (plainEvent text units flags st e) = event-piece st e r p g s in
-        record { lines-good = piece-lines q (t .lines-good); few = omega (arith, piece-count (plainEvents text units flags (traceFrom text units flags (suc line) (step text units flags line e (going st)) es)) q, t .few) }
+        record {
+          lines-good = piece-lines q (t .lines-good);
+          few = omega
+              (arith, piece-count (plainEvents text units flags (traceFrom text units flags (suc line) (step text units flags line e (going st)) es)) q, t .few);
+        }
     trace-good (read-more {e} {es} r p g s h) line (failed fs) =
-        let t : FormLines es (plainEvents text units flags (traceFrom text units flags (suc line) (step text units flags line e (failed fs)) es)) = trace-good h (suc line) (step text units flags line e (failed fs)) in
+        let t : FormLines es (plainEvents text units flags (traceFrom text units flags (suc line) (step text units flags line e (failed fs)) es)) = trace-good h
+        (suc line) (step text units flags line e (failed fs)) in
         record { lines-good = t .lines-good; few = omega (arith, t .few) }
     trace-good (read-more {e} {es} r p g s h) line (refused a b) =
-        let t : FormLines es (plainEvents text units flags (traceFrom text units flags (suc line) (step text units flags line e (refused a b)) es)) = trace-good h (suc line) (step text units flags line e (refused a b)) in
+        let t : FormLines es (plainEvents text units flags (traceFrom text units flags (suc line) (step text units flags line e (refused a b)) es)) = trace-good h
+        (suc line) (step text units flags line e (refused a b)) in
         record { lines-good = t .lines-good; few = omega (arith, t .few) }
 
 -- the form's bytes read back as the form's events
 pub form-reads : (text sheet : List ℕ) (us : List NamedUnit) (flags : ℕ) (es : List Event) → readSheet text sheet ≡ events es
-    → readSheet text (sheetOf (plainEvents text us flags (traceFrom text us flags 1 (going firstState) es))) ≡ events (plainEvents text us flags (traceFrom text us flags 1 (going firstState) es))
+    → readSheet text (sheetOf (plainEvents text us flags (traceFrom text us flags 1 (going firstState) es))) ≡ events
+    (plainEvents text us flags (traceFrom text us flags 1 (going firstState) es))
 unfolding readSheet
 form-reads text sheet us flags es q =
     let r : ReadAs text (length text) 1 (lines sheet) es = read-good text (length text) 1 (lines sheet) es (omega arith) (lines-lf sheet) q in
-    let t : FormLines text (length text) us flags es (plainEvents text us flags (traceFrom text us flags 1 (going firstState) es)) = trace-good text (length text) us flags (r .lines-good) 1 (going firstState) in
+    let t : FormLines text (length text) us flags es (plainEvents text us flags (traceFrom text us flags 1 (going firstState) es)) = trace-good text
+    (length text) us flags (r .lines-good) 1 (going firstState) in
     written-reads text (length text) 1 (t .lines-good) (omega (arith, r .few, t .few))

@@ -60,7 +60,8 @@ module _ (flags : ℕ) where
   unfolding duplicateAt duplicatesBy
   duplicate-same e earlier q = rw q (unset (hasModes flags) (duplicateAt flags earlier))
 
-  unmarked-same : (k : Kind) (e : Event) (earlier : List Event) → entryIn (defineAt flags earlier) e ≡ noEntry → unmarked flags k (e ∷ earlier) ≡ unmarked flags k earlier
+  unmarked-same : (k : Kind) (e : Event) (earlier : List Event) → entryIn (defineAt flags earlier) e ≡ noEntry
+      → unmarked flags k (e ∷ earlier) ≡ unmarked flags k earlier
   unfolding unmarked unmarkedBy
   unmarked-same k e earlier q = rw q
 
@@ -72,13 +73,15 @@ module _ (flags : ℕ) where
   unfolding entryIn
   text-entry m e q = rw q
 
-  table-is : (k : Kind) (st after : State) → after .tables .ingredients ≡ st .tables .ingredients → after .tables .cookware ≡ st .tables .cookware → tableOf k after ≡ tableOf k st
+  table-is : (k : Kind) (st after : State) → after .tables .ingredients ≡ st .tables .ingredients → after .tables .cookware ≡ st .tables .cookware
+      → tableOf k after ≡ tableOf k st
   unfolding tableOf
   table-is ingredient st after i c = i
   table-is cookware st after i c = c
 
   module _ (earlier : List Event) (st : State) (h : Knows earlier st) (e : Event) where
-    pub same-tables : entryIn (defineAt flags earlier) e ≡ noEntry → (after : State) → after .tables .ingredients ≡ st .tables .ingredients → after .tables .cookware ≡ st .tables .cookware
+    pub same-tables : entryIn (defineAt flags earlier) e ≡ noEntry → (after : State) → after .tables .ingredients ≡ st .tables .ingredients
+        → after .tables .cookware ≡ st .tables .cookware
         → (k : Kind) → Listed (tableOf k after) (unmarked flags k (e ∷ earlier))
     same-tables x after i c k =
         subst (Listed (tableOf k after)) (sym (unmarked-same k e earlier x))
@@ -88,7 +91,8 @@ module _ (flags : ℕ) where
     same-places x k = subst (Below (suc (length earlier))) (sym (unmarked-same k e earlier x)) (below-up (h .places k))
 
     pub knows-same : modeKey e ≡ none → entryIn (defineAt flags earlier) e ≡ noEntry → (after : State) → after .modes ≡ st .modes
-        → after .tables .ingredients ≡ st .tables .ingredients → after .tables .cookware ≡ st .tables .cookware → Agrees (after .place .block) (isText (st .modes .define))
+        → after .tables .ingredients ≡ st .tables .ingredients → after .tables .cookware ≡ st .tables .cookware
+        → Agrees (after .place .block) (isText (st .modes .define))
         → Knows (e ∷ earlier) after
     knows-same q x after m i c b =
         record {
@@ -168,7 +172,8 @@ module _ (flags : ℕ) where
   no-block (textOpen ts) a b q = no-truth (sym q)
   no-block (textModeOpen ts) a b q = no-truth (sym q)
 
-  pub meta-knows : (earlier : List Event) (st : State) → Knows earlier st → isOpen (st .place .block) ≡ false → (k v : Text) → Knows (between (metaEvent k v) ∷ earlier) (onMetadata flags k v st)
+  pub meta-knows : (earlier : List Event) (st : State) → Knows earlier st → isOpen (st .place .block) ≡ false → (k v : Text)
+      → Knows (between (metaEvent k v) ∷ earlier) (onMetadata flags k v st)
   unfolding onMetadata
   meta-knows earlier st h q k v =
       record {
@@ -179,7 +184,8 @@ module _ (flags : ℕ) where
             (key-duplicate (hasModes flags) (wordIn (keyText k) configKeys) (isBracketed (keyText k)) k v st
             ∙ ap (orElse (pick (hasModes flags) (duplicatesBy (wordIn (keyText k) configKeys) (valueText v)) none)) (h .duplicate));
         block = no-block _ true _ (ap (λ (p : Place). isOpen (p .block)) (left .place-is) ∙ q);
-        tables = same-tables earlier st h e none-here after (ap (λ (t : Tables). t .ingredients) (left .tables-are)) (ap (λ (t : Tables). t .cookware) (left .tables-are));
+        tables = same-tables earlier st h e none-here after (ap (λ (t : Tables). t .ingredients) (left .tables-are))
+            (ap (λ (t : Tables). t .cookware) (left .tables-are));
         places = same-places earlier st h e none-here;
       }
     where

@@ -44,7 +44,8 @@ entry-timer s n q = refl
 
 data MadeAs (m : DefineMode) (d : DuplicateMode) (j : Kind) (c : Component) (us : List Unmarked) : Entry → Type 0 where
   as-marked : {e : Entry} → isMarked m d j c us ≡ true → e .modifiers .ref ≡ true → MadeAs m d j c us e
-  as-entry : {e : Entry} → isMarked m d j c us ≡ false → e .modifiers .ref ≡ false → foldName (e .name) ≡ foldedName j c → e .modifiers .opt ≡ c .modifiers .opt → MadeAs m d j c us e
+  as-entry : {e : Entry} → isMarked m d j c us ≡ false → e .modifiers .ref ≡ false → foldName (e .name) ≡ foldedName j c → e .modifiers .opt ≡ c .modifiers .opt
+      → MadeAs m d j c us e
 
 module _ (m : DefineMode) (d : DuplicateMode) (j : Kind) (c : Component) where
   has-ref : (us : List Unmarked) → c .modifiers .ref ≡ true → isMarked m d j c us ≡ true
@@ -62,7 +63,8 @@ module _ (m : DefineMode) (d : DuplicateMode) (j : Kind) (c : Component) where
   push-listed x table us place h b (as-marked q r) = rw q (listed-marked r (referred-listed (x .refersTo) h))
   push-listed x table us place h b (as-entry q r f o) = rw q (listed-entry r f o b (referred-listed (x .refersTo) h))
 
-  push-below : (us : List Unmarked) (place : ℕ) → Below place us → Below (suc place) (pick (not (isMarked m d j c us)) (record { place = place; folded = foldedName j c; isOpt = c .modifiers .opt } ∷ us) us)
+  push-below : (us : List Unmarked) (place : ℕ) → Below place us
+      → Below (suc place) (pick (not (isMarked m d j c us)) (record { place = place; folded = foldedName j c; isOpt = c .modifiers .opt } ∷ us) us)
   push-below us place b = pick-either (Below (suc place)) (not (isMarked m d j c us)) _ _ (λ q. below-more (omega arith) (below-up b)) (λ q. below-up b)
 
 referring-ref : (j : Kind) (o : Option Earlier) (new : Entry) → new .modifiers .ref ≡ true → asReferring j o new .modifiers .ref ≡ true
@@ -82,7 +84,8 @@ module _ (text : List ℕ) (units : List NamedUnit) (flags : ℕ) where
       target : Option Earlier
       target = refersTo (st .modes) new (foundSame new (tableOf j st))
 
-      by : {a b : Option Earlier} {x y : Option Unmarked} → Links a b x y → c .modifiers .ref ≡ false → implicitTarget (st .modes .define) (st .modes .duplicate) j c us ≡ x
+      by : {a b : Option Earlier} {x y : Option Unmarked} → Links a b x y → c .modifiers .ref ≡ false
+          → implicitTarget (st .modes .define) (st .modes .duplicate) j c us ≡ x
           → MadeAs (st .modes .define) (st .modes .duplicate) j c us (asReferring j a new)
       by no-link r q =
           unfold asReferring newEntry entryOf entryWith isSome foldedName in
@@ -111,7 +114,8 @@ module _ (text : List ℕ) (units : List NamedUnit) (flags : ℕ) where
     N e s = KnowsStep flags (e ∷ earlier) s
 
     tables-pushed : (j k : Kind) (c : Component) (m : Made) (is : List Item)
-        → Listed (pushed m (tableOf j st)) (pick (not (isMarked (defineAt flags earlier) (duplicateAt flags earlier) j c (Us j))) (record { place = length earlier; folded = foldedName j c; isOpt = c .modifiers .opt } ∷ Us j) (Us j))
+        → Listed (pushed m (tableOf j st)) (pick (not (isMarked (defineAt flags earlier) (duplicateAt flags earlier) j c (Us j)))
+        (record { place = length earlier; folded = foldedName j c; isOpt = c .modifiers .opt } ∷ Us j) (Us j))
         → Listed (tableOf k (pushComponent j m is st)) (unmarkedBy (defineAt flags earlier) (duplicateAt flags earlier) k (length earlier) (entryLine j c) (Us k))
     unfolding unmarkedBy sameKind pushComponent pushItems setTable setTables tableOf report setBlock setPlace setKept
     tables-pushed ingredient ingredient c m is p = p
@@ -119,12 +123,15 @@ module _ (text : List ℕ) (units : List NamedUnit) (flags : ℕ) where
     tables-pushed cookware ingredient c m is p = h .tables ingredient
     tables-pushed cookware cookware c m is p = p
 
-    places-pushed : (j k : Kind) (c : Component) → Below (suc (length earlier)) (unmarkedBy (defineAt flags earlier) (duplicateAt flags earlier) k (length earlier) (entryLine j c) (Us k))
+    places-pushed : (j k : Kind) (c : Component)
+        → Below (suc (length earlier)) (unmarkedBy (defineAt flags earlier) (duplicateAt flags earlier) k (length earlier) (entryLine j c) (Us k))
     unfolding unmarkedBy sameKind
-    places-pushed ingredient ingredient c = push-below (defineAt flags earlier) (duplicateAt flags earlier) ingredient c (Us ingredient) (length earlier) (h .places ingredient)
+    places-pushed ingredient ingredient c = push-below (defineAt flags earlier) (duplicateAt flags earlier) ingredient c (Us ingredient) (length earlier)
+        (h .places ingredient)
     places-pushed ingredient cookware c = below-up (h .places cookware)
     places-pushed cookware ingredient c = below-up (h .places ingredient)
-    places-pushed cookware cookware c = push-below (defineAt flags earlier) (duplicateAt flags earlier) cookware c (Us cookware) (length earlier) (h .places cookware)
+    places-pushed cookware cookware c = push-below (defineAt flags earlier) (duplicateAt flags earlier) cookware c (Us cookware) (length earlier)
+        (h .places cookware)
 
     unmarked-entry : (j k : Kind) (e : Event) (c : Component) → entryOfLine e ≡ entryLine j c → isText (st .modes .define) ≡ false
         → unmarked flags k (e ∷ earlier) ≡ unmarkedBy (defineAt flags earlier) (duplicateAt flags earlier) k (length earlier) (entryLine j c) (Us k)
@@ -134,7 +141,8 @@ module _ (text : List ℕ) (units : List NamedUnit) (flags : ℕ) where
         here : entryIn (defineAt flags earlier) e ≡ entryLine j c
         here = unfold entryIn in rw (sym (h .define), t, q)
 
-    pushed-knows : (j : Kind) (e : Event) (c : Component) (m : Made) (is : List Item) → modeKey e ≡ none → entryOfLine e ≡ entryLine j c → isText (st .modes .define) ≡ false
+    pushed-knows : (j : Kind) (e : Event) (c : Component) (m : Made) (is : List Item) → modeKey e ≡ none → entryOfLine e ≡ entryLine j c
+        → isText (st .modes .define) ≡ false
         → MadeAs (st .modes .define) (st .modes .duplicate) j c (Us j) (m .entry) → Knows flags (e ∷ earlier) (pushComponent j m is st)
     pushed-knows j e c m is q x t a =
         record {
@@ -162,7 +170,9 @@ module _ (text : List ℕ) (units : List NamedUnit) (flags : ℕ) where
         opened-step : Agrees (pushComponent j m is st .place .block) (isText (st .modes .define))
         opened-step = unfold pushComponent pushItems report setBlock setPlace setKept in t
 
-        made-in : Listed (pushed m (tableOf j st)) (pick (not (isMarked (defineAt flags earlier) (duplicateAt flags earlier) j c (Us j))) (record { place = length earlier; folded = foldedName j c; isOpt = c .modifiers .opt } ∷ Us j) (Us j))
+        made-in : Listed (pushed m (tableOf j st))
+            (pick (not (isMarked (defineAt flags earlier) (duplicateAt flags earlier) j c (Us j)))
+            (record { place = length earlier; folded = foldedName j c; isOpt = c .modifiers .opt } ∷ Us j) (Us j))
         made-in =
             push-listed (defineAt flags earlier) (duplicateAt flags earlier) j c m (tableOf j st) (Us j) (length earlier) (h .tables j) (h .places j)
             (subst (λ (y : DuplicateMode). MadeAs (defineAt flags earlier) y j c (Us j) (m .entry)) (h .duplicate)
@@ -175,13 +185,16 @@ module _ (text : List ℕ) (units : List NamedUnit) (flags : ℕ) where
     chained-knows e m after k =
         pick-either (N e) (refersToReference (m .refersTo)) _ _ (λ b. pick-either (N e) (overLimits after) _ _ (λ c. tt) (λ c. tt)) (λ b. k)
 
-    pub component-knows : (c : ComponentEvent) (is : List Item) → isText (st .modes .define) ≡ false → N (inside (componentEvent c)) (onComponent units flags c is st)
+    pub component-knows : (c : ComponentEvent) (is : List Item) → isText (st .modes .define) ≡ false
+        → N (inside (componentEvent c)) (onComponent units flags c is st)
     unfolding onComponent onMade makeCookware intermediateFault unlessFault
     component-knows (cookwareEvent c) is t =
         chained-knows _ _ _ (pushed-knows cookware _ c _ is (mode-none _) (entry-cookware c) t (by-name-made cookware c st _ (h .tables cookware)))
     component-knows (timerEvent a x q) is t =
         unfold pushTimer pushItems setTimers setTables report setBlock setPlace setKept in
-        knows-same flags earlier st h (inside (componentEvent (timerEvent a x q))) (mode-none (timerEvent a x q)) (no-entry flags (defineAt flags earlier) (inside (componentEvent (timerEvent a x q))) (entry-timer a x q)) (pushTimer units flags x q is st) refl refl refl t
+        knows-same flags earlier st h (inside (componentEvent (timerEvent a x q))) (mode-none (timerEvent a x q))
+        (no-entry flags (defineAt flags earlier) (inside (componentEvent (timerEvent a x q))) (entry-timer a x q))
+        (pushTimer units flags x q is st) refl refl refl t
     component-knows (ingredientEvent c none) is t =
         unfold makeIngredient in
         chained-knows _ _ _ (pushed-knows ingredient _ c _ is (mode-none _) (entry-ingredient c none) t (by-name-made ingredient c st _ (h .tables ingredient)))
@@ -193,7 +206,8 @@ module _ (text : List ℕ) (units : List NamedUnit) (flags : ℕ) where
         m : Made
         m = makeIngredient units flags c (some i) st
 
-        go : (b : Bool) → c .modifiers .ref ≡ b → (n : Bool) → N e (unlessFault (pick {X = Option ℕ} (not b) (some 15) (pick n (some 16) none)) (unlessChained m (pushComponent ingredient m is st)))
+        go : (b : Bool) → c .modifiers .ref ≡ b → (n : Bool)
+            → N e (unlessFault (pick {X = Option ℕ} (not b) (some 15) (pick n (some 16) none)) (unlessChained m (pushComponent ingredient m is st)))
         go false r n = tt
         go true r true = tt
         go true r false =

@@ -15,7 +15,8 @@ use Rattle.rules.specs.Plain.{Traced, plainFault, plainEvents, traceFrom
 use Rattle.rules.specs.Answer.{Answer, declined, collection, Lent, wordsNeeded, bytesNeeded, isShort, handOut, gives17, formAnswer, faultOr, unlessFaulty, formOf, plainOf, unitsOr, plainAnswer}
 use Rattle.rules.specs.PlainForm.{eventsOf, plainForm, fitted, lentTo}
 
-unless-fitted : (us : List NamedUnit) (flags room : ℕ) (w : Answer) (ts : List Traced) → unlessFaulty us flags (fitted room w) ts ≡ fitted room (unlessFaulty us flags w ts)
+unless-fitted : (us : List NamedUnit) (flags room : ℕ) (w : Answer) (ts : List Traced)
+    → unlessFaulty us flags (fitted room w) ts ≡ fitted room (unlessFaulty us flags w ts)
 unfolding unlessFaulty
 unless-fitted us flags room w [] = refl
 unless-fitted us flags room w (t ∷ ts) = by (plainFault us flags (t .state) (t .event)) (unless-fitted us flags room w ts)

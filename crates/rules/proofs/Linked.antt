@@ -32,7 +32,8 @@ below-up {n} (below-more {u = u} h s) = let g : u .place < suc n = omega arith i
 pub data Listed : List Entry → List Unmarked → Type 0 where
   listed-none : Listed [] []
   listed-marked : {e : Entry} {es : List Entry} {us : List Unmarked} → e .modifiers .ref ≡ true → Listed es us → Listed (e ∷ es) us
-  listed-entry : {e : Entry} {es : List Entry} {u : Unmarked} {us : List Unmarked} → e .modifiers .ref ≡ false → foldName (e .name) ≡ u .folded → e .modifiers .opt ≡ u .isOpt
+  listed-entry : {e : Entry} {es : List Entry} {u : Unmarked} {us : List Unmarked} → e .modifiers .ref ≡ false → foldName (e .name) ≡ u .folded
+      → e .modifiers .opt ≡ u .isOpt
       → Below (u .place) us → Listed es us → Listed (e ∷ es) (u ∷ us)
 
 -- a referrer more changes relations only
@@ -97,7 +98,8 @@ module _ (f : List ℕ) (o : Bool) where
       E = record { index = length es; entry = e }
 
       go : (x y : Bool) → B es us
-          → Both (pick (x && y) (some E) (sameNameIn f false o es)) (pick y (some E) (sameNameIn f true o es)) (pick (x && y) (some u) (lastFitting f o us)) (pick y (some u) (lastNamed f us))
+          → Both (pick (x && y) (some E) (sameNameIn f false o es)) (pick y (some E) (sameNameIn f true o es)) (pick (x && y) (some u) (lastFitting f o us))
+          (pick y (some u) (lastNamed f us))
       go true true ih = same-one
       go true false ih = ih
       go false false ih = ih
@@ -139,4 +141,5 @@ pub line-links : (k : Kind) (c : Component) (st : State) (us : List Unmarked) �
     (implicitTarget (st .modes .define) (st .modes .duplicate) k c us) (lastNamed (foldedName k c) us)
 unfolding refersTo treatAsReference isExplicit foundSame sameNameOf newEntry entryOf entryWith implicitTarget foldedName
 line-links k c st us r h =
-    marked-or (c .modifiers .ref) (c .modifiers .new) (isSteps (st .modes .define)) (isReference (st .modes .duplicate)) (λ b. sameNameIn (foldedName k c) b (c .modifiers .opt) (tableOf k st)) r (search-both (foldedName k c) (c .modifiers .opt) h)
+    marked-or (c .modifiers .ref) (c .modifiers .new) (isSteps (st .modes .define)) (isReference (st .modes .duplicate))
+    (λ b. sameNameIn (foldedName k c) b (c .modifiers .opt) (tableOf k st)) r (search-both (foldedName k c) (c .modifiers .opt) h)

@@ -97,7 +97,8 @@ module _ (text : List ℕ) (units : List NamedUnit) (flags : ℕ) where
         unfolding madeByName madeWith implicitOf newEntry entryOf entryWith
         form-to =
             ap (λ (e : Entry). refersTo firstModes e (foundSame e (tableOf j G))) new-marked
-            ∙ ap (λ (es : List Entry). refersTo firstModes (markEntryIf (implicitOf c goal) (newEntry j c N)) (foundSame (markEntryIf (implicitOf c goal) (newEntry j c N)) es)) (table-same j)
+            ∙ ap (λ (es : List Entry). refersTo firstModes (markEntryIf (implicitOf c goal) (newEntry j c N))
+            (foundSame (markEntryIf (implicitOf c goal) (newEntry j c N)) es)) (table-same j)
             ∙ resolve-same (N .modes) j (tableOf j N) (newEntry j c N) goal refl no-fault
 
         pub form-entry : madeByName units flags j x G .entry ≡ madeByName units flags j c N .entry
@@ -133,14 +134,16 @@ module _ (text : List ℕ) (units : List NamedUnit) (flags : ℕ) where
           go false = refl
 
       intermediate-step : (c : Component) (i : Intermediate) (f : Option ℕ) → intermediateFault c (some i) ≡ f
-          → Sim text units flags G (unlessFault f (onMade units flags ingredient (makeIngredient units flags c (some i) N) is N)) (inside (componentEvent (ingredientEvent c (some i))) ∷ [])
+          → Sim text units flags G (unlessFault f (onMade units flags ingredient (makeIngredient units flags c (some i) N) is N))
+          (inside (componentEvent (ingredientEvent c (some i))) ∷ [])
       unfolding onEvent onInside inStepBlock onComponent onMade isErrorEvent unlessFault
       intermediate-step c i (some e) q = stopped
       intermediate-step c i none q =
           chained-sim G _ _ _ (makeIngredient units flags c (some i) N) (makeIngredient units flags c (some i) G) _ refl onx
           (ap (λ (m : Made). m .refersTo) (intermediate-same c i))
           (push-same ingredient d is (makeIngredient units flags c (some i) N) (makeIngredient units flags c (some i) G) nc
-          (ap (λ (m : Made). pushed m (tableOf ingredient G)) (intermediate-same c i) ∙ ap (pushed (makeIngredient units flags c (some i) N)) (table-same ingredient)))
+          (ap (λ (m : Made). pushed m (tableOf ingredient G)) (intermediate-same c i)
+          ∙ ap (pushed (makeIngredient units flags c (some i) N)) (table-same ingredient)))
         where
           onx : onEvent text units flags (inside (componentEvent (ingredientEvent c (some i)))) G
               ≡ unlessChained (makeIngredient units flags c (some i) G) (pushComponent ingredient (makeIngredient units flags c (some i) G) is G)
@@ -153,18 +156,23 @@ module _ (text : List ℕ) (units : List NamedUnit) (flags : ℕ) where
       unfolding markFault markedComponent onComponent implicitCookware implicitIngredient makeCookware madeByName makeIngredient isErrorEvent
       step-sim (cookwareEvent c) f = name-step cookware c f _ refl onx
         where
-          onx : onEvent text units flags (inside (componentEvent (cookwareEvent (x cookware c f)))) G ≡ onMade units flags cookware (madeByName units flags cookware (x cookware c f) G) is G
+          onx : onEvent text units flags (inside (componentEvent (cookwareEvent (x cookware c f)))) G ≡ onMade units flags cookware
+              (madeByName units flags cookware (x cookware c f) G) is G
           onx = unfold onEvent onInside inStepBlock in rw nc
       step-sim (ingredientEvent c none) f = unfold makeIngredient intermediateFault unlessFault in name-step ingredient c f _ refl onx
         where
-          onx : onEvent text units flags (inside (componentEvent (ingredientEvent (x ingredient c f) none))) G ≡ onMade units flags ingredient (madeByName units flags ingredient (x ingredient c f) G) is G
+          onx : onEvent text units flags (inside (componentEvent (ingredientEvent (x ingredient c f) none))) G ≡ onMade units flags ingredient
+              (madeByName units flags ingredient (x ingredient c f) G) is G
           onx = unfold onEvent onInside inStepBlock makeIngredient intermediateFault unlessFault in rw nc
       step-sim (ingredientEvent c (some i)) f =
-          subst (λ (y : Component). Sim text units flags G (unlessFault (intermediateFault c (some i)) (onMade units flags ingredient (makeIngredient units flags c (some i) N) is N)) (inside (componentEvent (ingredientEvent y (some i))) ∷ []))
+          subst (λ (y : Component). Sim text units flags G
+          (unlessFault (intermediateFault c (some i)) (onMade units flags ingredient (makeIngredient units flags c (some i) N) is N))
+          (inside (componentEvent (ingredientEvent y (some i))) ∷ []))
           (never-implicit c i) (intermediate-step c i (intermediateFault c (some i)) refl)
       step-sim (timerEvent at name q) f = goes (reverseAux (timerFindings units flags q) fs') refl onx
         where
-          onx : onEvent text units flags (inside (componentEvent (timerEvent at name q))) G ≡ next (asForm (reverseAux (timerFindings units flags q) fs') (pushTimer units flags name q is N))
+          onx : onEvent text units flags (inside (componentEvent (timerEvent at name q))) G ≡ next
+              (asForm (reverseAux (timerFindings units flags q) fs') (pushTimer units flags name q is N))
           onx = unfold onEvent onInside inStepBlock pushTimer pushItems setTimers report setBlock setPlace setKept setTables isComponents firstModes in rw nc
 
     component-sim : (d : DefineMode) (o : Open) (c : ComponentEvent) → componentFault units flags (M d o) c o ≡ none

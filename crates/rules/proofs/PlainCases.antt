@@ -70,7 +70,8 @@ refusals =
     ∷ record {
       sheet =
           concat
-          (mode (codes "[duplicate]") (codes "ref") ∷ codes "start\tstep\n" ∷ named (codes "salt") (codes ".") ∷ named (codes "salt") (codes "?") ∷ named (codes "salt") (codes ".")
+          (mode (codes "[duplicate]") (codes "ref") ∷ codes "start\tstep\n" ∷ named (codes "salt") (codes ".") ∷ named (codes "salt") (codes "?") ∷ named
+          (codes "salt") (codes ".")
           ∷ codes "end\tstep\n" ∷ []);
       flags = 1;
       answer = declined 23 5;

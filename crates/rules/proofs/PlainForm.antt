@@ -76,7 +76,8 @@ module _ (text units : List ℕ) (flags : ℕ) (form : List ℕ) where
   unfolding isWithinLimits
   form-no-17 q = not-true (gives17 (collection form text units flags)) (and-right (leb (length form) 65536) _ q)
 
-none-faults : (text : List ℕ) (us : List NamedUnit) (flags : ℕ) (whole : Answer) {ts : List Traced} → NoFaults text us flags ts → unlessFaulty us flags whole ts ≡ whole
+none-faults : (text : List ℕ) (us : List NamedUnit) (flags : ℕ) (whole : Answer) {ts : List Traced} → NoFaults text us flags ts
+    → unlessFaulty us flags whole ts ≡ whole
 unfolding unlessFaulty faultOr
 none-faults text us flags whole no-line = refl
 none-faults text us flags whole (no-fault p h) = rw p (none-faults text us flags whole h)
@@ -196,7 +197,8 @@ module _ (sheet text units : List ℕ) (flags : ℕ) where
   demanded : (f : List ℕ) → plainForm sheet text units flags ≡ answered f → Demanded sheet text units flags f
   demanded f q = by outcome refl
     where
-      by-limits : (y : Yielding) → Every (IsClear flags) [] es → (b : Bool) → isWithinLimits form text units flags ≡ b → whole ≡ answered f → Demanded sheet text units flags f
+      by-limits : (y : Yielding) → Every (IsClear flags) [] es → (b : Bool) → isWithinLimits form text units flags ≡ b → whole ≡ answered f
+          → Demanded sheet text units flags f
       by-limits y c false w p = not-answered (sym (beyond-form text units flags form w) ∙ p)
       by-limits y c true w p =
           let z : f ≡ form = same-answer (sym p ∙ within-form text units flags form w) in
@@ -256,15 +258,18 @@ module _ (sheet text units : List ℕ) (flags : ℕ) where
       is-accepted : (y : Yielding) → isAccepted outcome ≡ true
       is-accepted y = accepted-as (recipe (y .state)) (y .has-recipe) (unfold isAccepted in refl)
 
-      by-limits : (y : Yielding) → Every (IsClear flags) [] es → (b : Bool) → isWithinLimits form text units flags ≡ b → whole ≡ declined n l → Declined sheet text units flags n l
+      by-limits : (y : Yielding) → Every (IsClear flags) [] es → (b : Bool) → isWithinLimits form text units flags ≡ b → whole ≡ declined n l
+          → Declined sheet text units flags n l
       by-limits y c true w p = not-answered (sym p ∙ within-form text units flags form w)
       by-limits y c false w p =
-          the 24 0 (overLimit (is-accepted y) (recipe-means (y .state) (y .has-recipe)) (every-lines (IsClear flags) es c) w) (sym (beyond-form text units flags form w) ∙ p)
+          the 24 0 (overLimit (is-accepted y) (recipe-means (y .state) (y .has-recipe)) (every-lines (IsClear flags) es c) w)
+          (sym (beyond-form text units flags form w) ∙ p)
 
       by-found : (y : Yielding) {a : Answer} → Found text us flags whole [] 1 es a → a ≡ declined n l → Declined sheet text units flags n l
       by-found y (all-clear c) p = by-limits y c (isWithinLimits form text units flags) refl p
       by-found y (first-at {n = m} before rest e s c x) p =
-          the m (suc (length before)) (atLine (is-accepted y) (recipe-means (y .state) (y .has-recipe)) before rest e s (every-lines (IsClear flags) before c) x) (ap (declined m) (sym (one-more (length before))) ∙ p)
+          the m (suc (length before)) (atLine (is-accepted y) (recipe-means (y .state) (y .has-recipe)) before rest e s (every-lines (IsClear flags) before c) x)
+          (ap (declined m) (sym (one-more (length before))) ∙ p)
 
       by-first : (fs : List Finding) → outcome ≡ noRecipe fs → FirstError 1 es → Declined sheet text units flags n l
       by-first fs p r =
@@ -293,7 +298,8 @@ module _ (sheet text units : List ℕ) (flags : ℕ) where
     form-recipe : (fs : List Finding) × (collection form text units flags ≡ recipe (asForm fs (y .state)))
     form-recipe = by (form-yields text us flags es (y .state) (sym (parsed-as (y .got)) ∙ y .has-recipe) (faultless y clear)) form-collection
       where
-        by : {o : Outcome} → Same (y .state) o → collection form text units flags ≡ o → (fs : List Finding) × (collection form text units flags ≡ recipe (asForm fs (y .state)))
+        by : {o : Outcome} → Same (y .state) o → collection form text units flags ≡ o
+            → (fs : List Finding) × (collection form text units flags ≡ recipe (asForm fs (y .state)))
         by (yields fs) q = (fs, q)
         by (limit l) q = over-17 l (rw q at (form-no-17 text units flags form fits))
 
@@ -326,7 +332,8 @@ module _ (sheet text units : List ℕ) (flags : ℕ) where
     own-answer : plainForm form text units flags ≡ answered form
     own-answer =
         answer-by-recipe form text units flags (asForm (form-recipe .0) (y .state)) (form-recipe .1)
-        ∙ none-faults text us flags _ (subst (λ (l : List Event). NoFaults text us flags (traceFrom text us flags 1 (going firstState) l)) (sym form-events) (form-own .faultless))
+        ∙ none-faults text us flags _ (subst (λ (l : List Event). NoFaults text us flags (traceFrom text us flags 1 (going firstState) l)) (sym form-events)
+        (form-own .faultless))
         ∙ ap (formAnswer text units flags 65536) form-again ∙ within-form text units flags form fits
 
   -- what holds of the form that the rules make holds of what is handed out

@@ -29,7 +29,8 @@ quiet-both quiet-none h = h
 quiet-both (quiet-more q g) h = quiet-more q (quiet-both g h)
 
 -- the lines before one of them, newest first
-quiet-onto : {flags : ℕ} (a b : List Event) (e : Event) (c : List Event) → Quiet flags (a ++ (e ∷ c)) → Quiet flags b → Quiet flags (reverseAux a b) × (isHeeded flags e ≡ false)
+quiet-onto : {flags : ℕ} (a b : List Event) (e : Event) (c : List Event) → Quiet flags (a ++ (e ∷ c)) → Quiet flags b
+    → Quiet flags (reverseAux a b) × (isHeeded flags e ≡ false)
 quiet-onto [] b e c (quiet-more q h) g = (g, q)
 quiet-onto (x ∷ a) b e c (quiet-more q h) g = quiet-onto a (x ∷ b) e c h (quiet-more q g)
 
@@ -93,7 +94,8 @@ module _ (text : List ℕ) (units : List NamedUnit) (flags : ℕ) where
 -- ---- without heeded mode lines the modes are the first ones, and every reference is explicit
 
 -- the mode that a line sets is none where it is not heeded
-quiet-sets : {A : Type 0} (h : Bool) (o : Option ConfigKey) (v : List ℕ) (sets : Option ConfigKey → List ℕ → Option A) → (h && isSome o) ≡ false → sets none v ≡ none → pick h (sets o v) none ≡ none
+quiet-sets : {A : Type 0} (h : Bool) (o : Option ConfigKey) (v : List ℕ) (sets : Option ConfigKey → List ℕ → Option A) → (h && isSome o) ≡ false
+    → sets none v ≡ none → pick h (sets o v) none ≡ none
 unfolding isSome
 quiet-sets false o v sets q n = refl
 quiet-sets true none v sets q n = n

@@ -60,7 +60,8 @@ marked-component c h = record { place = h .place; named = h .named; aliased = h 
 
 -- the modifiers' field among a component's fields
 before : Component → Fields
-before c = spanFields (c .span) ++ textFields (c .name) ++ optFields textFields (c .alias) ++ optFields quantityFields (c .quantity) ++ optFields textFields (c .note)
+before c = spanFields (c .span) ++ textFields (c .name) ++ optFields textFields (c .alias) ++ optFields quantityFields (c .quantity) ++ optFields textFields
+    (c .note)
 
 component-raw : (c : Component) → raw (namedFields c) ≡ raw (before c) ++ (raw (modifiersFields (c .modifiers)) ++ raw (spanFields (c .modifiersSpan)))
 unfolding namedFields before each
@@ -114,7 +115,8 @@ module _ (c : Component) where
           (two-parts (namedFields (markRef c)) (optFields intermediateFields i) refl refl)
           (unfold readIngredient in
           after readComponent _ _ _ (markRef c) (inside (componentEvent (ingredientEvent (markRef c) i))) (component-back (markRef c) (marked-component c (h .0)))
-          (after (opt readIntermediate) _ _ _ i (inside (componentEvent (ingredientEvent (markRef c) i))) (h .1) (given-back (inside (componentEvent (ingredientEvent (markRef c) i))))))
+          (after (opt readIntermediate) _ _ _ i (inside (componentEvent (ingredientEvent (markRef c) i))) (h .1)
+          (given-back (inside (componentEvent (ingredientEvent (markRef c) i))))))
 
   pub cookware-marked : GoodParts (cookwareEvent c) → Good (raw (componentFields (cookwareEvent c))) → Readable (inside (componentEvent (cookwareEvent (markRef c))))
   unfolding eventFields componentFields each readAfter readCookware
@@ -150,12 +152,14 @@ span-good (timerEvent s n q) (good-more w (good-more a (good-more b g))) = good-
 text-word : GoodField (escape (codes "text"))
 text-word =
     record {
-      utf8 = utf8-escape (codes "text") (utf8-ascii 116 _ (omega arith) ∙ utf8-ascii 101 _ (omega arith) ∙ utf8-ascii 120 _ (omega arith) ∙ utf8-ascii 116 _ (omega arith) ∙ utf8-none);
+      utf8 = utf8-escape (codes "text") (utf8-ascii 116 _ (omega arith) ∙ utf8-ascii 101 _ (omega arith) ∙ utf8-ascii 120 _ (omega arith)
+          ∙ utf8-ascii 116 _ (omega arith) ∙ utf8-none);
       no-tab = escape-no-tab (codes "text");
       no-lf = escape-no-lf (codes "text");
     }
 
-pub text-readable : (s : Span) (cs : List ℕ) → Back readSpan (raw (spanFields s)) s → Good (raw (spanFields s)) → Scalars cs → Readable (inside (textEvent (record { span = s; content = cs })))
+pub text-readable : (s : Span) (cs : List ℕ) → Back readSpan (raw (spanFields s)) s → Good (raw (spanFields s)) → Scalars cs
+    → Readable (inside (textEvent (record { span = s; content = cs })))
 unfolding eventFields textFields each readAfter readTextLine
 text-readable s cs b g h =
     parse-by _ (escape (codes "text")) (raw (spanFields s ++ (encode cs ∷ []))) _ refl

@@ -82,11 +82,13 @@ pub resolve-same : (m : Modes) (k : Kind) (table : List Entry) (e : Entry) (o : 
     → implicitFault e table (pick (e .modifiers .ref) none o) ≡ none
     → refersTo firstModes (markEntryIf (pick (e .modifiers .ref) none o) e) (foundSame (markEntryIf (pick (e .modifiers .ref) none o) e) table) ≡ o
 resolve-same m k table e o =
-    resolved m k table (e .name) (e .path) (e .alias) (e .quantity) (e .note) (e .relation) (e .source) (e .modifiers .recipe) (e .modifiers .hidden) (e .modifiers .opt)
+    resolved m k table (e .name) (e .path) (e .alias) (e .quantity) (e .note) (e .relation) (e .source) (e .modifiers .recipe) (e .modifiers .hidden)
+    (e .modifiers .opt)
     (e .modifiers .ref) (e .modifiers .new) o
 
 -- and becomes the same entry
 pub rebuilt-same : (k : Kind) (e : Entry) (o : Option Earlier) → asReferring k o (markEntryIf (pick (e .modifiers .ref) none o) e) ≡ asReferring k o e
 rebuilt-same k e o =
-    rebuilt firstModes k [] (e .name) (e .path) (e .alias) (e .quantity) (e .note) (e .relation) (e .source) (e .modifiers .recipe) (e .modifiers .hidden) (e .modifiers .opt)
+    rebuilt firstModes k [] (e .name) (e .path) (e .alias) (e .quantity) (e .note) (e .relation) (e .source) (e .modifiers .recipe) (e .modifiers .hidden)
+    (e .modifiers .opt)
     (e .modifiers .ref) (e .modifiers .new) o

@@ -50,7 +50,8 @@ made d u md s n o k t fs =
 pub data Sim (text : List ℕ) (units : List NamedUnit) (flags : ℕ) (now : State) : Step → List Event → Type 0 where
   stopped : {n : ℕ} {es : List Event} → Sim text units flags now (stop n) es
   skips : {st : State} (fs : List Finding) → now ≡ asForm fs st → Sim text units flags now (next st) []
-  goes : {st : State} {e : Event} (fs : List Finding) → isErrorEvent e ≡ false → onEvent text units flags e now ≡ next (asForm fs st) → Sim text units flags now (next st) (e ∷ [])
+  goes : {st : State} {e : Event} (fs : List Finding) → isErrorEvent e ≡ false → onEvent text units flags e now ≡ next (asForm fs st)
+      → Sim text units flags now (next st) (e ∷ [])
 
 module _ (text : List ℕ) (units : List NamedUnit) (flags : ℕ) where
   module _ (u : DuplicateMode) (md : Metadata) (s : Section) (n : ℕ) (k : Kept) (t : Tables) (fs fs' : List Finding) where

@@ -148,12 +148,14 @@ module _ (text : List ℕ) (units : List NamedUnit) (flags : ℕ) where
       go (failed fs) p q = absurd (let z : _≡_ {A = ℕ} 0 1 = cc in omega arith)
       go (refused n l) p q = no-recipe q
 
-  pub form-yields : (es : List Event) (st : State) → parseEvents text units flags es ≡ recipe st → NoFaults text units flags (traceFrom text units flags 1 (going firstState) es)
+  pub form-yields : (es : List Event) (st : State) → parseEvents text units flags es ≡ recipe st
+      → NoFaults text units flags (traceFrom text units flags 1 (going firstState) es)
       → Same st (parseEvents text units flags (plainEvents text units flags (traceFrom text units flags 1 (going firstState) es)))
   form-yields es st q f =
       let r : Went es st = went es st q in
       unfold parseEvents in outcome-form st (r .last) _ (r .done)
-      (subst (λ (x : State). Ends text units flags (r .last) (walk text units flags 1 (going x) (plainEvents text units flags (traceFrom text units flags 1 (going firstState) es)))) (sym start)
+      (subst (λ (x : State). Ends text units flags (r .last)
+      (walk text units flags 1 (going x) (plainEvents text units flags (traceFrom text units flags 1 (going firstState) es)))) (sym start)
       (walk-sim text units flags es (r .last) 1 1 firstState [] (r .there) f))
     where
       start : firstState ≡ asForm [] firstState

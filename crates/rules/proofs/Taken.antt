@@ -79,7 +79,8 @@ abbrev AllWords : {A : Type 0} → (A → List ℕ) → List (List ℕ × A) →
 AllWords w [] = Unit {0}
 AllWords w (e ∷ es) = (e .0 ≡ escape (w (e .1))) × AllWords w es
 
-word-field : {A : Type 0} (w : A → List ℕ) (table : List (List ℕ × A)) → AllWords w table → (f : List ℕ) (a : A) → GoodField f → wordIn f table ≡ some a → f ≡ escape (w a)
+word-field : {A : Type 0} (w : A → List ℕ) (table : List (List ℕ × A)) → AllWords w table → (f : List ℕ) (a : A) → GoodField f → wordIn f table ≡ some a
+    → f ≡ escape (w a)
 unfolding wordIn
 word-field w [] h f a g q = no-some q
 word-field {A} w (e ∷ es) h f a g q =
@@ -108,7 +109,8 @@ gives-kind = gives-word kindField valueKinds (unfold escape escapeChar kindField
 gives-lock : Gives (word locks) (Writes lockFields)
 gives-lock = gives-word lockField locks (unfold escape escapeChar in (refl, (refl, tt)))
 
-quantity-parts : (q : Quantity) {a b c d e f : Fields} → a ≡ raw (spanFields (q .span)) → b ≡ raw (kindFields (q .kind)) → c ≡ raw (spanFields (q .valueSpan)) → d ≡ raw (contentFields (q .value))
+quantity-parts : (q : Quantity) {a b c d e f : Fields} → a ≡ raw (spanFields (q .span)) → b ≡ raw (kindFields (q .kind)) → c ≡ raw (spanFields (q .valueSpan))
+    → d ≡ raw (contentFields (q .value))
     → e ≡ raw (lockFields (q .lock)) → f ≡ raw (optFields textFields (q .unit)) → (a ++ (b ++ (c ++ (d ++ (e ++ (f ++ [])))))) ≡ raw (quantityFields q)
 unfolding quantityFields each
 quantity-parts q ha hb hc hd he hf = rw (ha, hb, hc, hd, he, hf) (simp (raw-both, append-assoc, append-nil))

@@ -69,7 +69,8 @@ gives-relative = gives-word relativeField references (unfold escape escapeChar i
 gives-target : Gives (word targets) (Writes targetFields)
 gives-target = gives-word targetField targets (unfold escape escapeChar targetField in (refl, (refl, tt)))
 
-intermediate-parts : (i : Intermediate) {a b c d : Fields} → a ≡ raw (relativeFields (i .relative)) → b ≡ raw (targetFields (i .target)) → c ≡ raw (signedFields (i .value))
+intermediate-parts : (i : Intermediate) {a b c d : Fields} → a ≡ raw (relativeFields (i .relative)) → b ≡ raw (targetFields (i .target))
+    → c ≡ raw (signedFields (i .value))
     → d ≡ raw (spanFields (i .span)) → (a ++ (b ++ (c ++ (d ++ [])))) ≡ raw (intermediateFields i)
 unfolding intermediateFields each
 intermediate-parts i ha hb hc hd = rw (ha, hb, hc, hd) (simp (raw-both, append-nil))
@@ -172,7 +173,8 @@ gives-cookware =
     gives-bind readComponent _ TakenComponent (TakenEvent (codes "cookware")) gives-component
     (λ c p hp bp gp. gives-give _ _ (record { is = same-tail (codes "cookware") (one-part (namedFields c) (hp .is)); good = hp .good }))
 
-timer-parts : (s : Span) (n : Option Text) (q : Option Quantity) {a b c : Fields} → a ≡ raw (spanFields s) → b ≡ raw (optFields textFields n) → c ≡ raw (optFields quantityFields q)
+timer-parts : (s : Span) (n : Option Text) (q : Option Quantity) {a b c : Fields} → a ≡ raw (spanFields s) → b ≡ raw (optFields textFields n)
+    → c ≡ raw (optFields quantityFields q)
     → (a ++ (b ++ (c ++ []))) ≡ raw (spanFields s ++ optFields textFields n ++ optFields quantityFields q)
 timer-parts s n q ha hb hc = rw (ha, hb, hc) (simp (raw-both, append-assoc, append-nil))
 

@@ -100,9 +100,18 @@ pub escape-modifiers : (m : Modifiers) → escape (modifiersField m) ≡ modifie
 unfolding modifiersField
 escape-modifiers m = escape-point (letters m) (unfold escape escapeChar in rest refl refl refl refl refl)
   where
-    rest : escape (64 ∷ []) ≡ 64 ∷ [] → escape (38 ∷ []) ≡ 38 ∷ [] → escape (45 ∷ []) ≡ 45 ∷ [] → escape (63 ∷ []) ≡ 63 ∷ [] → escape (43 ∷ []) ≡ 43 ∷ [] → escape (letters m) ≡ letters m
+    rest : escape (64 ∷ []) ≡ 64 ∷ [] → escape (38 ∷ []) ≡ 38 ∷ [] → escape (45 ∷ []) ≡ 45 ∷ [] → escape (63 ∷ []) ≡ 63 ∷ [] → escape (43 ∷ []) ≡ 43 ∷ []
+        → escape (letters m) ≡ letters m
     rest a b c d e =
-        simp (escape-both, escape-when (m .recipe) 64 a, escape-when (m .ref) 38 b, escape-when (m .hidden) 45 c, escape-when (m .opt) 63 d, escape-when (m .new) 43 e)
+        simp (
+          escape-both,
+          escape-when (m .recipe) 64 a,
+          escape-when (m .ref) 38 b,
+          escape-when (m .hidden) 45 c,
+          escape-when (m .opt) 63 d,
+          escape-when
+              (m .new) 43 e,
+        )
 
 abbrev pub modifiersFields : Modifiers → Fields
 modifiersFields m = modifiersField m ∷ []
@@ -112,7 +121,8 @@ unfolding readModifiers
 gives-modifiers = gives-saying modifiersOf modifiersField (λ f m g q. modifiers-field f m q ∙ sym (escape-modifiers m))
 
 -- all 32 sets read back
-modifiers-all : (a b c d e : Bool) → modifiersOf (modifiersField (record { recipe = a; ref = b; hidden = c; opt = d; new = e })) ≡ some (record { recipe = a; ref = b; hidden = c; opt = d; new = e })
+modifiers-all : (a b c d e : Bool) → modifiersOf (modifiersField (record { recipe = a; ref = b; hidden = c; opt = d; new = e })) ≡ some
+    (record { recipe = a; ref = b; hidden = c; opt = d; new = e })
 unfolding modifiersOf modifiersField orPoint when modifierLetters past leads isEmpty noModifiers eqList
 modifiers-all true true true true true = refl
 modifiers-all true true true true false = refl
@@ -162,8 +172,10 @@ pub record GoodComponent (c : Component) : Type 0 where
   pub noted : Back (opt readText) (raw (optFields textFields (c .note))) (c .note)
   pub marked : Back readSpan (raw (spanFields (c .modifiersSpan))) (c .modifiersSpan)
 
-component-parts : (x : Component) {a b c d e f g : Fields} → a ≡ raw (spanFields (x .span)) → b ≡ raw (textFields (x .name)) → c ≡ raw (optFields textFields (x .alias))
-    → d ≡ raw (optFields quantityFields (x .quantity)) → e ≡ raw (optFields textFields (x .note)) → f ≡ raw (modifiersFields (x .modifiers)) → g ≡ raw (spanFields (x .modifiersSpan))
+component-parts : (x : Component) {a b c d e f g : Fields} → a ≡ raw (spanFields (x .span)) → b ≡ raw (textFields (x .name))
+    → c ≡ raw (optFields textFields (x .alias))
+    → d ≡ raw (optFields quantityFields (x .quantity)) → e ≡ raw (optFields textFields (x .note)) → f ≡ raw (modifiersFields (x .modifiers))
+    → g ≡ raw (spanFields (x .modifiersSpan))
     → (a ++ (b ++ (c ++ (d ++ (e ++ (f ++ (g ++ []))))))) ≡ raw (namedFields x)
 unfolding namedFields each
 component-parts x ha hb hc hd he hf hg = rw (ha, hb, hc, hd, he, hf, hg) (simp (raw-both, append-assoc, append-nil))

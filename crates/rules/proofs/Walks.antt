@@ -42,7 +42,8 @@ module _ (text : List ℕ) (units : List NamedUnit) (flags : ℕ) where
   unfolding walk step
   stays-failed line fs [] = record { more = []; is = refl }
   stays-failed line fs (e ∷ es) =
-      let r : Failed (parserFindings e ++ fs) (walk text units flags (suc line) (failed (parserFindings e ++ fs)) es) = stays-failed (suc line) (parserFindings e ++ fs) es in
+      let r : Failed (parserFindings e ++ fs) (walk text units flags (suc line) (failed (parserFindings e ++ fs)) es) = stays-failed (suc line)
+      (parserFindings e ++ fs) es in
       record { more = r .more ++ parserFindings e; is = r .is ∙ ap failed (sym (append-assoc (r .more) (parserFindings e) fs)) }
 
   pub not-failed : {P : Type 0} (line : ℕ) (fs : List Finding) (es : List Event) (st : State) → walk text units flags line (failed fs) es ≡ going st → P
@@ -52,11 +53,13 @@ module _ (text : List ℕ) (units : List NamedUnit) (flags : ℕ) where
 
   -- ---- one line of a walk that goes on
 
-  pub step-settles : (line : ℕ) (e : Event) (st : State) → isErrorEvent e ≡ false → step text units flags line e (going st) ≡ settle line (onEvent text units flags e st)
+  pub step-settles : (line : ℕ) (e : Event) (st : State) → isErrorEvent e ≡ false
+      → step text units flags line e (going st) ≡ settle line (onEvent text units flags e st)
   unfolding step
   step-settles line e st ne = rw ne
 
-  pub step-fails : (line : ℕ) (e : Event) (st : State) → isErrorEvent e ≡ true → step text units flags line e (going st) ≡ failed (parserFindings e ++ onlyParsed (st .findings))
+  pub step-fails : (line : ℕ) (e : Event) (st : State) → isErrorEvent e ≡ true
+      → step text units flags line e (going st) ≡ failed (parserFindings e ++ onlyParsed (st .findings))
   unfolding step
   step-fails line e st ne = rw ne
 
@@ -65,7 +68,8 @@ module _ (text : List ℕ) (units : List NamedUnit) (flags : ℕ) where
   unfolding settle
   step-next line e st after ne a = step-settles line e st ne ∙ ap (settle line) a
 
-  pub step-stops : (line n : ℕ) (e : Event) (st : State) → isErrorEvent e ≡ false → onEvent text units flags e st ≡ stop n → step text units flags line e (going st) ≡ refused n line
+  pub step-stops : (line n : ℕ) (e : Event) (st : State) → isErrorEvent e ≡ false → onEvent text units flags e st ≡ stop n
+      → step text units flags line e (going st) ≡ refused n line
   unfolding settle
   step-stops line n e st ne a = step-settles line e st ne ∙ ap (settle line) a
 
