@@ -231,6 +231,10 @@ module _ (text : List ℕ) (units : List NamedUnit) (flags : ℕ) where
   unfolding firstState
   first-sound = (sound-none, sound-none)
 
+  -- in every state that the pass reaches, an entry without REF is a definition
+  pub pass-sound : (es : List Event) (st : State) → walk text units flags 1 (going firstState) es ≡ going st → (k : Kind) → Sound (tableOf k st)
+  pass-sound es st q k = table-sound k st (subst SoundWalk q (walk-sound es 1 (going firstState) first-sound))
+
   -- no walk is refused with 18
   pub pass-never-18 : (es : List Event) (n l : ℕ) → walk text units flags 1 (going firstState) es ≡ refused n l → eqb n 18 ≡ false
   pass-never-18 es n l q = subst SoundWalk q (walk-sound es 1 (going firstState) first-sound)

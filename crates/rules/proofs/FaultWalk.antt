@@ -84,7 +84,7 @@ module _ (text : List ℕ) (units : List NamedUnit) (flags : ℕ) where
   pub pass-knows : (es : List Event) (st : State) → walk text units flags 1 (going firstState) es ≡ going st → Knows flags (reverse es) st
   pass-knows es st w = walk-knows es [] 1 firstState st w (first-knows flags)
 
-  trace-on : (line : ℕ) (e : Event) (es : List Event) (st : State) (t : Takes line e st)
+  pub trace-on : (line : ℕ) (e : Event) (es : List Event) (st : State) (t : Takes line e st)
       → traceFrom text units flags line (going st) (e ∷ es) ≡ record { line = line; state = st; event = e } ∷ traceFrom text units flags (suc line)
       (going (t .after)) es
   unfolding traceFrom traced

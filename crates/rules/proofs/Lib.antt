@@ -31,6 +31,7 @@ pub mod KnownStep
 pub mod Faults
 pub mod FaultWalk
 pub mod Collected
+pub mod Warnings
 pub mod PlainForm
 pub mod Lending
 pub mod PlainCases

@@ -16,7 +16,7 @@ use Rattle.rules.specs.Pass.{isErrorEvent, walk, parseEvents}
 use Rattle.rules.specs.Plain.{Traced, plainEvents, traceFrom, sheetOf}
 use Rattle.rules.specs.Answer.{Answer, answered, declined, events, readSheet, collection, wordsNeeded, bytesNeeded, isShort, handOut, errorLine, gives17, formAnswer, faultOr, unlessFaulty, formOf, plainOf, eventsOr, unitsOr, plainAnswer}
 use Rattle.rules.specs.Demand.{isAccepted, yieldsRecipe, isWithinLimits}
-use Rattle.rules.specs.PlainForm.{eventsOf, EveryLine, IsClear, IsPlain, formBytes, plainForm, SamePage, Demanded, Declined, asCollected, withError, atLine, overLimit, PlainForm}
+use Rattle.rules.specs.PlainForm.{eventsOf, EveryLine, IsClear, IsPlain, formBytes, plainForm, parserLines, SamePage, Demanded, Declined, asCollected, withError, atLine, overLimit, HandedOut, PlainForm}
 use Rattle.rules.proofs.Basics.{no-truth, and-left, and-right}
 use Rattle.rules.proofs.Sim.{asForm}
 use Rattle.rules.proofs.SimWalk.{NoFaults, no-line, no-fault, Same, yields, limit, page-same, Went, went, form-yields}
@@ -26,6 +26,7 @@ use Rattle.rules.proofs.Kept.{form-reads}
 use Rattle.rules.proofs.Known.{first-knows}
 use Rattle.rules.proofs.FaultWalk.{Every, every-lines, lines-every, clear-trace, Found, all-clear, first-at, faults-found, fault-at}
 use Rattle.rules.proofs.Collected.{Collected, collected-is, collected, recipe-yields, failed-yields, FirstError, first-error, error-at}
+use Rattle.rules.proofs.Warnings.{plain-parsers}
 
 not-answered : {P : Type 0} {n l : ℕ} {f : List ℕ} → declined n l ≡ answered f → P
 not-answered q = absurd (let z : _≡_ {A = ℕ} 0 1 = cc in omega arith)
@@ -308,6 +309,10 @@ module _ (sheet text units : List ℕ) (flags : ℕ) where
         let h = quiet-before before e after (subst (Quiet flags) (sym form-events ∙ q) (form-quiet text us flags trace)) in
         record { unheeded = h .1; explicit = quiet-explicit (h .0) e }
 
+    -- "(their `warning` lines kept)"
+    form-warnings : parserLines (eventsOf text form) ≡ parserLines es
+    form-warnings = ap parserLines form-events ∙ plain-parsers text us flags es 1 firstState (y .went-on .last) (y .went-on .there)
+
     form-accepted : isAccepted (collection form text units flags) ≡ true
     unfolding isAccepted
     form-accepted = ap isAccepted (form-recipe .1)
@@ -356,3 +361,9 @@ plain-form sheet text units flags =
       same = of-form sheet text units flags (λ f. SamePage (collection f text units flags) (collection sheet text units flags)) (form-page sheet text units flags);
       own = of-form sheet text units flags (λ f. plainForm f text units flags ≡ answered f) (own-answer sheet text units flags);
     }
+
+-- beside it: a form keeps the sheet's `warning` lines, in order
+pub warnings-kept : (sheet text units : List ℕ) (flags : ℕ) (form : List ℕ) → HandedOut sheet text units flags form
+    → parserLines (eventsOf text form) ≡ parserLines (eventsOf text sheet)
+warnings-kept sheet text units flags =
+    of-form sheet text units flags (λ f. parserLines (eventsOf text f) ≡ parserLines (eventsOf text sheet)) (form-warnings sheet text units flags)

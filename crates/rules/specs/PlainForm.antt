@@ -2,12 +2,12 @@
 -- bytes and any flags. It speaks in the words of Demand.antt, line by line, not in the plain form's own tests.
 use Prim.Native.Nat.{ℕ, suc}
 use mathlib.Core.Path.{_≡_}
-use mathlib.Core.List.{List, _∷_, _++_, reverse}
+use mathlib.Core.List.{List, [], _∷_, _++_, reverse}
 use mathlib.Core.Bool.{true, false}
 use mathlib.Core.Option.{none, some}
 use lib.ListN.{length}
 use Rattle.rules.specs.Basic.{pick}
-use Rattle.rules.specs.Event.{Event}
+use Rattle.rules.specs.Event.{Event, between, inside, parserEvent}
 use Rattle.rules.specs.Units.{readUnits}
 use Rattle.rules.specs.Modes.{isComponents}
 use Rattle.rules.specs.State.{State, firstState, going, Outcome, recipe, refusal}
@@ -74,6 +74,13 @@ fitted room (declined n l) = declined n l
 
 abbrev pub lentTo : Lent → Answer → Answer
 lentTo m a = pick (isShort m) (declined 1 0) (fitted (m .room) a)
+
+-- the `error` and `warning` lines among some
+abbrev pub parserLines : List Event → List Event
+parserLines [] = []
+parserLines (between b ∷ es) = parserLines es
+parserLines (inside i ∷ es) = parserLines es
+parserLines (parserEvent s n ∷ es) = parserEvent s n ∷ parserLines es
 
 -- two collections with recipes whose pages have the same bytes above the findings: `recipePage st` is `recipePart st` and then the
 -- findings' lines
