@@ -22,7 +22,7 @@ use Rattle.rules.specs.Pass.{step}
 use Rattle.rules.specs.Plain.{traced, markRef, markedIf, unlessListed, markedComponent, inPlainStep, isModeKey, plainBetween, inPlainText, plainInside, plainEvent, plainEvents, traceFrom, sheetOf}
 use Rattle.rules.specs.Answer.{Reading, events, unread, withEvent, isGoodSpan, readLine, readFrom, readSheet}
 use Rattle.rules.proofs.Basics.{pick-either, and-left, and-both}
-use Rattle.rules.proofs.Fields.{Without, without-none, without-more, lines-line}
+use Rattle.rules.proofs.Fields.{Without, EachLine, each-more, lines-without, lines-line}
 use Rattle.rules.proofs.Given.{raw, Good}
 use Rattle.rules.proofs.TakenLine.{empty-is}
 use Rattle.rules.proofs.TakenEvent.{GoodParts, GoodInside, GoodEvent}
@@ -30,20 +30,6 @@ use Rattle.rules.proofs.Parsed.{Parsed, parse-taken, parse-writes, pars
 use Rattle.rules.proofs.Rewritten.{Readable, ingredient-marked, cookware-marked, source-readable, start-readable, end-readable}
 
 -- ---- the lines of a sheet
-
-abbrev NoLf : Lines → Type 0
-NoLf (last l) = Without lf l
-NoLf (more l ls) = Without lf l × NoLf ls
-
-on-line : (b : ℕ) (ls : Lines) → eqb b lf ≡ false → NoLf ls → NoLf (onLine b ls)
-unfolding onLine
-on-line b (last l) q h = without-more q h
-on-line b (more l ls) q h = (without-more q (h .0), h .1)
-
-lines-lf : (bs : List ℕ) → NoLf (lines bs)
-unfolding lines
-lines-lf [] = without-none
-lines-lf (b ∷ bs) = pick-either NoLf (eqb b lf) _ _ (λ e. (without-none, lines-lf bs)) (λ e. on-line b (lines bs) e (lines-lf bs))
 
 pub bytesOf : Lines → List ℕ
 bytesOf (last l) = l
@@ -79,13 +65,13 @@ module _ (text : List ℕ) (n : ℕ) where
     pub few : line + length es ≤ 4097
     pub writes : sheetOf es ≡ bytesOf ls
 
-  read-good : (line : ℕ) (ls : Lines) (es : List Event) → line ≤ 4097 → NoLf ls → readFrom text n line ls ≡ events es → ReadAs line ls es
+  read-good : (line : ℕ) (ls : Lines) (es : List Event) → line ≤ 4097 → EachLine (Without lf) ls → readFrom text n line ls ≡ events es → ReadAs line ls es
   unfolding readFrom readLine withEvent sheetOf bytesOf
   read-good line (last l) es h k q =
       pick-either (λ (r : Reading). r ≡ events es → ReadAs line (last l) es) (isEmpty l) _ _
       (λ b p. let e : [] ≡ es = cc in subst (ReadAs line (last l)) e (record { lines-good = read-none; few = omega arith; writes = sym (empty-is l b) }))
       (λ b p. no-events p) q
-  read-good line (more l ls) es h k q = go (λ xs g p. read-good (suc line) ls xs g (k .1) p) (parseLine l) refl q
+  read-good line (more l ls) es h (each-more k ks) q = go (λ xs g p. read-good (suc line) ls xs g ks p) (parseLine l) refl q
     where
       P : Reading → Type 0
       P r = r ≡ events es → ReadAs line (more l ls) es
@@ -99,12 +85,12 @@ module _ (text : List ℕ) (n : ℕ) where
       with-good ih e g s m (events xs) k2 p =
           let t : ReadAs (suc line) ls xs = ih xs m k2 in
           let z : (e ∷ xs) ≡ es = cc in
-          let d : Parsed l e = parse-taken l e (k .0) g in
+          let d : Parsed l e = parse-taken l e k g in
           subst (ReadAs line (more l ls)) z
           (record {
-            lines-good = read-more (parse-written l e (k .0) g) (d .parts) (d .good) s (t .lines-good);
+            lines-good = read-more (parse-written l e k g) (d .parts) (d .good) s (t .lines-good);
             few = omega (arith, t .few);
-            writes = ap (λ (x : List ℕ). x ++ sheetOf xs) (parse-writes l e (k .0) g) ∙ append-assoc l (lf ∷ []) (sheetOf xs)
+            writes = ap (λ (x : List ℕ). x ++ sheetOf xs) (parse-writes l e k g) ∙ append-assoc l (lf ∷ []) (sheetOf xs)
                 ∙ ap (λ (x : List ℕ). l ++ (lf ∷ x)) (t .writes);
           })
 
@@ -118,7 +104,7 @@ module _ (text : List ℕ) (n : ℕ) where
 -- every line of a sheet that was read is what is written of its event
 pub sheet-writes : (text sheet : List ℕ) (es : List Event) → readSheet text sheet ≡ events es → sheetOf es ≡ sheet
 unfolding readSheet
-sheet-writes text sheet es q = read-good text (length text) 1 (lines sheet) es (omega arith) (lines-lf sheet) q .writes ∙ lines-bytes sheet
+sheet-writes text sheet es q = read-good text (length text) 1 (lines sheet) es (omega arith) (lines-without sheet) q .writes ∙ lines-bytes sheet
 
 -- ---- what is readable reads back
 
@@ -279,7 +265,7 @@ pub form-reads : (text sheet : List ℕ) (us : List NamedUnit) (flags : ℕ) (es
     (plainEvents text us flags (traceFrom text us flags 1 (going firstState) es))
 unfolding readSheet
 form-reads text sheet us flags es q =
-    let r : ReadAs text (length text) 1 (lines sheet) es = read-good text (length text) 1 (lines sheet) es (omega arith) (lines-lf sheet) q in
+    let r : ReadAs text (length text) 1 (lines sheet) es = read-good text (length text) 1 (lines sheet) es (omega arith) (lines-without sheet) q in
     let t : FormLines text (length text) us flags es (plainEvents text us flags (traceFrom text us flags 1 (going firstState) es)) = trace-good text
     (length text) us flags (r .lines-good) 1 (going firstState) in
     written-reads text (length text) 1 (t .lines-good) (omega (arith, r .few, t .few))
