@@ -27,4 +27,5 @@ pub mod Page
 pub mod Plain
 pub mod Answer
 pub mod Demand
+pub mod PlainForm
 pub mod Evaluate
