@@ -87,6 +87,10 @@ bytesNeeded = 65536
 unfoldable pub isShort : Lent → Bool
 isShort m = ltb (m .words) wordsNeeded || ltb (m .bytes) bytesNeeded
 
+-- memory enough for any form, which has at most 65,536 bytes, and for the page of a small sheet
+abbrev pub enough : Lent
+enough = record { words = wordsNeeded; bytes = bytesNeeded; room = 65536 }
+
 -- "20 answer longer than the space lent"
 unfoldable pub handOut : ℕ → List ℕ → Answer
 handOut room bytes = pick (leb (length bytes) room) (answered bytes) (declined 20 0)

@@ -28,4 +28,5 @@ pub mod Plain
 pub mod Answer
 pub mod Demand
 pub mod PlainForm
+pub mod NineCases
 pub mod Evaluate

@@ -14,7 +14,7 @@ use Rattle.rules.specs.State.{State, firstState, going, Outcome, recipe,
 use Rattle.rules.specs.Pass.{isErrorEvent}
 use Rattle.rules.specs.Page.{recipePart}
 use Rattle.rules.specs.Plain.{plainEvents, traceFrom, sheetOf}
-use Rattle.rules.specs.Answer.{Answer, answered, declined, readSheet, collection, Lent, wordsNeeded, bytesNeeded, isShort, handOut, eventsOr, unitsOr, plainAnswer}
+use Rattle.rules.specs.Answer.{Answer, answered, declined, readSheet, collection, Lent, enough, isShort, handOut, eventsOr, unitsOr, plainAnswer}
 use Rattle.rules.specs.Demand.{isAccepted, yieldsRecipe, isWithinLimits, isComponentLine, isHeeded, defineAt, Unmarked, implicitAt, lastOfName}
 
 -- the events of a sheet
@@ -59,10 +59,7 @@ formBytes sheet text units flags =
     (plainEvents text (unitsOr (readUnits units)) flags
     (traceFrom text (unitsOr (readUnits units)) flags 1 (going firstState) (eventsOf text sheet)))
 
--- what `plain_form` answers with memory enough: a form that is handed out has at most 65,536 bytes
-abbrev pub enough : Lent
-enough = record { words = wordsNeeded; bytes = bytesNeeded; room = 65536 }
-
+-- what `plain_form` answers with memory enough
 abbrev pub plainForm : List ℕ → List ℕ → List ℕ → ℕ → Answer
 plainForm sheet text units flags = plainAnswer sheet text units flags enough
 
