@@ -1,9 +1,5 @@
 // The parts of a line as views: numbers, and where the contents stand in the line. All readers take any bytes and any position;
 // `Ill` says that the part is ill-formed.
-ghost use mathlib.Core.Path.{_≡_};
-ghost use mathlib.Core.Bool.{Bool};
-ghost use lib.ListN.{drop};
-ghost use Rattle.rules.specs.Read.{leads, past};
 ghost use Rattle.parts.specs.Got.{DashAt, NumberRead, SpanRead, ContentRead, TextRead, OptTextRead, KindRead, LockRead, QuantityRead, OptQuantityRead};
 
 pub struct Span {
@@ -45,46 +41,6 @@ pub struct QuantityView {
 pub enum OptQuantity {
     Absent,
     Present(QuantityView),
-}
-
-pub struct Modifiers {
-    pub recipe: bool,
-    pub reference: bool,
-    pub hidden: bool,
-    pub opt: bool,
-    pub new: bool,
-}
-
-pub struct ComponentView {
-    pub span: Span,
-    pub name: TextView,
-    pub alias: OptText,
-    pub quantity: OptQuantity,
-    pub note: OptText,
-    pub modifiers: Modifiers,
-    pub modifiers_span: Span,
-}
-
-pub struct SignedView {
-    pub negative: bool,
-    pub size: u32,
-}
-
-pub enum Target {
-    Step,
-    Section,
-}
-
-pub struct Intermediate {
-    pub relative: bool,
-    pub target: Target,
-    pub value: SignedView,
-    pub span: Span,
-}
-
-pub enum OptIntermediate {
-    Absent,
-    Present(Intermediate),
 }
 
 // Whether an opt part is there.
