@@ -1,0 +1,2 @@
+-- Lines.
+use Prim.Native.Nat.{ℕ}
