@@ -1,5 +1,6 @@
 use borrow.Author.Needs.{needs}
 use native.Mathlib.Omega.{arith}
+use Rattle.events.proofs.Lines.{line-valid, line-fault}
 use Rattle.events.proofs.event_at.Statement.{statement}
 use Rattle.events.proofs.event_at.Tie as tie
 use Rattle.events.proofs.event_at.Reads as reads
@@ -25,11 +26,11 @@ enum-known-at c = search needs
 
 -- src/lib.rt:214:1
 returns : tie.Need-returns
-returns c = search needs
+returns c = line-valid (c .before .before .before .first-fault .ensures) (c .before .enum-told .given .1) (c .event-in .ensures)
 
 -- src/lib.rt:214:1
 returns-2 : tie.Need-returns-2
-returns-2 c = search needs
+returns-2 c = line-fault (c .before .before .before .first-fault .ensures) (c .before .at .given .1)
 
 pub event-at-spec : {M : Type 1} → statement M
 event-at-spec =

@@ -1,5 +1,6 @@
 use borrow.Author.Needs.{needs}
 use native.Mathlib.Omega.{arith}
+use Rattle.events.proofs.Lines.{in-ill, in-more, in-got}
 use Rattle.events.proofs.event_in.Statement.{statement}
 use Rattle.events.proofs.event_in.Tie as tie
 use Rattle.events.proofs.event_in.Reads as reads
@@ -34,15 +35,15 @@ enum-told c = search needs
 
 -- src/lib.rt:205:9
 returns : tie.Need-returns
-returns c = search needs
+returns c = in-ill _ (c .before .before .before .before .field .ensures) (c .before .before .before .event-word .ensures) (c .before .before .read-after .ensures) (c .enum-told .given .1)
 
 -- src/lib.rt:208:9
 returns-2 : tie.Need-returns-2
-returns-2 c = search needs
+returns-2 c = in-more _ (c .before .before .before .before .before .before .field .ensures) (c .before .before .before .before .before .event-word .ensures) (c .before .before .before .before .read-after .ensures) (c .before .before .v .given .1) (c .if1 .taken)
 
 -- src/lib.rt:198:1
 returns-3 : tie.Need-returns-3
-returns-3 c = search needs
+returns-3 c = in-got _ (c .before .before .before .before .before .before .field .ensures) (c .before .before .before .before .before .event-word .ensures) (c .before .before .before .before .read-after .ensures) (c .before .before .v .given .1) (c .if1 .left)
 
 pub event-in-spec : {M : Type 1} → statement M
 event-in-spec =

@@ -1,5 +1,9 @@
 use borrow.Author.Needs.{needs}
 use native.Mathlib.Omega.{arith}
+use Rattle.rules.specs.Read.{readAfter}
+use Rattle.events.specs.Views.{severityIn}
+use Rattle.events.specs.Got.{readWord, wordOf, afterWord}
+use Rattle.events.proofs.Lines.{after-is, after-unknown}
 use Rattle.events.proofs.read_after.Statement.{statement}
 use Rattle.events.proofs.read_after.Tie as tie
 use Rattle.events.proofs.read_after.Reads as reads
@@ -100,47 +104,57 @@ enum-told-11 c = search needs
 
 -- src/lib.rt:174:1
 returns : tie.Need-returns
-returns c = search needs
+unfolding readWord wordOf afterWord readAfter severityIn
+returns c = after-is (c .before .enum-told .given .1) (c .read-meta .ensures)
 
 -- src/lib.rt:174:1
 returns-2 : tie.Need-returns-2
-returns-2 c = search needs
+unfolding readWord wordOf afterWord readAfter severityIn
+returns-2 c = after-is (c .before .enum-told2 .given .1) (c .read-section .ensures)
 
 -- src/lib.rt:174:1
 returns-3 : tie.Need-returns-3
-returns-3 c = search needs
+unfolding readWord wordOf afterWord readAfter severityIn
+returns-3 c = after-is (c .before .enum-told3 .given .1) (c .read-start .ensures)
 
 -- src/lib.rt:174:1
 returns-4 : tie.Need-returns-4
-returns-4 c = search needs
+unfolding readWord wordOf afterWord readAfter severityIn
+returns-4 c = after-is (c .before .enum-told4 .given .1) (c .read-end .ensures)
 
 -- src/lib.rt:174:1
 returns-5 : tie.Need-returns-5
-returns-5 c = search needs
+unfolding readWord wordOf afterWord readAfter severityIn
+returns-5 c = after-is (c .before .enum-told5 .given .1) (c .read-text-line .ensures)
 
 -- src/lib.rt:174:1
 returns-6 : tie.Need-returns-6
-returns-6 c = search needs
+unfolding readWord wordOf afterWord readAfter severityIn
+returns-6 c = after-is (c .before .enum-told6 .given .1) (c .read-ingredient .ensures)
 
 -- src/lib.rt:174:1
 returns-7 : tie.Need-returns-7
-returns-7 c = search needs
+unfolding readWord wordOf afterWord readAfter severityIn
+returns-7 c = after-is (c .before .enum-told7 .given .1) (c .read-cookware .ensures)
 
 -- src/lib.rt:174:1
 returns-8 : tie.Need-returns-8
-returns-8 c = search needs
+unfolding readWord wordOf afterWord readAfter severityIn
+returns-8 c = after-is (c .before .enum-told8 .given .1) (c .read-timer .ensures)
 
 -- src/lib.rt:174:1
 returns-9 : tie.Need-returns-9
-returns-9 c = search needs
+unfolding readWord wordOf afterWord readAfter severityIn
+returns-9 c = after-is (c .before .enum-told9 .given .1) (c .read-finding .ensures)
 
 -- src/lib.rt:174:1
 returns-10 : tie.Need-returns-10
-returns-10 c = search needs
+unfolding readWord wordOf afterWord readAfter severityIn
+returns-10 c = after-is (c .before .enum-told10 .given .1) (c .read-finding2 .ensures)
 
 -- src/lib.rt:174:1
 returns-11 : tie.Need-returns-11
-returns-11 c = search needs
+returns-11 c = after-is (c .enum-told11 .given .1) after-unknown
 
 pub read-after-spec : {M : Type 1} → statement M
 read-after-spec =

@@ -1,5 +1,12 @@
 use borrow.Author.Needs.{needs}
 use native.Mathlib.Omega.{arith}
+use mathlib.Core.List.{List}
+use Prim.Native.Nat.{ℕ}
+use Rattle.rules.specs.Read.{word}
+use Rattle.rules.specs.Words.{blockKinds}
+use Rattle.rules.specs.Basic.{wordIn}
+use Rattle.parts.proofs.Leaves.{leaf-past}
+use Rattle.events.proofs.Lines.{block-bad, block-step, block-text}
 use Rattle.events.proofs.read_block.Statement.{statement}
 use Rattle.events.proofs.read_block.Tie as tie
 use Rattle.events.proofs.read_block.Reads as reads
@@ -9,7 +16,8 @@ use Rattle.sheet.proofs.field.Reads as field-reads
 
 -- src/lib.rt:51:9
 returns : tie.Need-returns
-returns c = search needs
+unfolding word
+returns c = leaf-past (λ (f : List ℕ). wordIn f blockKinds) (c .if1 .taken)
 
 -- src/lib.rt:53:9
 field-requires : tie.Need-field-requires
@@ -41,15 +49,15 @@ enum-told-3 c = search needs
 
 -- src/lib.rt:47:1
 returns-2 : tie.Need-returns-2
-returns-2 c = search needs
+returns-2 c = block-step (c .before .before .before .before .if1 .left) (c .before .before .before .field .ensures) (c .before .before .block-kind .ensures) (c .enum-told .given .1)
 
 -- src/lib.rt:47:1
 returns-3 : tie.Need-returns-3
-returns-3 c = search needs
+returns-3 c = block-text (c .before .before .before .before .if1 .left) (c .before .before .before .field .ensures) (c .before .before .block-kind .ensures) (c .enum-told2 .given .1)
 
 -- src/lib.rt:47:1
 returns-4 : tie.Need-returns-4
-returns-4 c = search needs
+returns-4 c = block-bad (c .before .before .before .before .if1 .left) (c .before .before .before .field .ensures) (c .before .before .block-kind .ensures) (c .enum-told3 .given .1)
 
 pub read-block-spec : {M : Type 1} → statement M
 read-block-spec =
