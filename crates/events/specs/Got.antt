@@ -1,15 +1,10 @@
--- What the readers of lines answer: the rules' reading.
+-- What the readers of events answer: the rules' reading of the fields that are left.
 use Prim.Native.Nat.{ℕ}
-use mathlib.Core.Path.{_≡_}
 use mathlib.Core.List.{List}
 use mathlib.Core.Option.{Option, none, some}
-use Rattle.rules.specs.Sheet.{fieldsOf}
-use Rattle.rules.specs.Words as words
 use Rattle.rules.specs.Words.{blockKinds}
 use Rattle.rules.specs.Event.{Event}
-use Rattle.rules.specs.Read.{Reader, word, readAfter, readEvent, firstRead, parseLine}
-use Rattle.sheet.specs.declared.Word.{Word}
-use Rattle.sheet.specs.declared.Word.the-variants as told
+use Rattle.rules.specs.Read.{Reader, word}
 use Rattle.parts.specs.Got.{ReadAt, Anything}
 use Rattle.events.specs.declared.BlockKind.{BlockKind}
 use Rattle.events.specs.declared.EventView.{EventView}
@@ -17,8 +12,6 @@ use Rattle.events.specs.declared.GotBlock.{GotBlock}
 use Rattle.events.specs.declared.GotBlock.the-variants as block
 use Rattle.events.specs.declared.GotEvent.{GotEvent}
 use Rattle.events.specs.declared.GotEvent.the-variants as event
-use Rattle.events.specs.declared.ReadEvent.{ReadEvent}
-use Rattle.events.specs.declared.ReadEvent.the-variants as answer
 use Rattle.events.specs.Views.{blockIn, eventIn, EventWithin}
 
 abbrev pub blockGot : GotBlock → Option (BlockKind × ℕ)
@@ -34,43 +27,3 @@ eventGot event.Ill = none
 
 abbrev pub EventRead : Reader Event → List ℕ → ℕ → GotEvent → Type 0
 EventRead read line at r = ReadAt (eventIn line) (EventWithin line) read line at (eventGot r)
-
--- the word of the rules that was told
-unfoldable pub wordOf : Word → Option words.EventWord
-wordOf told.Meta = some words.metaWord
-wordOf told.Section = some words.sectionWord
-wordOf told.Start = some words.startWord
-wordOf told.End = some words.endWord
-wordOf told.Text = some words.textWord
-wordOf told.Ingredient = some words.ingredientWord
-wordOf told.Cookware = some words.cookwareWord
-wordOf told.Timer = some words.timerWord
-wordOf told.Error = some words.errorWord
-wordOf told.Warning = some words.warningWord
-wordOf told.Unknown = none
-
-unfoldable pub afterWord : Option words.EventWord → Reader Event
-afterWord none fs = none
-afterWord (some w) fs = readAfter w fs
-
--- the reader of what follows a word; after an unknown one nothing is well formed
-unfoldable pub readWord : Word → Reader Event
-readWord w = afterWord (wordOf w)
-
--- the event that was read, if one was
-unfoldable pub eventAs : List ℕ → ReadEvent → Option Event
-eventAs line (answer.Event v) = some (eventIn line v)
-eventAs line answer.Ill = none
-
-unfoldable pub IfEvent : List ℕ → ReadEvent → Type 0
-IfEvent line (answer.Event v) = EventWithin line v
-IfEvent line answer.Ill = Unit
-
--- what `event_in` and `event_at` answer
-pub record EventOf (line : List ℕ) (r : ReadEvent) : Type 0 where
-  pub is : eventAs line r ≡ firstRead (readEvent (fieldsOf line))
-  pub within : IfEvent line r
-
-pub record LineOf (line : List ℕ) (r : ReadEvent) : Type 0 where
-  pub is : eventAs line r ≡ parseLine line
-  pub within : IfEvent line r

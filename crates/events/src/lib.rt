@@ -1,7 +1,7 @@
-// A line of the sheet as its event. All functions take any bytes.
+// The event of a line as a view, read after the line's first word. All readers take any bytes and any position.
 ghost use Rattle.rules.specs.Read.{readMeta, readSection, readStart, readEnd, readTextLine, readIngredient, readCookware, readTimer, readFinding};
 ghost use Rattle.events.specs.Views.{severityIn};
-ghost use Rattle.events.specs.Got.{BlockRead, EventRead, readWord, EventOf, LineOf};
+ghost use Rattle.events.specs.Got.{BlockRead, EventRead};
 
 pub enum BlockKind {
     Step,
@@ -168,54 +168,4 @@ pub fn read_finding(line: &[u8], at: usize, severity: Severity) -> GotEvent
         return GotEvent::Ill;
     };
     GotEvent::Got(EventView::Finding(severity, number), a1)
-}
-
-// The event after a line's first word.
-pub fn read_after(line: &[u8], at: usize, w: sheet::Word) -> GotEvent
-    ensures { λ r. ⌜ EventRead (readWord w) (now (line .entry)) at r ⌝ }
-{
-    match w {
-        sheet::Word::Meta => read_meta(line, at),
-        sheet::Word::Section => read_section(line, at),
-        sheet::Word::Start => read_start(line, at),
-        sheet::Word::End => read_end(line, at),
-        sheet::Word::Text => read_text_line(line, at),
-        sheet::Word::Ingredient => read_ingredient(line, at),
-        sheet::Word::Cookware => read_cookware(line, at),
-        sheet::Word::Timer => read_timer(line, at),
-        sheet::Word::Error => read_finding(line, at, Severity::Severe),
-        sheet::Word::Warning => read_finding(line, at, Severity::Mild),
-        sheet::Word::Unknown => GotEvent::Ill,
-    }
-}
-
-pub enum ReadEvent {
-    Event(EventView),
-    Ill,
-}
-
-// The event of a line's fields.
-pub fn event_in(line: &[u8]) -> ReadEvent
-    ensures { λ r. ⌜ EventOf (now (line .entry)) r ⌝ }
-{
-    let f = sheet::field(line, 0);
-    let n = f.len() + 1;
-    let w = sheet::event_word(f);
-    let GotEvent::Got(v, m) = read_after(line, n, w) else {
-        return ReadEvent::Ill;
-    };
-    if m <= line.len() {
-        return ReadEvent::Ill;
-    }
-    ReadEvent::Event(v)
-}
-
-// The event of a line without its LF; an ill-formed line has none.
-pub fn event_at(line: &[u8]) -> ReadEvent
-    ensures { λ r. ⌜ LineOf (now (line .entry)) r ⌝ }
-{
-    match utf8::first_fault(line) {
-        utf8::Checked::Valid => event_in(line),
-        utf8::Checked::Fault(at) => ReadEvent::Ill,
-    }
 }

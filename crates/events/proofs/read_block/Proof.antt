@@ -6,7 +6,7 @@ use Rattle.rules.specs.Read.{word}
 use Rattle.rules.specs.Words.{blockKinds}
 use Rattle.rules.specs.Basic.{wordIn}
 use Rattle.parts.proofs.Leaves.{leaf-past}
-use Rattle.events.proofs.Lines.{block-bad, block-step, block-text}
+use Rattle.events.proofs.Blocks.{block-bad, block-step, block-text}
 use Rattle.events.proofs.read_block.Statement.{statement}
 use Rattle.events.proofs.read_block.Tie as tie
 use Rattle.events.proofs.read_block.Reads as reads

@@ -1,22 +1,22 @@
 use borrow.Author.Needs.{needs}
 use native.Mathlib.Omega.{arith}
 use Rattle.rules.specs.Read.{readAfter}
 use Rattle.events.specs.Views.{severityIn}
-use Rattle.events.specs.Got.{readWord, wordOf, afterWord}
-use Rattle.events.proofs.Lines.{after-is, after-unknown}
-use Rattle.events.proofs.read_after.Statement.{statement}
-use Rattle.events.proofs.read_after.Tie as tie
-use Rattle.events.proofs.read_after.Reads as reads
-use Rattle.events.proofs.read_after.Lts as lts
+use Rattle.reading.specs.Answers.{readWord, wordOf, afterWord}
+use Rattle.reading.proofs.Lines.{after-is, after-unknown}
+use Rattle.reading.proofs.read_after.Statement.{statement}
+use Rattle.reading.proofs.read_after.Tie as tie
+use Rattle.reading.proofs.read_after.Reads as reads
+use Rattle.reading.proofs.read_after.Lts as lts
 use Rattle.events.proofs.read_cookware.Reads as read-cookware-reads
 use Rattle.events.proofs.read_end.Reads as read-end-reads
 use Rattle.events.proofs.read_finding.Reads as read-finding-reads
 use Rattle.events.proofs.read_ingredient.Reads as read-ingredient-reads
 use Rattle.events.proofs.read_meta.Reads as read-meta-reads
 use Rattle.events.proofs.read_section.Reads as read-section-reads
 use Rattle.events.proofs.read_start.Reads as read-start-reads
 use Rattle.events.proofs.read_text_line.Reads as read-text-line-reads
 use Rattle.events.proofs.read_timer.Reads as read-timer-reads
 
 -- src/lib.rt:178:30
 enum-told : tie.Need-enum-told

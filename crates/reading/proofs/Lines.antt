@@ -11,58 +11,27 @@ use Rattle.rules.specs.Basic.{pick, isSome, wordIn}
 use Rattle.rules.specs.Utf8.{isUtf8, firstFault}
 use Rattle.rules.specs.Sheet.{fieldsOf}
 use Rattle.rules.specs.Words as words
-use Rattle.rules.specs.Words.{EventWord, blockKinds, eventWords}
+use Rattle.rules.specs.Words.{EventWord, eventWords}
 use Rattle.rules.specs.Event.{Event}
 use Rattle.rules.specs.Read.{Fields, Reader, goOn, _>>=_, give, saying, field, word, noMore, readAfter, readEvent, firstRead, parseLine}
-use Rattle.sheet.specs.declared.BlockWord.{BlockWord}
-use Rattle.sheet.specs.declared.BlockWord.the-variants as told
 use Rattle.sheet.specs.declared.Word.{Word}
 use Rattle.sheet.specs.declared.Word.the-variants as first
-use Rattle.sheet.specs.Words.{blockAs, wordAs}
+use Rattle.sheet.specs.Words.{wordAs}
 use Rattle.sheet.specs.Lines.{fieldsFrom, fieldAt}
 use Rattle.utf8.specs.declared.Checked.{Checked}
 use Rattle.utf8.specs.declared.Checked.the-variants.{Valid, Fault}
 use Rattle.utf8.specs.Checking.{checkedOf}
 use Rattle.parts.specs.Got.{ReadAt}
 use Rattle.parts.proofs.Sequence.{fails, step, stop, good-of}
-use Rattle.parts.proofs.Leaves.{no-fields, field-here, leaf-bad, leaf-got}
-use Rattle.events.specs.declared.BlockKind.the-variants as view
-use Rattle.events.specs.declared.GotBlock.the-variants as block
+use Rattle.parts.proofs.Leaves.{no-fields, field-here}
 use Rattle.events.specs.declared.GotEvent.{GotEvent}
 use Rattle.events.specs.declared.GotEvent.the-variants as event
 use Rattle.events.specs.declared.EventView.{EventView}
-use Rattle.events.specs.declared.ReadEvent.{ReadEvent}
-use Rattle.events.specs.declared.ReadEvent.the-variants as answer
-use Rattle.events.specs.Views.{blockIn, eventIn, EventWithin}
-use Rattle.events.specs.Got.{BlockRead, EventRead, eventGot, wordOf, afterWord, readWord, eventAs, IfEvent, EventOf, LineOf}
-
--- ---- blocks
-unfoldable behind : BlockWord → Option words.BlockKind
-behind told.Step = some words.stepKind
-behind told.Text = some words.textKind
-behind told.Unknown = none
-
-behind-is : (o : Option words.BlockKind) → behind (blockAs o) ≡ o
-unfolding behind blockAs
-behind-is none = refl
-behind-is (some words.stepKind) = refl
-behind-is (some words.textKind) = refl
-
-said : (o : Option words.BlockKind) {r k : BlockWord} → r ≡ blockAs o → r ≡ k → o ≡ behind k
-said o w q = sym (behind-is o) ∙ ap behind (sym w ∙ q)
-
-module _ {line : List ℕ} {at : ℕ} {f : List ℕ} (h : at ≤ length line) (e : f ≡ fieldAt line at) {r : BlockWord} (w : r ≡ blockAs (wordIn f blockKinds)) where
-  pub block-bad : r ≡ told.Unknown → BlockRead line at block.Ill
-  unfolding word behind
-  block-bad q = leaf-bad (λ (f : List ℕ). wordIn f blockKinds) h e (said _ w q)
-
-  pub block-step : r ≡ told.Step → BlockRead line at (block.Got view.Step (at + length f + 1))
-  unfolding word behind blockIn
-  block-step q = leaf-got (λ (f : List ℕ). wordIn f blockKinds) h e (said _ w q) tt
-
-  pub block-text : r ≡ told.Text → BlockRead line at (block.Got view.Text (at + length f + 1))
-  unfolding word behind blockIn
-  block-text q = leaf-got (λ (f : List ℕ). wordIn f blockKinds) h e (said _ w q) tt
+use Rattle.reading.specs.declared.ReadEvent.{ReadEvent}
+use Rattle.reading.specs.declared.ReadEvent.the-variants as answer
+use Rattle.events.specs.Views.{eventIn, EventWithin}
+use Rattle.events.specs.Got.{EventRead, eventGot}
+use Rattle.reading.specs.Answers.{wordOf, afterWord, readWord, eventAs, IfEvent, EventOf, LineOf}
 
 -- ---- the first word
 word-is : (o : Option EventWord) → wordOf (wordAs o) ≡ o

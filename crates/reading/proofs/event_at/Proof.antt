@@ -1,11 +1,11 @@
 use borrow.Author.Needs.{needs}
 use native.Mathlib.Omega.{arith}
-use Rattle.events.proofs.Lines.{line-valid, line-fault}
-use Rattle.events.proofs.event_at.Statement.{statement}
-use Rattle.events.proofs.event_at.Tie as tie
-use Rattle.events.proofs.event_at.Reads as reads
-use Rattle.events.proofs.event_at.Lts as lts
-use Rattle.events.proofs.event_in.Reads as event-in-reads
+use Rattle.reading.proofs.Lines.{line-valid, line-fault}
+use Rattle.reading.proofs.event_at.Statement.{statement}
+use Rattle.reading.proofs.event_at.Tie as tie
+use Rattle.reading.proofs.event_at.Reads as reads
+use Rattle.reading.proofs.event_at.Lts as lts
+use Rattle.reading.proofs.event_in.Reads as event-in-reads
 use Rattle.utf8.proofs.first_fault.Reads as first-fault-reads
 
 -- src/lib.rt:217:11

@@ -1,11 +1,11 @@
 use borrow.Author.Needs.{needs}
 use native.Mathlib.Omega.{arith}
-use Rattle.events.proofs.Lines.{in-ill, in-more, in-got}
-use Rattle.events.proofs.event_in.Statement.{statement}
-use Rattle.events.proofs.event_in.Tie as tie
-use Rattle.events.proofs.event_in.Reads as reads
-use Rattle.events.proofs.event_in.Lts as lts
-use Rattle.events.proofs.read_after.Reads as read-after-reads
+use Rattle.reading.proofs.Lines.{in-ill, in-more, in-got}
+use Rattle.reading.proofs.event_in.Statement.{statement}
+use Rattle.reading.proofs.event_in.Tie as tie
+use Rattle.reading.proofs.event_in.Reads as reads
+use Rattle.reading.proofs.event_in.Lts as lts
+use Rattle.reading.proofs.read_after.Reads as read-after-reads
 use Rattle.sheet.proofs.event_word.Reads as event-word-reads
 use Rattle.sheet.proofs.field.Reads as field-reads
 
