@@ -1,8 +1,9 @@
 -- What the readers of whole lines answer: the rules' reading.
 use Prim.Native.Nat.{ℕ}
 use mathlib.Core.Path.{_≡_}
-use mathlib.Core.List.{List}
+use mathlib.Core.List.{List, []}
 use mathlib.Core.Option.{Option, none, some}
+use lib.ListN.{length}
 use Rattle.rules.specs.Sheet.{fieldsOf}
 use Rattle.rules.specs.Words as words
 use Rattle.rules.specs.Event.{Event}
@@ -10,8 +11,13 @@ use Rattle.rules.specs.Read.{Reader, readAfter, readEvent, firstRead, parseLine
 use Rattle.sheet.specs.declared.Word.{Word}
 use Rattle.sheet.specs.declared.Word.the-variants as told
 use Rattle.events.specs.Views.{eventIn, EventWithin}
+use Rattle.rules.specs.Answer.{Reading, events, unread, readLine, readSheet}
 use Rattle.reading.specs.declared.ReadEvent.{ReadEvent}
 use Rattle.reading.specs.declared.ReadEvent.the-variants as answer
+use Rattle.reading.specs.declared.LineFault.{LineFault}
+use Rattle.reading.specs.declared.LineFault.the-variants as fault
+use Rattle.reading.specs.declared.SheetRead.{SheetRead}
+use Rattle.reading.specs.declared.SheetRead.the-variants as sheet
 
 -- the word of the rules that was told
 unfoldable pub wordOf : Word → Option words.EventWord
@@ -52,3 +58,24 @@ pub record EventOf (line : List ℕ) (r : ReadEvent) : Type 0 where
 pub record LineOf (line : List ℕ) (r : ReadEvent) : Type 0 where
   pub is : eventAs line r ≡ parseLine line
   pub within : IfEvent line r
+
+-- the refusal of a reading and its line
+unfoldable pub faultOf : Reading → Option (ℕ × ℕ)
+faultOf (events es) = none
+faultOf (unread n l) = some (n, l)
+
+unfoldable pub lineAs : ℕ → LineFault → Option (ℕ × ℕ)
+lineAs number fault.Nothing = none
+lineAs number (fault.Fault n) = some (n, number)
+
+-- the refusal of a line, with nothing after it
+pub record LineChecked (text : List ℕ) (number : ℕ) (line : List ℕ) (r : LineFault) : Type 0 where
+  pub is : lineAs number r ≡ faultOf (readLine text (length text) number (parseLine line) (events []))
+
+unfoldable pub readAs : SheetRead → Option (ℕ × ℕ)
+readAs sheet.Good = none
+readAs (sheet.Refused n l) = some (n, l)
+
+-- the refusal of a whole sheet
+pub record SheetChecked (text bytes : List ℕ) (r : SheetRead) : Type 0 where
+  pub is : readAs r ≡ faultOf (readSheet text bytes)

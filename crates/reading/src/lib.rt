@@ -1,6 +1,6 @@
 // The event sheet, line by line. All functions take any bytes.
 ghost use Rattle.events.specs.Got.{EventRead};
-ghost use Rattle.reading.specs.Answers.{readWord, EventOf, LineOf};
+ghost use Rattle.reading.specs.Answers.{readWord, EventOf, LineOf, LineChecked, SheetChecked};
 
 // The event after a line's first word.
 pub fn read_after(line: &[u8], at: usize, w: sheet::Word) -> events::GotEvent
@@ -50,4 +50,54 @@ pub fn event_at(line: &[u8]) -> ReadEvent
         utf8::Checked::Valid => event_in(line),
         utf8::Checked::Fault(at) => ReadEvent::Ill,
     }
+}
+
+pub enum LineFault {
+    Nothing,
+    Fault(u32),
+}
+
+// The refusal of a line with its number: 8, 9 or 10.
+pub fn line_fault(text: &[u8], number: u32, line: &[u8]) -> LineFault
+    ensures { λ r. ⌜ LineChecked (now (text .entry)) number (now (line .entry)) r ⌝ }
+{
+    let ReadEvent::Event(v) = event_at(line) else {
+        return LineFault::Fault(8);
+    };
+    if 4096 < number {
+        return LineFault::Fault(9);
+    }
+    if spans::spans_good(text, v) {
+        return LineFault::Nothing;
+    }
+    LineFault::Fault(10)
+}
+
+pub enum SheetRead {
+    Good,
+    // The number of the refusal, and of the line.
+    Refused(u32, u32),
+}
+
+pub fn read_sheet(bytes: &[u8], text: &[u8]) -> SheetRead
+    ensures { λ r. ⌜ SheetChecked (now (text .entry)) (now (bytes .entry)) r ⌝ }
+{
+    let mut at = 0;
+    let mut number: u32 = 1;
+    while at < bytes.len() {
+        let sheet::LineEnd::At(end) = sheet::line_end(bytes, at) else {
+            return SheetRead::Refused(8, number);
+        };
+        let fault = line_fault(text, number, &bytes[at..end]);
+        match fault {
+            LineFault::Fault(k) => {
+                return SheetRead::Refused(k, number);
+            }
+            LineFault::Nothing => {
+                at = end + 1;
+                number += 1;
+            }
+        }
+    }
+    SheetRead::Good
 }
