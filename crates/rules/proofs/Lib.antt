@@ -1,3 +1,5 @@
 pub mod Basics
 pub mod KeyTree
 pub mod Cases
+pub mod Answers
+pub mod Refusals
