@@ -5,7 +5,7 @@ evaluate_rules.py --gate | --check-gate
 Has the checker evaluate the definitions of crates/rules on cases of data/answers: for each case two theorems by `refl`,
 what `collect` prints and what `plain_form` prints, each against the bytes that stand in the list. The theorems are
 written to a throw-away repository under target/evaluate, which holds a copy of crates/rules. Each case is reported as
-equal or different; the exit status is 1 if one differs.
+equal, different, or too large for the checker's limits on steps and memory; the exit status is 1 if one differs.
 
 --gate writes crates/rules/proofs/Answers.antt and Refusals.antt: a few dozen cases of the list that together show
 every finding code and every number; --check-gate only compares."""
@@ -320,7 +320,7 @@ def main():
     modules = [todo[i:i + o.per_module] for i in range(0, len(todo), o.per_module)]
     crates = [modules[i:i + o.per_crate] for i in range(0, len(modules), o.per_crate)]
     write(os.path.join(WORK, "crates.txt"), "rules:\n" + "".join("cases%d: rules\n" % i for i in range(len(crates))))
-    different = []
+    different, large = [], []
     started = time.time()
     equal = 0
     for i, crate in enumerate(crates):
@@ -330,24 +330,28 @@ def main():
             good, log = check(name)
             if good:
                 break
-            found = set()
-            for part, line in re.findall(r"(Part\d+)\.antt:(\d+)", log):
+            found = {}
+            for part, line, message in re.findall(r"(Part\d+)\.antt:(\d+):\d+: error: (.*)", log):
                 at = [n for start, n in places[part] if start <= int(line)]
                 if at:
-                    found.add(at[-1])
+                    found[at[-1]] = "too large" if "step limit" in message or "memory limit" in message else "different"
             if not found:
                 print(log)
                 sys.exit("the checker stopped without naming a theorem")
             for n in sorted(found):
                 c = by_name[n]
-                print("different: %s (%s: %s)\n%s" % (n, c.file, c.name, log[:1500]))
-                different.append(n)
+                if found[n] == "different":
+                    print("different: %s (%s: %s)\n%s" % (n, c.file, c.name, log[:3000]))
+                    different.append(n)
+                else:
+                    print("too large for the checker's limits: %s (%s: %s)" % (n, c.file, c.name))
+                    large.append(n)
             crate = [[t for t in m if t[0] not in found] for m in crate]
         equal += sum(len(m) for m in crate)
-        print("%s: %d theorems equal so far, %d different, %.0f s" % (name, equal, len(different), time.time() - started), flush=True)
+        print("%s: %d theorems equal so far, %d different, %d too large, %.0f s" % (name, equal, len(different), len(large), time.time() - started), flush=True)
         shutil.rmtree(os.path.join(WORK, "crates", name))
         open(os.path.join(WORK, "crates.txt"), "w").write("rules:\n" + "".join("cases%d: rules\n" % k for k in range(i + 1, len(crates))))
-    print("%d cases of %d in the list: %d theorems equal, %d different" % (len(cases), listed, equal, len(different)))
+    print("%d cases of %d: %d theorems equal, %d different, %d too large for the checker's limits" % (len(cases), listed, equal, len(different), len(large)))
     for n in different:
         print("different: %s (%s: %s)" % (n, by_name[n].file, by_name[n].name))
     sys.exit(1 if different else 0)

@@ -96,7 +96,7 @@ impl Short {
 pub const TEXT: &str = "abcdefghij";
 pub const UNITS: &str = "kg\tmass\ng\tmass\nl\tvolume\nmin\ttime\n";
 
-/// lines parted by LF; `/` at a line's end joins nothing: each line is one
+/// a case in the short form, with the text and the units of docs/DECISIONS.md
 fn short(flags: &str, name: &str, lines: &str) -> Case {
     let mut s = Short { next: 0 };
     let mut sheet = String::new();
@@ -148,7 +148,8 @@ pub fn paper() -> Vec<Case> {
     out.push(short("7", "components mode", "mode components\nST\n\" text\nET\nS\n\" ..\n\" word\ni a;;q=n:1\nE\nmode all\nS\ni a;&;q=n:2\nE\nS\nE"));
     out.push(short("7", "step target counts text blocks", "ST\nET\nS\nE\nS\ni a;&;in=n:step:1\ni b;&;in=r:step:1\ni c;&;in=n:step:2\nE"));
     out.push(short("7", "unit check over all", "S\ni a;;q=n:1:kg\ni a;&;q=n:1:g\ni a;&;q=n:1\ni a;&;q=n:1:l\ni a;&;q=n:1:pinch\ni a;&;q=n:2:pinch\ni a;&\ni a;&;q=t:x:kg\nE"));
-    out.push(short("7", "from the first error on", "w 1\ni b\nx 2\nw 3\nsec a\nx 4\ni a;&;in=n:step:-1\nE").clone());
+    out.push(short("7", "from the first error on", "w 1\nx 2\nw 3\nsec a\nx 4\ni a;&;in=n:step:-1\nE"));
+    out.push(short("7", "12 before the first error", "w 1\ni b\nx 2\nw 3"));
     out.push(short("7", "error clears findings", "key a=b\nmode x\nw 1\nx 2\nw 3\nsec a\nx 4\nE\ni a"));
     out
 }
@@ -238,6 +239,8 @@ pub fn decisions() -> Vec<Case> {
         add(short("7", &format!("blocks {m}"), &format!("mode {m}\nS\n\" a1\ni a\nc b\nt c\nE\nST\n\" x\n\" y\nET\nS\nE\nST\nET")));
     }
     add(short("7", "B18 in no block", "i a;;in=n:step:1"));
+    add(short("7", "B23", "S\n\" a 1 kg b\nE"));
+    add(bars("7", "E1", "section|0|1|é\\n\n"));
     add(bars("7", "B24 dropped", "section|-\nsection|-\nsection|-\n"));
     for (i, u) in [
         "", "\n", "g\tmass", "g\tmass\n", "g\tmass\nG\tmass\n", "ß\tmass\nss\tmass\n", "g\tmass\ng\tmass\nx\n", "g\tmass\ng\tvolume\n", "\tmass\n", "g\t\n", "g\tMass\n", "g\tmass\t\n",
@@ -399,8 +402,8 @@ pub fn decisions() -> Vec<Case> {
 }
 
 /// Realistic sheets and damaged copies, small, by chance.
-pub fn chosen(n: usize) -> Vec<Case> {
-    let mut rng = Rng(2026);
+pub fn chosen(n: usize, seed: u64) -> Vec<Case> {
+    let mut rng = Rng(seed);
     let mut out = Vec::new();
     while out.len() < n {
         let mut c = recipe(&mut rng, 5, 5);
@@ -443,6 +446,9 @@ pub fn limits() -> Vec<Case> {
     out.push(c.clone());
     c.name = "3 before 4".into();
     c.text.truncate(65535);
+    out.push(c);
+    let mut c = bars("1", "D10", &format!("meta|0|1|[mode]|1|2|text\nstart|step\n{}end|step\n", "timer|0|2000|-|-\n".repeat(17)));
+    c.text = vec![b'\n'; 2000];
     out.push(c);
     // a page longer than what is lent
     let mut c = short("1", "A3", &format!("mode text\nS\n{}E", "timer|0|20000|-|-\n".repeat(53)));

@@ -45,7 +45,7 @@ fn batch(file: &str) -> Vec<u8> {
 /// Writes the fixed list.
 fn list() {
     std::fs::create_dir_all(answers()).unwrap();
-    let all = [cases::paper(), cases::decisions(), cases::chosen(240), cases::limits()];
+    let all = [cases::paper(), cases::decisions(), cases::chosen(240, 2026), cases::limits()];
     let mut counts = fuzz::Counts::default();
     for (file, cases) in FILES.iter().zip(all) {
         let mut out = Vec::new();
@@ -88,13 +88,18 @@ fn main() {
             std::process::exit((c.uncaught > 0) as i32)
         }
         ["batch", file] => batch(file),
+        ["sample", n, seed] => {
+            let mut out = Vec::new();
+            cases::chosen(n.parse().unwrap(), seed.parse().unwrap()).iter().for_each(|c| c.write(&mut out));
+            out
+        }
         ["list"] => {
             list();
             Vec::new()
         }
         ["verify"] => verify(),
         _ => {
-            eprintln!("usage: harness [collect | plain | batch FILE | fuzz COUNT SEED | list | verify]");
+            eprintln!("usage: harness [collect | plain | batch FILE | fuzz COUNT SEED | sample COUNT SEED | list | verify]");
             std::process::exit(2)
         }
     };
