@@ -37,3 +37,5 @@ pub mod Warnings
 pub mod PlainForm
 pub mod Lending
 pub mod PlainCases
+pub mod Answers
+pub mod Refusals
