@@ -1,0 +1,10 @@
+pub mod Fronts
+pub mod Words
+pub mod Seeks
+pub mod Tries
+pub mod Scans
+pub mod Signs
+pub mod Names
+pub mod Turns
+pub mod Lists
+pub mod Items

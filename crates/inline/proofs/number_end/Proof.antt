@@ -1,0 +1,68 @@
+use borrow.Author.Needs.{needs}
+use native.Mathlib.Omega.{arith}
+use Prim.Native.Nat.{_-_}
+use lib.ListN.{length}
+use borrow.Author.Tests.{not-true, not-false}
+use mathlib.Core.Path.{sym, _∙_}
+use Rattle.rules.specs.Inline.{isDigitOrPoint}
+use Rattle.utf8.proofs.Steps.{char-step}
+use Rattle.inline.proofs.Scans.{Going, going-start, going-stop, going-on, going-end}
+use Rattle.inline.proofs.number_end.Statement.{statement}
+use Rattle.inline.proofs.number_end.Tie as tie
+use Rattle.inline.proofs.number_end.Reads as reads
+use Rattle.inline.proofs.number_end.Lts as lts
+use Rattle.inline.proofs.is_digit_or_point.Reads as is-digit-or-point-reads
+use Rattle.utf8.proofs.char_at.Reads as char-at-reads
+
+abbrev Inv-loop : tie.InvT-loop
+Inv-loop s at i₀ i = Going isDigitOrPoint s at i
+
+abbrev μ-loop : tie.MeasureT-loop
+μ-loop s at i₀ i = length s - i
+
+-- src/lib.rt:55:5
+loop-holds : tie.Need-loop-holds Inv-loop μ-loop
+loop-holds c = going-start _ _ _ (c .before .pre .0) (c .before .pre .1)
+
+-- src/lib.rt:56:13
+char-at-requires : tie.Need-char-at-requires Inv-loop μ-loop
+char-at-requires c κs = search needs
+
+-- src/lib.rt:57:13
+is-digit-or-point-requires : tie.Need-is-digit-or-point-requires Inv-loop μ-loop
+is-digit-or-point-requires c κs = search needs
+
+-- src/lib.rt:58:13
+returns : tie.Need-returns Inv-loop μ-loop
+returns c = going-stop (c .before .before .before .before .loop .inv) _ (c .before .before .before .loop-test .taken) (c .before .before .char-at .ensures) (sym (c .before .is-digit-or-point .ensures) ∙ not-true _ (c .if1 .taken))
+
+-- src/lib.rt:60:9
+add-i : tie.Need-add-i Inv-loop μ-loop
+add-i c = omega (arith, char-step _ _ _ (c .before .before .before .before .loop-test .taken) (c .before .before .before .char-at .ensures) .most)
+
+-- src/lib.rt:55:5
+loop-less : tie.Need-loop-less Inv-loop μ-loop
+loop-less c = omega (arith, char-step _ _ _ (c .before .before .before .before .loop-test .taken) (c .before .before .before .char-at .ensures) .most, char-step _ _ _ (c .before .before .before .before .loop-test .taken) (c .before .before .before .char-at .ensures) .least)
+
+-- src/lib.rt:55:5
+loop-again : tie.Need-loop-again Inv-loop μ-loop
+loop-again c = going-on (c .before .before .before .before .before .loop .inv) _ (c .before .before .before .before .loop-test .taken) (c .before .before .before .char-at .ensures) (sym (c .before .before .is-digit-or-point .ensures) ∙ not-false _ (c .before .if1 .left))
+
+-- src/lib.rt:50:1
+returns-2 : tie.Need-returns-2 Inv-loop μ-loop
+returns-2 c = going-end (c .before .loop .inv) (c .loop-test .left)
+
+pub number-end-spec : {M : Type 1} → statement M
+number-end-spec =
+    tie.close
+    (tie.spec
+    Inv-loop
+    μ-loop
+    loop-holds
+    char-at-requires
+    is-digit-or-point-requires
+    returns
+    add-i
+    loop-less
+    loop-again
+    returns-2)

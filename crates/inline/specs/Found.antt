@@ -1,0 +1,36 @@
+-- What `find_inline_quantity` answers.
+use Prim.Native.Nat.{ℕ, _-_, _≤_, _<_}
+use mathlib.Core.Path.{_≡_}
+use mathlib.Core.Bool.{true}
+use mathlib.Core.List.{List, [], _∷_, _++_}
+use lib.ListN.{length, take, drop}
+use Rattle.rules.specs.Utf8.{isUtf8, chars}
+use Rattle.rules.specs.Units.{NamedUnit}
+use Rattle.rules.specs.Inline.{Piece, textPiece, quantityPiece, textIfAny, inlinePieces}
+use Rattle.inline.specs.declared.Inline.{Inline}
+use Rattle.inline.specs.declared.Inline.the-variants.{Found, Nothing}
+use Rattle.inline.specs.Scans.{part}
+
+-- the pieces of a text from a place on: all of it is text;
+-- or the text before a number, the quantity, and the pieces after the unit
+unfoldable pub inlineAs : List NamedUnit → List ℕ → ℕ → Inline → List Piece
+inlineAs us s from Nothing = textIfAny (chars (drop from s))
+inlineAs us s from (Found a b c d e) =
+    textIfAny (chars (part from a s)) ++ (quantityPiece (chars (part a b s)) (chars (part c d s)) ∷ inlinePieces us (chars (drop e s)))
+
+-- the places of a quantity, in order, and each part is UTF-8
+pub record FoundAt (s : List ℕ) (from a b c d e : ℕ) : Type 0 where
+  pub start : from ≤ a
+  pub number : a < b
+  pub gap : b ≤ c
+  pub unit : c ≤ d
+  pub rest : d ≤ e
+  pub end : e ≤ length s
+  pub before-utf8 : isUtf8 (part from a s) ≡ true
+  pub number-utf8 : isUtf8 (part a b s) ≡ true
+  pub unit-utf8 : isUtf8 (part c d s) ≡ true
+  pub after-utf8 : isUtf8 (drop e s) ≡ true
+
+pub record InlineAt (us : List NamedUnit) (s : List ℕ) (from : ℕ) (r : Inline) : Type 0 where
+  pub is : inlineAs us s from r ≡ inlinePieces us (chars (drop from s))
+  pub found : (a b c d e : ℕ) → r ≡ Found a b c d e → FoundAt s from a b c d e

@@ -1,0 +1,278 @@
+// Quantities inside a text. The texts are UTF-8, without escapes; the Unicode tables are lent.
+ghost use mathlib.Core.Path.{_≡_};
+ghost use mathlib.Core.Bool.{true};
+ghost use Prim.Native.Nat.{_≤_, _<_};
+ghost use lib.ListN.{length, drop};
+ghost use Rattle.rules.specs.Basic.{isDigit, isSome};
+ghost use Rattle.rules.specs.Units.{readUnits};
+ghost use Rattle.rules.specs.Answer.{unitsOr};
+ghost use Rattle.rules.specs.Unicode.{isWhiteSpace};
+ghost use Rattle.rules.specs.Utf8.{isUtf8, chars};
+ghost use Rattle.rules.specs.Text.{isNotAlphabetic};
+ghost use Rattle.rules.specs.Inline.{isNoDigit, isDigitOrPoint, points as pointsIn, inlinePieces};
+ghost use Rattle.unicode.specs.Tables.{unicodeTables};
+ghost use Rattle.inline.specs.Scans.{isNotWhite, part, Front, SignAt, UnitPart};
+ghost use Rattle.inline.specs.Found.{InlineAt};
+ghost use Rattle.inline.specs.Items.{CountsOf, textItems};
+
+// A part of a text, from a place to a place.
+struct Span {
+    from: usize,
+    to: usize,
+}
+
+// Whether a code point is an ASCII digit.
+fn is_digit(c: u32) -> bool
+    ensures { λ r. ⌜ r ≡ isDigit c ⌝ }
+{
+    if c < 48 {
+        return false;
+    }
+    c <= 57
+}
+
+fn is_digit_or_point(c: u32) -> bool
+    ensures { λ r. ⌜ r ≡ isDigitOrPoint c ⌝ }
+{
+    if is_digit(c) {
+        return true;
+    }
+    c == 46
+}
+
+// The place of the next ASCII digit, or the end.
+fn next_digit(s: &[u8], at: usize) -> usize
+    requires { ⌜ (at ≤ length (now s)) × (isUtf8 (drop at (now s)) ≡ true) ⌝ }
+    ensures { λ r. ⌜ Front isNoDigit (now (s .entry)) at r ⌝ }
+{
+    let mut i = at;
+    while i < s.len() {
+        let c = utf8::char_at(s, i);
+        if is_digit(c.code) {
+            return i;
+        }
+        i += c.size;
+    }
+    i
+}
+
+// The place after the digits and points.
+fn number_end(s: &[u8], at: usize) -> usize
+    requires { ⌜ (at ≤ length (now s)) × (isUtf8 (drop at (now s)) ≡ true) ⌝ }
+    ensures { λ r. ⌜ Front isDigitOrPoint (now (s .entry)) at r ⌝ }
+{
+    let mut i = at;
+    while i < s.len() {
+        let c = utf8::char_at(s, i);
+        if !is_digit_or_point(c.code) {
+            return i;
+        }
+        i += c.size;
+    }
+    i
+}
+
+// The place after the White_Space.
+fn blanks_end(t: &[u32], s: &[u8], at: usize) -> usize
+    requires { ⌜ (now t ≡ unicodeTables) × (at ≤ length (now s)) × (isUtf8 (drop at (now s)) ≡ true) ⌝ }
+    ensures { λ r. ⌜ Front isWhiteSpace (now (s .entry)) at r ⌝ }
+{
+    let mut i = at;
+    while i < s.len() {
+        let c = utf8::char_at(s, i);
+        if !unicode::is_white_space(t, c.code) {
+            return i;
+        }
+        i += c.size;
+    }
+    i
+}
+
+// The place of the next White_Space, or the end.
+fn word_end(t: &[u32], s: &[u8], at: usize) -> usize
+    requires { ⌜ (now t ≡ unicodeTables) × (at ≤ length (now s)) × (isUtf8 (drop at (now s)) ≡ true) ⌝ }
+    ensures { λ r. ⌜ Front isNotWhite (now (s .entry)) at r ⌝ }
+{
+    let mut i = at;
+    while i < s.len() {
+        let c = utf8::char_at(s, i);
+        if unicode::is_white_space(t, c.code) {
+            return i;
+        }
+        i += c.size;
+    }
+    i
+}
+
+// The place of the first Alphabetic character, or the end.
+fn letters_start(t: &[u32], s: &[u8]) -> usize
+    requires { ⌜ (now t ≡ unicodeTables) × (isUtf8 (now s) ≡ true) ⌝ }
+    ensures { λ r. ⌜ Front isNotAlphabetic (now (s .entry)) 0 r ⌝ }
+{
+    let mut i = 0;
+    while i < s.len() {
+        let c = utf8::char_at(s, i);
+        if unicode::is_alphabetic(t, c.code) {
+            return i;
+        }
+        i += c.size;
+    }
+    i
+}
+
+// How many points a text holds.
+fn points(s: &[u8]) -> usize
+    ensures { λ r. ⌜ r ≡ pointsIn (chars (now (s .entry))) ⌝ }
+{
+    let mut n = 0;
+    let mut i = 0;
+    while i < s.len() {
+        let c = utf8::char_at(s, i);
+        i += c.size;
+        if c.code == 46 {
+            n += 1;
+        }
+    }
+    n
+}
+
+// The place of the number's minus, where one stands right before its first digit, else of that digit.
+fn sign_start(s: &[u8], at: usize, digit: usize) -> usize
+    requires { ⌜ (at ≤ digit) × (digit ≤ length (now s)) × (isUtf8 (part at digit (now s)) ≡ true) ⌝ }
+    ensures { λ r. ⌜ SignAt (now (s .entry)) at digit r ⌝ }
+{
+    if digit <= at {
+        return digit;
+    }
+    let m = digit - 1;
+    if s[m] == b'-' {
+        return m;
+    }
+    digit
+}
+
+// The unit's name in a word: what is not Alphabetic goes from both ends.
+fn unit_part(t: &[u32], s: &[u8], from: usize, to: usize) -> Span
+    requires { ⌜ (now t ≡ unicodeTables) × (from ≤ to) × (to ≤ length (now s)) × (isUtf8 (part from to (now s)) ≡ true) ⌝ }
+    ensures { λ r. ⌜ UnitPart (now (s .entry)) from to r ⌝ }
+{
+    let word = &s[from..to];
+    let a = from + letters_start(t, word);
+    let name = text::unit_trimmed(t, word);
+    Span {
+        from: a,
+        to: a + name.len(),
+    }
+}
+
+// The first quantity of a text whose unit is known.
+pub enum Inline {
+    // Where its number starts, with its sign, and ends; where its unit's name starts and ends; where the search goes on.
+    Found {
+        number_from: usize,
+        number_to: usize,
+        unit_from: usize,
+        unit_to: usize,
+        after: usize,
+    },
+    Nothing,
+}
+
+// The first quantity of the text from a place on.
+pub fn find_inline_quantity(t: &[u32], units: &[u8], s: &[u8], from: usize) -> Inline
+    requires { ⌜ (now t ≡ unicodeTables) × (isSome (readUnits (now units)) ≡ true) × (from ≤ length (now s)) × (isUtf8 (drop from (now s)) ≡ true) ⌝ }
+    ensures { λ r. ⌜ InlineAt (unitsOr (readUnits (now (units .entry)))) (now (s .entry)) from r ⌝ }
+{
+    let mut i = from;
+    'numbers: loop {
+        let digit = next_digit(s, i);
+        if digit == s.len() {
+            break Inline::Nothing;
+        }
+        let number_from = sign_start(s, i, digit);
+        let number_to = number_end(s, digit);
+        let word = blanks_end(t, s, number_to);
+        if word == s.len() {
+            break Inline::Nothing;
+        }
+        let after = word_end(t, s, word);
+        let name = unit_part(t, s, word, after);
+        let unit_from = name.from;
+        let unit_to = name.to;
+        if points(&s[digit..number_to]) <= 1 {
+            let mut at = 0;
+            while at < units.len() {
+                let u = units::unit_at(units, at);
+                match u {
+                    units::UnitAt::End => {
+                        break;
+                    }
+                    units::UnitAt::Unit {
+                        name_end,
+                        next,
+                        physical: _,
+                    } => {
+                        if units::is_named(units, at, name_end, &s[unit_from..unit_to]) {
+                            break 'numbers Inline::Found {
+                                number_from,
+                                number_to,
+                                unit_from,
+                                unit_to,
+                                after,
+                            };
+                        }
+                        at = next;
+                    }
+                }
+            }
+        }
+        i = after;
+    }
+}
+
+// How many items a text is split into, and how many of them are quantities.
+pub struct Counts {
+    pub items: usize,
+    pub quantities: usize,
+}
+
+// One item for a text that is not empty.
+fn text_items(from: usize, to: usize) -> usize
+    ensures { λ r. ⌜ r ≡ textItems from to ⌝ }
+{
+    if from < to {
+        return 1;
+    }
+    0
+}
+
+pub fn count_items(t: &[u32], units: &[u8], s: &[u8]) -> Counts
+    requires { ⌜ (now t ≡ unicodeTables) × (isSome (readUnits (now units)) ≡ true) × (isUtf8 (now s) ≡ true) ⌝ }
+    ensures { λ r. ⌜ CountsOf (inlinePieces (unitsOr (readUnits (now (units .entry)))) (chars (now (s .entry)))) r ⌝ }
+{
+    let mut items = 0;
+    let mut quantities = 0;
+    let mut at = 0;
+    loop {
+        let f = find_inline_quantity(t, units, s, at);
+        match f {
+            Inline::Nothing => {
+                return Counts {
+                    items: items + text_items(at, s.len()),
+                    quantities,
+                };
+            }
+            Inline::Found {
+                number_from,
+                number_to: _,
+                unit_from: _,
+                unit_to: _,
+                after,
+            } => {
+                items = items + text_items(at, number_from) + 1;
+                quantities += 1;
+                at = after;
+            }
+        }
+    }
+}
