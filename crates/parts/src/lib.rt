@@ -1,5 +1,7 @@
 // The parts of a line as views: numbers, and where the contents stand in the line. All readers take any bytes and any position;
 // `Ill` says that the part is ill-formed.
+ghost use mathlib.Core.Path.{_≡_};
+ghost use Rattle.parts.specs.Views.{partOf};
 ghost use Rattle.parts.specs.Got.{DashAt, NumberRead, SpanRead, ContentRead, TextRead, OptTextRead, KindRead, LockRead, QuantityRead, OptQuantityRead};
 
 pub struct Span {
@@ -41,6 +43,24 @@ pub struct QuantityView {
 pub enum OptQuantity {
     Absent,
     Present(QuantityView),
+}
+
+// The bytes of a part; of one that a reader made, the line from `from` to `to`.
+pub fn part_of<'a>(line: &'a [u8], p: Part) -> &'a [u8]
+    ensures { λ r. ⌜ now r ≡ partOf (now (line .entry)) p ⌝ }
+{
+    let from = p.from;
+    let to = p.to;
+    if line.len() < from {
+        return &line[..0];
+    }
+    if to < from {
+        return &line[..0];
+    }
+    if line.len() < to {
+        return &line[from..];
+    }
+    &line[from..to]
 }
 
 // Whether an opt part is there.

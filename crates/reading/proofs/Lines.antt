@@ -119,3 +119,18 @@ module _ {line : List ℕ} {c : Checked} (t : c ≡ checkedOf (firstFault line))
   pub line-fault : {n : ℕ} → c ≡ Fault n → LineOf line answer.Ill
   unfolding parseLine isUtf8 isSome eventAs IfEvent
   line-fault q = record { is = rw (fault-some _ (sym q ∙ t)); within = tt }
+
+-- ---- what a line's answer says
+module _ {line : List ℕ} {r : ReadEvent} (p : LineOf line r) where
+  pub line-none : r ≡ answer.Ill → parseLine line ≡ none
+  unfolding eventAs
+  line-none q = sym (p .is) ∙ ap (eventAs line) q
+
+  module _ {v : EventView} (q : r ≡ answer.Event v) where
+    pub line-event : parseLine line ≡ some (eventIn line v)
+    unfolding eventAs
+    line-event = sym (p .is) ∙ ap (eventAs line) q
+
+    pub line-within : EventWithin line v
+    unfolding IfEvent
+    line-within = rw q at (p .within)

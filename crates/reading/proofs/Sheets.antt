@@ -27,31 +27,28 @@ use Rattle.reading.specs.declared.ReadEvent.the-variants as answer
 use Rattle.reading.specs.declared.LineFault.{LineFault}
 use Rattle.reading.specs.declared.LineFault.the-variants as fault
 use Rattle.reading.specs.declared.SheetRead.the-variants as sheet
-use Rattle.reading.specs.Answers.{eventAs, LineOf, faultOf, lineAs, LineChecked, readAs, SheetChecked}
+use Rattle.reading.specs.Answers.{LineOf, faultOf, lineAs, LineChecked, readAs, SheetChecked}
+use Rattle.reading.proofs.Lines.{line-none, line-event}
 
 -- ---- one line
-module _ {line : List ℕ} {r : ReadEvent} (p : LineOf line r) where
-  parsed : {a : ReadEvent} → r ≡ a → parseLine line ≡ eventAs line a
-  parsed q = sym (p .is) ∙ ap (eventAs line) q
-
 module _ {text : List ℕ} {number : ℕ} {line : List ℕ} {r : ReadEvent} (p : LineOf line r) where
   pub line-ill : r ≡ answer.Ill → LineChecked text number line (fault.Fault 8)
-  unfolding lineAs faultOf readLine eventAs
-  line-ill q = record { is = rw (parsed p q) }
+  unfolding lineAs faultOf readLine
+  line-ill q = record { is = rw (line-none p q) }
 
   module _ {v : EventView} (q : r ≡ answer.Event v) where
     pub line-late : 4096 < number → LineChecked text number line (fault.Fault 9)
-    unfolding lineAs faultOf readLine eventAs
-    line-late h = record { is = rw (parsed p q, lt-ltb 4096 number h) }
+    unfolding lineAs faultOf readLine
+    line-late h = record { is = rw (line-event p q, lt-ltb 4096 number h) }
 
     module _ (h : number ≤ 4096) {t : Bool} (g : Goods text (spansOf (eventIn line v)) t) where
       pub line-bad : t ≡ false → LineChecked text number line (fault.Fault 10)
-      unfolding lineAs faultOf readLine eventAs
-      line-bad k = record { is = rw (parsed p q, le-ltb 4096 number h, sym (g .is) ∙ k) }
+      unfolding lineAs faultOf readLine
+      line-bad k = record { is = rw (line-event p q, le-ltb 4096 number h, sym (g .is) ∙ k) }
 
       pub line-good : t ≡ true → LineChecked text number line fault.Nothing
-      unfolding lineAs faultOf readLine eventAs withEvent
-      line-good k = record { is = rw (parsed p q, le-ltb 4096 number h, sym (g .is) ∙ k) }
+      unfolding lineAs faultOf readLine withEvent
+      line-good k = record { is = rw (line-event p q, le-ltb 4096 number h, sym (g .is) ∙ k) }
 
 -- ---- and what comes after it
 with-fault : (e : Event) (rest : Reading) → faultOf (withEvent e rest) ≡ faultOf rest

@@ -3,10 +3,8 @@ use native.Mathlib.Omega.{arith}
 use mathlib.Core.Path.{ap}
 use Rattle.parts.specs.Got.{spanGot, textGot, optTextGot, optQuantityGot}
 use Rattle.components.specs.Got.{modifiersGot}
-use Rattle.components.specs.Got.{modifiersGot}
 use Rattle.components.specs.Views.{componentIn}
 use Rattle.rules.specs.Read.{readComponent}
-use Rattle.components.specs.Got.{modifiersGot}
 use Rattle.parts.proofs.Sequence.{gives, reads, fails, good-of, step, stop}
 use Rattle.components.proofs.read_component.Statement.{statement}
 use Rattle.components.proofs.read_component.Tie as tie

@@ -3,10 +3,8 @@ use native.Mathlib.Omega.{arith}
 use mathlib.Core.Path.{ap}
 use Rattle.parts.specs.Got.{flagGot, spanGot}
 use Rattle.components.specs.Got.{targetGot, signedGot}
-use Rattle.components.specs.Got.{targetGot, signedGot}
 use Rattle.components.specs.Views.{intermediateIn}
 use Rattle.rules.specs.Read.{readIntermediate}
-use Rattle.components.specs.Got.{targetGot, signedGot}
 use Rattle.parts.proofs.Sequence.{gives, reads, fails, good-of, step, stop}
 use Rattle.components.proofs.read_intermediate.Statement.{statement}
 use Rattle.components.proofs.read_intermediate.Tie as tie
