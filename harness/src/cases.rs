@@ -313,6 +313,7 @@ pub fn decisions() -> Vec<Case> {
             }
         }
     }
+    add(short("7", "C13 modifiers one by one", "S\nE\nS\ni a;@&;in=n:step:1\ni a;&-;in=n:step:1\ni a;&+;in=n:step:1\ni a;&?;in=n:step:1\nE"));
     add(short("7", "C13 components", "S\nE\nmode components\nS\ni x;&;in=r:step:1\ni x;&;in=r:step:2\nE\nmode all\nS\ni x;&;in=n:step:1\nE"));
     add(short("7", "C15", "S\ni a\ni a;&;note=x\ni b;;note=y\ni b;&;note=z\nc a\nc a;&;note=x\nc b;;note=y\nc b;&;note=z\nE"));
     let mut c = bars("7", "C15 edges", "start|step\ningredient|0|1|0|1|a|-|-|-|.|0|0|-\ningredient|0|10|0|1|a|-|-|0|10|n|&|0|0|-\nend|step\n");

@@ -38,4 +38,6 @@ pub mod PlainForm
 pub mod Lending
 pub mod PlainCases
 pub mod Answers
+pub mod Lost
 pub mod Refusals
+pub mod Limits
