@@ -8,7 +8,9 @@ use native.Mathlib.Omega.{arith}
 use lib.ListN.{length, drop, length-drop, length-append}
 use lib.Seq.{length-take-le}
 use borrow.Author.Tests.{lt-ltb, le-ltb}
-use Rattle.rules.specs.Utf8.{chars, isUtf8}
+use Rattle.content.specs.Contents.{contentIn}
+use Rattle.content.specs.Parts.{Field}
+use Rattle.content.proofs.Chars.{no-content}
 use Rattle.rules.specs.Units.{NamedUnit}
 use Rattle.rules.specs.Inline.{Piece, quantityPiece, textIfAny, inlinePieces}
 use Rattle.rules.proofs.Basics.{by-order}
@@ -17,8 +19,7 @@ use Rattle.inline.specs.declared.Inline.the-variants.{Found, Nothing}
 use Rattle.inline.specs.Scans.{part}
 use Rattle.inline.specs.Found.{inlineAs, FoundAt, InlineAt}
 use Rattle.inline.specs.Items.{quantitiesIn, CountsOf, textItems}
-use Rattle.inline.proofs.Scans.{chars-none}
-use Rattle.inline.proofs.Turns.{some-chars}
+use Rattle.inline.proofs.Turns.{some-content}
 
 pub items-yes : (a e : ℕ) → a < e → 1 ≡ textItems a e
 unfolding textItems
@@ -33,21 +34,21 @@ pub items-few : (a e : ℕ) → a ≤ e → a + textItems a e ≤ e
 items-few a e h = by-order e a (λ l. omega (arith, items-no a e l)) (λ l. omega (arith, items-yes a e l))
 
 -- bytes are one text, or none
-text-some : (t : List ℕ) → 1 ≤ length t → length (textIfAny (chars t)) ≡ 1
-text-some t h = let c = some-chars t h in rw (c .is) (unfold textIfAny in refl)
+text-some : (t : List ℕ) → 1 ≤ length t → length (textIfAny (contentIn t)) ≡ 1
+text-some t h = let c = some-content t h in rw (c .is) (unfold textIfAny in refl)
 
-text-none : (t : List ℕ) → length t ≤ 0 → length (textIfAny (chars t)) ≡ 0
-text-none [] h = rw chars-none (unfold textIfAny in refl)
+text-none : (t : List ℕ) → length t ≤ 0 → length (textIfAny (contentIn t)) ≡ 0
+text-none [] h = rw no-content (unfold textIfAny in refl)
 text-none (c ∷ t) h = absurd (omega arith)
 
-text-count : (s : List ℕ) (a e : ℕ) → e ≤ length s → length (textIfAny (chars (part a e s))) ≡ textItems a e
+text-count : (s : List ℕ) (a e : ℕ) → e ≤ length s → length (textIfAny (contentIn (part a e s))) ≡ textItems a e
 text-count s a e h =
     let l : length (part a e s) ≡ e - a = length-take-le (e - a) (drop a s) (omega (arith, length-drop a s)) in
     by-order e a
     (λ k. text-none (part a e s) (omega arith) ∙ items-no a e k)
     (λ k. text-some (part a e s) (omega arith) ∙ items-yes a e k)
 
-rest-count : (s : List ℕ) (a : ℕ) → length (textIfAny (chars (drop a s))) ≡ textItems a (length s)
+rest-count : (s : List ℕ) (a : ℕ) → length (textIfAny (contentIn (drop a s))) ≡ textItems a (length s)
 rest-count s a =
     let l = length-drop a s in
     by-order (length s) a
@@ -67,18 +68,18 @@ no-quantities (c ∷ x) = refl
 
 -- n items, k of them quantities, stand before a place
 pub record Counting (us : List NamedUnit) (s : List ℕ) (at n k : ℕ) : Type 0 where
-  pub items : n + length (inlinePieces us (chars (drop at s))) ≡ length (inlinePieces us (chars s))
-  pub quantities : k + quantitiesIn (inlinePieces us (chars (drop at s))) ≡ quantitiesIn (inlinePieces us (chars s))
+  pub items : n + length (inlinePieces us (contentIn (drop at s))) ≡ length (inlinePieces us (contentIn s))
+  pub quantities : k + quantitiesIn (inlinePieces us (contentIn (drop at s))) ≡ quantitiesIn (inlinePieces us (contentIn s))
   pub few : n ≤ at
   pub fewer : k ≤ at
   pub to : at ≤ length s
-  pub left : isUtf8 (drop at s) ≡ true
+  pub left : Field (drop at s)
 
-pub counting-start : (us : List NamedUnit) (s : List ℕ) → isUtf8 s ≡ true → Counting us s 0 0 0
+pub counting-start : (us : List NamedUnit) (s : List ℕ) → Field s → Counting us s 0 0 0
 counting-start us s w =
     record {
-      items = zero-add (length (inlinePieces us (chars s)));
-      quantities = zero-add (quantitiesIn (inlinePieces us (chars s)));
+      items = zero-add (length (inlinePieces us (contentIn s)));
+      quantities = zero-add (quantitiesIn (inlinePieces us (contentIn s)));
       few = omega arith;
       fewer = omega arith;
       to = omega arith;
@@ -86,12 +87,12 @@ counting-start us s w =
     }
 
 module _ {us : List NamedUnit} {s : List ℕ} {at n k : ℕ} {f : Inline} (c : Counting us s at n k) (i : InlineAt us s at f) where
-  pub counting-end : {t : ℕ} → f ≡ Nothing → t ≡ textItems at (length s) → CountsOf (inlinePieces us (chars s)) (record { items = n + t; quantities = k })
+  pub counting-end : {t : ℕ} → f ≡ Nothing → t ≡ textItems at (length s) → CountsOf (inlinePieces us (contentIn s)) (record { items = n + t; quantities = k })
   counting-end e q =
-      let p : textIfAny (chars (drop at s)) ≡ inlinePieces us (chars (drop at s)) = unfold inlineAs in (rw e at (i .is)) in
+      let p : textIfAny (contentIn (drop at s)) ≡ inlinePieces us (contentIn (drop at s)) = unfold inlineAs in (rw e at (i .is)) in
       record {
         items = omega (arith, c .items, ap length p, rest-count s at, q);
-        quantities = omega (arith, c .quantities, ap quantitiesIn p, no-quantities (chars (drop at s)));
+        quantities = omega (arith, c .quantities, ap quantitiesIn p, no-quantities (contentIn (drop at s)));
       }
 
   module _ {a b u v e : ℕ} (h : f ≡ Found a b u v e) where
@@ -99,12 +100,12 @@ module _ {us : List NamedUnit} {s : List ℕ} {at n k : ℕ} {f : Inline} (c : C
     place = i .found a b u v e h
 
     -- what is split off
-    split : textIfAny (chars (part at a s)) ++ (quantityPiece (chars (part a b s)) (chars (part u v s)) ∷ inlinePieces us (chars (drop e s)))
-        ≡ inlinePieces us (chars (drop at s))
+    split : textIfAny (contentIn (part at a s)) ++ (quantityPiece (contentIn (part a b s)) (contentIn (part u v s)) ∷ inlinePieces us (contentIn (drop e s)))
+        ≡ inlinePieces us (contentIn (drop at s))
     split = unfold inlineAs in (rw h at (i .is))
 
-    quantities-split : quantitiesIn (inlinePieces us (chars (drop at s))) ≡ suc (quantitiesIn (inlinePieces us (chars (drop e s))))
-    quantities-split = sym (ap quantitiesIn split) ∙ no-quantity (chars (part at a s)) _ ∙ unfold quantitiesIn in refl
+    quantities-split : quantitiesIn (inlinePieces us (contentIn (drop at s))) ≡ suc (quantitiesIn (inlinePieces us (contentIn (drop e s))))
+    quantities-split = sym (ap quantitiesIn split) ∙ no-quantity (contentIn (part at a s)) _ ∙ unfold quantitiesIn in refl
 
     pub counting-fits : {t : ℕ} → t ≡ textItems at a → n + t + 1 ≤ e
     counting-fits q = omega (arith, c .few, items-few at a (place .start), place .number, place .gap, place .unit, place .rest)
@@ -118,10 +119,10 @@ module _ {us : List NamedUnit} {s : List ℕ} {at n k : ℕ} {f : Inline} (c : C
     pub counting-more : {t : ℕ} → t ≡ textItems at a → Counting us s e (n + t + 1) (k + 1)
     counting-more q =
         record {
-          items = omega (arith, c .items, sym (ap length split), length-append (textIfAny (chars (part at a s))) (quantityPiece (chars (part a b s)) (chars (part u v s)) ∷ inlinePieces us (chars (drop e s))), text-count s at a (omega (arith, place .number, place .gap, place .unit, place .rest, place .end)));
+          items = omega (arith, c .items, sym (ap length split), length-append (textIfAny (contentIn (part at a s))) (quantityPiece (contentIn (part a b s)) (contentIn (part u v s)) ∷ inlinePieces us (contentIn (drop e s))), text-count s at a (omega (arith, place .number, place .gap, place .unit, place .rest, place .end)));
           quantities = omega (arith, c .quantities, quantities-split);
           few = counting-fits q;
           fewer = omega (arith, c .fewer, counting-less);
           to = place .end;
-          left = place .after-utf8;
+          left = place .afterField;
         }

@@ -7,14 +7,14 @@ use native.Mathlib.Omega.{arith}
 use lib.ListN.{length, take, drop, length-drop, length-append}
 use lib.Seq.{length-take-le, take-at, drop-at, take-append-seam}
 use Rattle.rules.specs.Basic.{pick}
-use Rattle.rules.specs.Utf8.{encode, chars, isUtf8}
+use Rattle.content.specs.Contents.{contentIn, spell}
+use Rattle.content.specs.Parts.{Field}
+use Rattle.content.proofs.Spells.{spell-append, field-spell}
 use Rattle.rules.specs.Text.{trimStart, trimOnto, trimEnd, trimMatches, isNotAlphabetic, unitTrimmed}
 use Rattle.rules.specs.Inline.{behind}
-use Rattle.rules.proofs.Encodes.{encode-chars}
 use Rattle.text.specs.Trims.{UnitTrimmedTo}
 use Rattle.inline.specs.Scans.{part, Front, UnitPart}
 use Rattle.inline.proofs.Scans.{part-part}
-use Rattle.inline.proofs.Signs.{encode-append}
 
 -- a text trimmed at its end is a front of it
 record Before (x y : List ℕ) : Type 0 where
@@ -41,21 +41,21 @@ module _ (p : ℕ → Bool) where
           one false = record { back = x; is = refl }
 
 -- the same of bytes
-bytes-before : (u r : List ℕ) → isUtf8 u ≡ true → isUtf8 r ≡ true → Before (chars r) (chars u) → Before r u
+bytes-before : (u r : List ℕ) → Field u → Field r → Before (contentIn r) (contentIn u) → Before r u
 bytes-before u r w v b =
     record {
-      back = encode (b .back);
-      is = sym (encode-chars u w) ∙ rw (b .is, encode-append (chars r) (b .back), encode-chars r v);
+      back = spell (b .back);
+      is = sym (field-spell w) ∙ rw (b .is, spell-append (contentIn r) (b .back), field-spell v);
     }
 
 -- the name starts where the word's letters start
-name-before : (u r : List ℕ) (k : ℕ) → isUtf8 u ≡ true → Front isNotAlphabetic u 0 k → UnitTrimmedTo u r → Before r (drop k u)
-name-before u r k w f t = bytes-before (drop k u) r (f .left) (t .utf8 w) (rw same (end-before isNotAlphabetic (chars (drop k u))))
+name-before : (u r : List ℕ) (k : ℕ) → Field u → Front isNotAlphabetic u 0 k → UnitTrimmedTo u r → Before r (drop k u)
+name-before u r k w f t = bytes-before (drop k u) r (f .left) (t .field w) (rw same (end-before isNotAlphabetic (contentIn (drop k u))))
   where
-    same : chars r ≡ trimEnd isNotAlphabetic (chars (drop k u))
-    same = t .is ∙ unfold unitTrimmed trimMatches in (ap (trimEnd isNotAlphabetic) (start-behind isNotAlphabetic (chars u) ∙ sym (f .behind)))
+    same : contentIn r ≡ trimEnd isNotAlphabetic (contentIn (drop k u))
+    same = t .is ∙ unfold unitTrimmed trimMatches in (ap (trimEnd isNotAlphabetic) (start-behind isNotAlphabetic (contentIn u) ∙ sym (f .behind)))
 
-module _ (s r : List ℕ) (a e k : ℕ) (h : a ≤ e) (l : e ≤ length s) (w : isUtf8 (part a e s) ≡ true)
+module _ (s r : List ℕ) (a e k : ℕ) (h : a ≤ e) (l : e ≤ length s) (w : Field (part a e s))
     (f : Front isNotAlphabetic (part a e s) 0 k) (t : UnitTrimmedTo (part a e s) r) where
   long : length (part a e s) ≡ e - a
   long = length-take-le (e - a) (drop a s) (omega (arith, length-drop a s))
@@ -90,6 +90,6 @@ module _ (s r : List ℕ) (a e k : ℕ) (h : a ≤ e) (l : e ≤ length s) (w : 
         from = omega arith;
         order = omega arith;
         to = omega (arith, name-to);
-        is = ap chars there ∙ t .is;
-        whole = ap isUtf8 there ∙ t .utf8 w;
+        is = ap contentIn there ∙ t .is;
+        whole = rw there (t .field w);
       }

@@ -4,7 +4,8 @@ use mathlib.Core.Path.{_≡_}
 use mathlib.Core.Bool.{true}
 use mathlib.Core.List.{List, [], _∷_, _++_}
 use lib.ListN.{length, take, drop}
-use Rattle.rules.specs.Utf8.{isUtf8, chars}
+use Rattle.content.specs.Contents.{contentIn}
+use Rattle.content.specs.Parts.{Field}
 use Rattle.rules.specs.Units.{NamedUnit}
 use Rattle.rules.specs.Inline.{Piece, textPiece, quantityPiece, textIfAny, inlinePieces}
 use Rattle.inline.specs.declared.Inline.{Inline}
@@ -14,11 +15,11 @@ use Rattle.inline.specs.Scans.{part}
 -- the pieces of a text from a place on: all of it is text;
 -- or the text before a number, the quantity, and the pieces after the unit
 unfoldable pub inlineAs : List NamedUnit → List ℕ → ℕ → Inline → List Piece
-inlineAs us s from Nothing = textIfAny (chars (drop from s))
+inlineAs us s from Nothing = textIfAny (contentIn (drop from s))
 inlineAs us s from (Found a b c d e) =
-    textIfAny (chars (part from a s)) ++ (quantityPiece (chars (part a b s)) (chars (part c d s)) ∷ inlinePieces us (chars (drop e s)))
+    textIfAny (contentIn (part from a s)) ++ (quantityPiece (contentIn (part a b s)) (contentIn (part c d s)) ∷ inlinePieces us (contentIn (drop e s)))
 
--- the places of a quantity, in order, and each part is UTF-8
+-- the places of a quantity, in order, and each part is cut at characters
 pub record FoundAt (s : List ℕ) (from a b c d e : ℕ) : Type 0 where
   pub start : from ≤ a
   pub number : a < b
@@ -26,11 +27,11 @@ pub record FoundAt (s : List ℕ) (from a b c d e : ℕ) : Type 0 where
   pub unit : c ≤ d
   pub rest : d ≤ e
   pub end : e ≤ length s
-  pub before-utf8 : isUtf8 (part from a s) ≡ true
-  pub number-utf8 : isUtf8 (part a b s) ≡ true
-  pub unit-utf8 : isUtf8 (part c d s) ≡ true
-  pub after-utf8 : isUtf8 (drop e s) ≡ true
+  pub beforeField : Field (part from a s)
+  pub numberField : Field (part a b s)
+  pub unitField : Field (part c d s)
+  pub afterField : Field (drop e s)
 
 pub record InlineAt (us : List NamedUnit) (s : List ℕ) (from : ℕ) (r : Inline) : Type 0 where
-  pub is : inlineAs us s from r ≡ inlinePieces us (chars (drop from s))
+  pub is : inlineAs us s from r ≡ inlinePieces us (contentIn (drop from s))
   pub found : (a b c d e : ℕ) → r ≡ Found a b c d e → FoundAt s from a b c d e

@@ -1,13 +1,16 @@
-// Quantities inside a text. The texts are UTF-8, without escapes; the Unicode tables are lent.
+// Quantities inside a text. A text is the content of a field or of a part of one, which stands escaped; places are those
+// of the field's bytes. The Unicode tables are lent.
 ghost use mathlib.Core.Path.{_≡_};
 ghost use mathlib.Core.Bool.{true};
 ghost use Prim.Native.Nat.{_≤_, _<_};
 ghost use lib.ListN.{length, drop};
-ghost use Rattle.rules.specs.Basic.{isDigit, isSome};
+ghost use Rattle.rules.specs.Basic.{eqList, isDigit, isSome};
 ghost use Rattle.rules.specs.Units.{readUnits};
 ghost use Rattle.rules.specs.Answer.{unitsOr};
 ghost use Rattle.rules.specs.Unicode.{isWhiteSpace};
-ghost use Rattle.rules.specs.Utf8.{isUtf8, chars};
+ghost use Rattle.rules.specs.Utf8.{chars};
+ghost use Rattle.content.specs.Contents.{contentIn};
+ghost use Rattle.content.specs.Parts.{Field};
 ghost use Rattle.rules.specs.Text.{isNotAlphabetic};
 ghost use Rattle.rules.specs.Inline.{isNoDigit, isDigitOrPoint, points as pointsIn, inlinePieces};
 ghost use Rattle.unicode.specs.Tables.{unicodeTables};
@@ -42,12 +45,12 @@ fn is_digit_or_point(c: u32) -> bool
 
 // The place of the next ASCII digit, or the end.
 fn next_digit(s: &[u8], at: usize) -> usize
-    requires { ⌜ (at ≤ length (now s)) × (isUtf8 (drop at (now s)) ≡ true) ⌝ }
+    requires { ⌜ (at ≤ length (now s)) × (Field (drop at (now s))) ⌝ }
     ensures { λ r. ⌜ Front isNoDigit (now (s .entry)) at r ⌝ }
 {
     let mut i = at;
     while i < s.len() {
-        let c = utf8::char_at(s, i);
+        let c = content::char_in(s, i);
         if is_digit(c.code) {
             return i;
         }
@@ -58,12 +61,12 @@ fn next_digit(s: &[u8], at: usize) -> usize
 
 // The place after the digits and points.
 fn number_end(s: &[u8], at: usize) -> usize
-    requires { ⌜ (at ≤ length (now s)) × (isUtf8 (drop at (now s)) ≡ true) ⌝ }
+    requires { ⌜ (at ≤ length (now s)) × (Field (drop at (now s))) ⌝ }
     ensures { λ r. ⌜ Front isDigitOrPoint (now (s .entry)) at r ⌝ }
 {
     let mut i = at;
     while i < s.len() {
-        let c = utf8::char_at(s, i);
+        let c = content::char_in(s, i);
         if !is_digit_or_point(c.code) {
             return i;
         }
@@ -74,12 +77,12 @@ fn number_end(s: &[u8], at: usize) -> usize
 
 // The place after the White_Space.
 fn blanks_end(t: &[u32], s: &[u8], at: usize) -> usize
-    requires { ⌜ (now t ≡ unicodeTables) × (at ≤ length (now s)) × (isUtf8 (drop at (now s)) ≡ true) ⌝ }
+    requires { ⌜ (now t ≡ unicodeTables) × (at ≤ length (now s)) × (Field (drop at (now s))) ⌝ }
     ensures { λ r. ⌜ Front isWhiteSpace (now (s .entry)) at r ⌝ }
 {
     let mut i = at;
     while i < s.len() {
-        let c = utf8::char_at(s, i);
+        let c = content::char_in(s, i);
         if !unicode::is_white_space(t, c.code) {
             return i;
         }
@@ -90,12 +93,12 @@ fn blanks_end(t: &[u32], s: &[u8], at: usize) -> usize
 
 // The place of the next White_Space, or the end.
 fn word_end(t: &[u32], s: &[u8], at: usize) -> usize
-    requires { ⌜ (now t ≡ unicodeTables) × (at ≤ length (now s)) × (isUtf8 (drop at (now s)) ≡ true) ⌝ }
+    requires { ⌜ (now t ≡ unicodeTables) × (at ≤ length (now s)) × (Field (drop at (now s))) ⌝ }
     ensures { λ r. ⌜ Front isNotWhite (now (s .entry)) at r ⌝ }
 {
     let mut i = at;
     while i < s.len() {
-        let c = utf8::char_at(s, i);
+        let c = content::char_in(s, i);
         if unicode::is_white_space(t, c.code) {
             return i;
         }
@@ -106,12 +109,12 @@ fn word_end(t: &[u32], s: &[u8], at: usize) -> usize
 
 // The place of the first Alphabetic character, or the end.
 fn letters_start(t: &[u32], s: &[u8]) -> usize
-    requires { ⌜ (now t ≡ unicodeTables) × (isUtf8 (now s) ≡ true) ⌝ }
+    requires { ⌜ (now t ≡ unicodeTables) × (Field (now s)) ⌝ }
     ensures { λ r. ⌜ Front isNotAlphabetic (now (s .entry)) 0 r ⌝ }
 {
     let mut i = 0;
     while i < s.len() {
-        let c = utf8::char_at(s, i);
+        let c = content::char_in(s, i);
         if unicode::is_alphabetic(t, c.code) {
             return i;
         }
@@ -122,12 +125,12 @@ fn letters_start(t: &[u32], s: &[u8]) -> usize
 
 // How many points a text holds.
 fn points(s: &[u8]) -> usize
-    ensures { λ r. ⌜ r ≡ pointsIn (chars (now (s .entry))) ⌝ }
+    ensures { λ r. ⌜ r ≡ pointsIn (contentIn (now (s .entry))) ⌝ }
 {
     let mut n = 0;
     let mut i = 0;
     while i < s.len() {
-        let c = utf8::char_at(s, i);
+        let c = content::char_in(s, i);
         i += c.size;
         if c.code == 46 {
             n += 1;
@@ -138,7 +141,7 @@ fn points(s: &[u8]) -> usize
 
 // The place of the number's minus, where one stands right before its first digit, else of that digit.
 fn sign_start(s: &[u8], at: usize, digit: usize) -> usize
-    requires { ⌜ (at ≤ digit) × (digit ≤ length (now s)) × (isUtf8 (part at digit (now s)) ≡ true) ⌝ }
+    requires { ⌜ (at ≤ digit) × (digit ≤ length (now s)) × (Field (part at digit (now s))) ⌝ }
     ensures { λ r. ⌜ SignAt (now (s .entry)) at digit r ⌝ }
 {
     if digit <= at {
@@ -153,7 +156,7 @@ fn sign_start(s: &[u8], at: usize, digit: usize) -> usize
 
 // The unit's name in a word: what is not Alphabetic goes from both ends.
 fn unit_part(t: &[u32], s: &[u8], from: usize, to: usize) -> Span
-    requires { ⌜ (now t ≡ unicodeTables) × (from ≤ to) × (to ≤ length (now s)) × (isUtf8 (part from to (now s)) ≡ true) ⌝ }
+    requires { ⌜ (now t ≡ unicodeTables) × (from ≤ to) × (to ≤ length (now s)) × (Field (part from to (now s))) ⌝ }
     ensures { λ r. ⌜ UnitPart (now (s .entry)) from to r ⌝ }
 {
     let word = &s[from..to];
@@ -163,6 +166,14 @@ fn unit_part(t: &[u32], s: &[u8], from: usize, to: usize) -> Span
         from: a,
         to: a + name.len(),
     }
+}
+
+// Whether the name from a place of the unit list to another is the content of a field's part.
+fn is_unit(units: &[u8], at: usize, end: usize, name: &[u8]) -> bool
+    requires { ⌜ (at ≤ end) × (end ≤ length (now units)) ⌝ }
+    ensures { λ r. ⌜ r ≡ eqList (contentIn (now (name .entry))) (chars (part at end (now (units .entry)))) ⌝ }
+{
+    content::same_chars(name, &units[at..end])
 }
 
 // The first quantity of a text whose unit is known.
@@ -180,7 +191,7 @@ pub enum Inline {
 
 // The first quantity of the text from a place on.
 pub fn find_inline_quantity(t: &[u32], units: &[u8], s: &[u8], from: usize) -> Inline
-    requires { ⌜ (now t ≡ unicodeTables) × (isSome (readUnits (now units)) ≡ true) × (from ≤ length (now s)) × (isUtf8 (drop from (now s)) ≡ true) ⌝ }
+    requires { ⌜ (now t ≡ unicodeTables) × (isSome (readUnits (now units)) ≡ true) × (from ≤ length (now s)) × (Field (drop from (now s))) ⌝ }
     ensures { λ r. ⌜ InlineAt (unitsOr (readUnits (now (units .entry)))) (now (s .entry)) from r ⌝ }
 {
     let mut i = from;
@@ -212,7 +223,7 @@ pub fn find_inline_quantity(t: &[u32], units: &[u8], s: &[u8], from: usize) -> I
                         next,
                         physical: _,
                     } => {
-                        if units::is_named(units, at, name_end, &s[unit_from..unit_to]) {
+                        if is_unit(units, at, name_end, &s[unit_from..unit_to]) {
                             break 'numbers Inline::Found {
                                 number_from,
                                 number_to,
@@ -247,8 +258,8 @@ fn text_items(from: usize, to: usize) -> usize
 }
 
 pub fn count_items(t: &[u32], units: &[u8], s: &[u8]) -> Counts
-    requires { ⌜ (now t ≡ unicodeTables) × (isSome (readUnits (now units)) ≡ true) × (isUtf8 (now s) ≡ true) ⌝ }
-    ensures { λ r. ⌜ CountsOf (inlinePieces (unitsOr (readUnits (now (units .entry)))) (chars (now (s .entry)))) r ⌝ }
+    requires { ⌜ (now t ≡ unicodeTables) × (isSome (readUnits (now units)) ≡ true) × (Field (now s)) ⌝ }
+    ensures { λ r. ⌜ CountsOf (inlinePieces (unitsOr (readUnits (now (units .entry)))) (contentIn (now (s .entry)))) r ⌝ }
 {
     let mut items = 0;
     let mut quantities = 0;

@@ -5,14 +5,14 @@ use lib.ListN.{length}
 use borrow.Author.Tests.{not-true, not-false}
 use mathlib.Core.Path.{sym, _∙_}
 use Rattle.rules.specs.Unicode.{isWhiteSpace}
-use Rattle.utf8.proofs.Steps.{char-step}
+use Rattle.content.proofs.Chars.{content-step}
 use Rattle.inline.proofs.Scans.{Going, going-start, going-stop, going-on, going-end}
 use Rattle.inline.proofs.blanks_end.Statement.{statement}
 use Rattle.inline.proofs.blanks_end.Tie as tie
 use Rattle.inline.proofs.blanks_end.Reads as reads
 use Rattle.inline.proofs.blanks_end.Lts as lts
 use Rattle.unicode.proofs.is_white_space.Reads as is-white-space-reads
-use Rattle.utf8.proofs.char_at.Reads as char-at-reads
+use Rattle.content.proofs.char_in.Reads as char-in-reads
 
 abbrev Inv-loop : tie.InvT-loop
 Inv-loop t s at i₀ i = Going isWhiteSpace s at i
@@ -25,8 +25,8 @@ loop-holds : tie.Need-loop-holds Inv-loop μ-loop
 loop-holds c = going-start _ _ _ (c .before .before .pre .1) (c .before .before .pre .2)
 
 -- src/lib.rt:72:13
-char-at-requires : tie.Need-char-at-requires Inv-loop μ-loop
-char-at-requires c κs = search needs
+char-in-requires : tie.Need-char-in-requires Inv-loop μ-loop
+char-in-requires c κs = search needs
 
 -- src/lib.rt:73:13
 is-white-space-requires : tie.Need-is-white-space-requires Inv-loop μ-loop
@@ -34,19 +34,19 @@ is-white-space-requires c κs = search needs
 
 -- src/lib.rt:74:13
 returns : tie.Need-returns Inv-loop μ-loop
-returns c = going-stop (c .before .before .before .before .loop .inv) _ (c .before .before .before .loop-test .taken) (c .before .before .char-at .ensures) (sym (c .before .is-white-space .ensures) ∙ not-true _ (c .if1 .taken))
+returns c = going-stop (c .before .before .before .before .loop .inv) _ (c .before .before .before .loop-test .taken) (c .before .before .char-in .ensures) (sym (c .before .is-white-space .ensures) ∙ not-true _ (c .if1 .taken))
 
 -- src/lib.rt:76:9
 add-i : tie.Need-add-i Inv-loop μ-loop
-add-i c = omega (arith, char-step _ _ _ (c .before .before .before .before .loop-test .taken) (c .before .before .before .char-at .ensures) .most)
+add-i c = omega (arith, content-step _ _ _ (c .before .before .before .before .loop-test .taken) (c .before .before .before .char-in .ensures) .most)
 
 -- src/lib.rt:71:5
 loop-less : tie.Need-loop-less Inv-loop μ-loop
-loop-less c = omega (arith, char-step _ _ _ (c .before .before .before .before .loop-test .taken) (c .before .before .before .char-at .ensures) .most, char-step _ _ _ (c .before .before .before .before .loop-test .taken) (c .before .before .before .char-at .ensures) .least)
+loop-less c = omega (arith, content-step _ _ _ (c .before .before .before .before .loop-test .taken) (c .before .before .before .char-in .ensures) .most, content-step _ _ _ (c .before .before .before .before .loop-test .taken) (c .before .before .before .char-in .ensures) .least)
 
 -- src/lib.rt:71:5
 loop-again : tie.Need-loop-again Inv-loop μ-loop
-loop-again c = going-on (c .before .before .before .before .before .loop .inv) _ (c .before .before .before .before .loop-test .taken) (c .before .before .before .char-at .ensures) (sym (c .before .before .is-white-space .ensures) ∙ not-false _ (c .before .if1 .left))
+loop-again c = going-on (c .before .before .before .before .before .loop .inv) _ (c .before .before .before .before .loop-test .taken) (c .before .before .before .char-in .ensures) (sym (c .before .before .is-white-space .ensures) ∙ not-false _ (c .before .if1 .left))
 
 -- src/lib.rt:66:1
 returns-2 : tie.Need-returns-2 Inv-loop μ-loop
@@ -59,7 +59,7 @@ blanks-end-spec =
     Inv-loop
     μ-loop
     loop-holds
-    char-at-requires
+    char-in-requires
     is-white-space-requires
     returns
     add-i

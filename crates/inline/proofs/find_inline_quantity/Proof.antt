@@ -4,10 +4,11 @@ use Prim.Native.Nat.{_-_}
 use lib.ListN.{length}
 use Rattle.rules.specs.Units.{readUnits}
 use Rattle.rules.specs.Answer.{unitsOr}
-use Rattle.units.proofs.Walks.{Finding, finding-on}
+use Rattle.units.proofs.Walks.{Finding}
+use Rattle.content.specs.Contents.{plainOf}
 use Rattle.inline.specs.Scans.{part}
 use Rattle.inline.proofs.Turns.{Sought, sought-start, turn-none, turn-last, turn-less, turn-points, turn-unknown, turn-found}
-use Rattle.inline.proofs.Lists.{list-start, list-end, list-out, list-hit}
+use Rattle.inline.proofs.Lists.{list-start, list-end, list-out, list-hit, list-on}
 use Rattle.inline.proofs.find_inline_quantity.Statement.{statement}
 use Rattle.inline.proofs.find_inline_quantity.Tie as tie
 use Rattle.inline.proofs.find_inline_quantity.Reads as reads
@@ -19,11 +20,11 @@ use Rattle.inline.proofs.points.Reads as points-reads
 use Rattle.inline.proofs.sign_start.Reads as sign-start-reads
 use Rattle.inline.proofs.unit_part.Reads as unit-part-reads
 use Rattle.inline.proofs.word_end.Reads as word-end-reads
-use Rattle.units.proofs.is_named.Reads as is-named-reads
+use Rattle.inline.proofs.is_unit.Reads as is-unit-reads
 use Rattle.units.proofs.unit_at.Reads as unit-at-reads
 
 abbrev Inv-loop : tie.InvT-loop
-Inv-loop t units s from i digit number-from number-to word after unit-from unit-to at₀ at = Finding units (part unit-from unit-to s) 0 at
+Inv-loop t units s from i digit number-from number-to word after unit-from unit-to at₀ at = Finding units (plainOf (part unit-from unit-to s)) 0 at
 
 abbrev μ-loop : tie.MeasureT-loop
 μ-loop t units s from i digit number-from number-to word after unit-from unit-to at₀ at = length units - at
@@ -95,20 +96,20 @@ enum-known-u : tie.Need-enum-known-u Inv-loop μ-loop Inv-numbers μ-numbers
 enum-known-u c = search needs
 
 -- src/lib.rt:214:65
-sub-is-named : tie.Need-sub-is-named Inv-loop μ-loop Inv-numbers μ-numbers
-sub-is-named c = (c .before .before .before .before .before .before .before .before .before .unit-part .ensures) .order
+sub-is-unit : tie.Need-sub-is-unit Inv-loop μ-loop Inv-numbers μ-numbers
+sub-is-unit c = (c .before .before .before .before .before .before .before .before .before .unit-part .ensures) .order
 
 -- src/lib.rt:214:65
-part-is-named-start : tie.Need-part-is-named-start Inv-loop μ-loop Inv-numbers μ-numbers
-part-is-named-start c = omega (arith, (c .before .before .before .before .before .before .before .before .before .unit-part .ensures) .order, (c .before .before .before .before .before .before .before .before .before .unit-part .ensures) .to, (c .before .before .before .before .before .before .before .before .before .before .word-end .ensures) .to)
+part-is-unit-start : tie.Need-part-is-unit-start Inv-loop μ-loop Inv-numbers μ-numbers
+part-is-unit-start c = omega (arith, (c .before .before .before .before .before .before .before .before .before .unit-part .ensures) .order, (c .before .before .before .before .before .before .before .before .before .unit-part .ensures) .to, (c .before .before .before .before .before .before .before .before .before .before .word-end .ensures) .to)
 
 -- src/lib.rt:214:65
-part-is-named-end : tie.Need-part-is-named-end Inv-loop μ-loop Inv-numbers μ-numbers
-part-is-named-end c = omega (arith, (c .before .before .before .before .before .before .before .before .before .unit-part .ensures) .to, (c .before .before .before .before .before .before .before .before .before .before .word-end .ensures) .to)
+part-is-unit-end : tie.Need-part-is-unit-end Inv-loop μ-loop Inv-numbers μ-numbers
+part-is-unit-end c = omega (arith, (c .before .before .before .before .before .before .before .before .before .unit-part .ensures) .to, (c .before .before .before .before .before .before .before .before .before .before .word-end .ensures) .to)
 
 -- src/lib.rt:214:28
-is-named-requires : tie.Need-is-named-requires Inv-loop μ-loop Inv-numbers μ-numbers
-is-named-requires c κs = let k = c .before .before .before .before .unit-at .ensures .unit _ _ _ (c .before .before .u .given .1) in (omega (arith, k .named), omega (arith, k .ended, k .within))
+is-unit-requires : tie.Need-is-unit-requires Inv-loop μ-loop Inv-numbers μ-numbers
+is-unit-requires c κs = let k = c .before .before .before .before .unit-at .ensures .unit _ _ _ (c .before .before .u .given .1) in (omega (arith, k .named), omega (arith, k .ended, k .within))
 
 -- src/lib.rt:203:13
 loop-less : tie.Need-loop-less Inv-loop μ-loop Inv-numbers μ-numbers
@@ -116,7 +117,7 @@ loop-less c = let k = c .before .before .before .before .before .before .unit-at
 
 -- src/lib.rt:203:13
 loop-again : tie.Need-loop-again Inv-loop μ-loop Inv-numbers μ-numbers
-loop-again c = finding-on (c .before .before .before .before .before .before .before .before .loop .inv) ((c .before .before .before .before .before .before .before .before .before .before .before .before .unit-part .ensures) .whole) (c .before .before .before .before .before .before .unit-at .ensures .unit _ _ _ (c .before .before .before .before .u .given .1)) (c .before .is-named .ensures) (c .if4 .left)
+loop-again c = list-on _ _ (c .before .before .before .before .before .before .before .before .before .before .before .before .before .before .before .before .before .before .before .before .before .before .before .before .pre .1) (c .before .before .before .before .before .before .before .before .loop .inv) ((c .before .before .before .before .before .before .before .before .before .before .before .before .unit-part .ensures) .whole) (c .before .before .before .before .before .before .unit-at .ensures .unit _ _ _ (c .before .before .before .before .u .given .1)) (c .before .is-unit .ensures) (c .if4 .left)
 
 -- src/lib.rt:186:5
 numbers-less : tie.Need-numbers-less Inv-loop μ-loop Inv-numbers μ-numbers
@@ -152,7 +153,7 @@ returns-2 c = turn-last (c .before .before .before .before .before .before .numb
 
 -- src/lib.rt:181:1
 returns-3 : tie.Need-returns-3 Inv-loop μ-loop Inv-numbers μ-numbers
-returns-3 c = turn-found (c .before .before .before .before .before .before .before .before .before .before .before .before .before .before .before .before .before .before .before .before .numbers .inv) (c .before .before .before .before .before .before .before .before .before .before .before .before .before .before .before .before .before .before .before .next-digit .ensures) (c .before .before .before .before .before .before .before .before .before .before .before .before .before .before .before .before .before .before .if1 .left) (c .before .before .before .before .before .before .before .before .before .before .before .before .before .before .before .before .before .sign-start .ensures) (c .before .before .before .before .before .before .before .before .before .before .before .before .before .before .before .before .number-end .ensures) (c .before .before .before .before .before .before .before .before .before .before .before .before .before .before .before .blanks-end .ensures) (c .before .before .before .before .before .before .before .before .before .before .before .before .before .before .if2 .left) (c .before .before .before .before .before .before .before .before .before .before .before .before .before .word-end .ensures) (c .before .before .before .before .before .before .before .before .before .before .before .before .unit-part .ensures) (c .before .before .before .before .before .before .before .before .before .before .points .ensures) (c .before .before .before .before .before .before .before .before .before .if3 .taken) (list-hit _ _ (c .before .before .before .before .before .before .before .before .before .before .before .before .before .before .before .before .before .before .before .before .before .before .before .before .pre .1) (c .before .before .before .before .before .before .before .before .loop .inv) ((c .before .before .before .before .before .before .before .before .before .before .before .before .unit-part .ensures) .whole) (c .before .before .before .before .before .before .unit-at .ensures .unit _ _ _ (c .before .before .before .before .u .given .1)) (c .before .is-named .ensures) (c .if4 .taken))
+returns-3 c = turn-found (c .before .before .before .before .before .before .before .before .before .before .before .before .before .before .before .before .before .before .before .before .numbers .inv) (c .before .before .before .before .before .before .before .before .before .before .before .before .before .before .before .before .before .before .before .next-digit .ensures) (c .before .before .before .before .before .before .before .before .before .before .before .before .before .before .before .before .before .before .if1 .left) (c .before .before .before .before .before .before .before .before .before .before .before .before .before .before .before .before .before .sign-start .ensures) (c .before .before .before .before .before .before .before .before .before .before .before .before .before .before .before .before .number-end .ensures) (c .before .before .before .before .before .before .before .before .before .before .before .before .before .before .before .blanks-end .ensures) (c .before .before .before .before .before .before .before .before .before .before .before .before .before .before .if2 .left) (c .before .before .before .before .before .before .before .before .before .before .before .before .before .word-end .ensures) (c .before .before .before .before .before .before .before .before .before .before .before .before .unit-part .ensures) (c .before .before .before .before .before .before .before .before .before .before .points .ensures) (c .before .before .before .before .before .before .before .before .before .if3 .taken) (list-hit _ _ (c .before .before .before .before .before .before .before .before .before .before .before .before .before .before .before .before .before .before .before .before .before .before .before .before .pre .1) (c .before .before .before .before .before .before .before .before .loop .inv) ((c .before .before .before .before .before .before .before .before .before .before .before .before .unit-part .ensures) .whole) (c .before .before .before .before .before .before .unit-at .ensures .unit _ _ _ (c .before .before .before .before .u .given .1)) (c .before .is-unit .ensures) (c .if4 .taken))
 
 pub find-inline-quantity-spec : {M : Type 1} → statement M
 find-inline-quantity-spec =
@@ -177,10 +178,10 @@ find-inline-quantity-spec =
     unit-at-requires
     enum-told
     enum-known-u
-    sub-is-named
-    part-is-named-start
-    part-is-named-end
-    is-named-requires
+    sub-is-unit
+    part-is-unit-start
+    part-is-unit-end
+    is-unit-requires
     loop-less
     loop-again
     numbers-less

@@ -3,14 +3,14 @@ use native.Mathlib.Omega.{arith}
 use Prim.Native.Nat.{_-_}
 use lib.ListN.{length}
 use Rattle.rules.specs.Text.{isNotAlphabetic}
-use Rattle.utf8.proofs.Steps.{char-step}
+use Rattle.content.proofs.Chars.{content-step}
 use Rattle.inline.proofs.Scans.{Going, going-start, going-stop, going-on, going-end, letter-stops, letter-none}
 use Rattle.inline.proofs.letters_start.Statement.{statement}
 use Rattle.inline.proofs.letters_start.Tie as tie
 use Rattle.inline.proofs.letters_start.Reads as reads
 use Rattle.inline.proofs.letters_start.Lts as lts
 use Rattle.unicode.proofs.is_alphabetic.Reads as is-alphabetic-reads
-use Rattle.utf8.proofs.char_at.Reads as char-at-reads
+use Rattle.content.proofs.char_in.Reads as char-in-reads
 
 abbrev Inv-loop : tie.InvT-loop
 Inv-loop t s i₀ i = Going isNotAlphabetic s 0 i
@@ -23,8 +23,8 @@ loop-holds : tie.Need-loop-holds Inv-loop μ-loop
 loop-holds c = going-start _ _ _ (omega arith) (c .before .before .pre .1)
 
 -- src/lib.rt:104:13
-char-at-requires : tie.Need-char-at-requires Inv-loop μ-loop
-char-at-requires c κs = search needs
+char-in-requires : tie.Need-char-in-requires Inv-loop μ-loop
+char-in-requires c κs = search needs
 
 -- src/lib.rt:105:12
 is-alphabetic-requires : tie.Need-is-alphabetic-requires Inv-loop μ-loop
@@ -32,19 +32,19 @@ is-alphabetic-requires c κs = search needs
 
 -- src/lib.rt:106:13
 returns : tie.Need-returns Inv-loop μ-loop
-returns c = going-stop (c .before .before .before .before .loop .inv) _ (c .before .before .before .loop-test .taken) (c .before .before .char-at .ensures) (letter-stops _ (c .before .is-alphabetic .ensures) (c .if1 .taken))
+returns c = going-stop (c .before .before .before .before .loop .inv) _ (c .before .before .before .loop-test .taken) (c .before .before .char-in .ensures) (letter-stops _ (c .before .is-alphabetic .ensures) (c .if1 .taken))
 
 -- src/lib.rt:108:9
 add-i : tie.Need-add-i Inv-loop μ-loop
-add-i c = omega (arith, char-step _ _ _ (c .before .before .before .before .loop-test .taken) (c .before .before .before .char-at .ensures) .most)
+add-i c = omega (arith, content-step _ _ _ (c .before .before .before .before .loop-test .taken) (c .before .before .before .char-in .ensures) .most)
 
 -- src/lib.rt:103:5
 loop-less : tie.Need-loop-less Inv-loop μ-loop
-loop-less c = omega (arith, char-step _ _ _ (c .before .before .before .before .loop-test .taken) (c .before .before .before .char-at .ensures) .most, char-step _ _ _ (c .before .before .before .before .loop-test .taken) (c .before .before .before .char-at .ensures) .least)
+loop-less c = omega (arith, content-step _ _ _ (c .before .before .before .before .loop-test .taken) (c .before .before .before .char-in .ensures) .most, content-step _ _ _ (c .before .before .before .before .loop-test .taken) (c .before .before .before .char-in .ensures) .least)
 
 -- src/lib.rt:103:5
 loop-again : tie.Need-loop-again Inv-loop μ-loop
-loop-again c = going-on (c .before .before .before .before .before .loop .inv) _ (c .before .before .before .before .loop-test .taken) (c .before .before .before .char-at .ensures) (letter-none _ (c .before .before .is-alphabetic .ensures) (c .before .if1 .left))
+loop-again c = going-on (c .before .before .before .before .before .loop .inv) _ (c .before .before .before .before .loop-test .taken) (c .before .before .before .char-in .ensures) (letter-none _ (c .before .before .is-alphabetic .ensures) (c .before .if1 .left))
 
 -- src/lib.rt:98:1
 returns-2 : tie.Need-returns-2 Inv-loop μ-loop
@@ -57,7 +57,7 @@ letters-start-spec =
     Inv-loop
     μ-loop
     loop-holds
-    char-at-requires
+    char-in-requires
     is-alphabetic-requires
     returns
     add-i

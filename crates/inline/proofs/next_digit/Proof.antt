@@ -3,14 +3,14 @@ use native.Mathlib.Omega.{arith}
 use Prim.Native.Nat.{_-_}
 use lib.ListN.{length}
 use Rattle.rules.specs.Inline.{isNoDigit}
-use Rattle.utf8.proofs.Steps.{char-step}
+use Rattle.content.proofs.Chars.{content-step}
 use Rattle.inline.proofs.Scans.{Going, going-start, going-stop, going-on, going-end, digit-stops, digit-none}
 use Rattle.inline.proofs.next_digit.Statement.{statement}
 use Rattle.inline.proofs.next_digit.Tie as tie
 use Rattle.inline.proofs.next_digit.Reads as reads
 use Rattle.inline.proofs.next_digit.Lts as lts
 use Rattle.inline.proofs.is_digit.Reads as is-digit-reads
-use Rattle.utf8.proofs.char_at.Reads as char-at-reads
+use Rattle.content.proofs.char_in.Reads as char-in-reads
 
 abbrev Inv-loop : tie.InvT-loop
 Inv-loop s at i₀ i = Going isNoDigit s at i
@@ -23,8 +23,8 @@ loop-holds : tie.Need-loop-holds Inv-loop μ-loop
 loop-holds c = going-start _ _ _ (c .before .pre .0) (c .before .pre .1)
 
 -- src/lib.rt:40:13
-char-at-requires : tie.Need-char-at-requires Inv-loop μ-loop
-char-at-requires c κs = search needs
+char-in-requires : tie.Need-char-in-requires Inv-loop μ-loop
+char-in-requires c κs = search needs
 
 -- src/lib.rt:41:12
 is-digit-requires : tie.Need-is-digit-requires Inv-loop μ-loop
@@ -32,19 +32,19 @@ is-digit-requires c κs = search needs
 
 -- src/lib.rt:42:13
 returns : tie.Need-returns Inv-loop μ-loop
-returns c = going-stop (c .before .before .before .before .loop .inv) _ (c .before .before .before .loop-test .taken) (c .before .before .char-at .ensures) (digit-stops _ (c .before .is-digit .ensures) (c .if1 .taken))
+returns c = going-stop (c .before .before .before .before .loop .inv) _ (c .before .before .before .loop-test .taken) (c .before .before .char-in .ensures) (digit-stops _ (c .before .is-digit .ensures) (c .if1 .taken))
 
 -- src/lib.rt:44:9
 add-i : tie.Need-add-i Inv-loop μ-loop
-add-i c = omega (arith, char-step _ _ _ (c .before .before .before .before .loop-test .taken) (c .before .before .before .char-at .ensures) .most)
+add-i c = omega (arith, content-step _ _ _ (c .before .before .before .before .loop-test .taken) (c .before .before .before .char-in .ensures) .most)
 
 -- src/lib.rt:39:5
 loop-less : tie.Need-loop-less Inv-loop μ-loop
-loop-less c = omega (arith, char-step _ _ _ (c .before .before .before .before .loop-test .taken) (c .before .before .before .char-at .ensures) .most, char-step _ _ _ (c .before .before .before .before .loop-test .taken) (c .before .before .before .char-at .ensures) .least)
+loop-less c = omega (arith, content-step _ _ _ (c .before .before .before .before .loop-test .taken) (c .before .before .before .char-in .ensures) .most, content-step _ _ _ (c .before .before .before .before .loop-test .taken) (c .before .before .before .char-in .ensures) .least)
 
 -- src/lib.rt:39:5
 loop-again : tie.Need-loop-again Inv-loop μ-loop
-loop-again c = going-on (c .before .before .before .before .before .loop .inv) _ (c .before .before .before .before .loop-test .taken) (c .before .before .before .char-at .ensures) (digit-none _ (c .before .before .is-digit .ensures) (c .before .if1 .left))
+loop-again c = going-on (c .before .before .before .before .before .loop .inv) _ (c .before .before .before .before .loop-test .taken) (c .before .before .before .char-in .ensures) (digit-none _ (c .before .before .is-digit .ensures) (c .before .if1 .left))
 
 -- src/lib.rt:34:1
 returns-2 : tie.Need-returns-2 Inv-loop μ-loop
@@ -57,7 +57,7 @@ next-digit-spec =
     Inv-loop
     μ-loop
     loop-holds
-    char-at-requires
+    char-in-requires
     is-digit-requires
     returns
     add-i

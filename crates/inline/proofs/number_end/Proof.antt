@@ -5,14 +5,14 @@ use lib.ListN.{length}
 use borrow.Author.Tests.{not-true, not-false}
 use mathlib.Core.Path.{sym, _∙_}
 use Rattle.rules.specs.Inline.{isDigitOrPoint}
-use Rattle.utf8.proofs.Steps.{char-step}
+use Rattle.content.proofs.Chars.{content-step}
 use Rattle.inline.proofs.Scans.{Going, going-start, going-stop, going-on, going-end}
 use Rattle.inline.proofs.number_end.Statement.{statement}
 use Rattle.inline.proofs.number_end.Tie as tie
 use Rattle.inline.proofs.number_end.Reads as reads
 use Rattle.inline.proofs.number_end.Lts as lts
 use Rattle.inline.proofs.is_digit_or_point.Reads as is-digit-or-point-reads
-use Rattle.utf8.proofs.char_at.Reads as char-at-reads
+use Rattle.content.proofs.char_in.Reads as char-in-reads
 
 abbrev Inv-loop : tie.InvT-loop
 Inv-loop s at i₀ i = Going isDigitOrPoint s at i
@@ -25,8 +25,8 @@ loop-holds : tie.Need-loop-holds Inv-loop μ-loop
 loop-holds c = going-start _ _ _ (c .before .pre .0) (c .before .pre .1)
 
 -- src/lib.rt:56:13
-char-at-requires : tie.Need-char-at-requires Inv-loop μ-loop
-char-at-requires c κs = search needs
+char-in-requires : tie.Need-char-in-requires Inv-loop μ-loop
+char-in-requires c κs = search needs
 
 -- src/lib.rt:57:13
 is-digit-or-point-requires : tie.Need-is-digit-or-point-requires Inv-loop μ-loop
@@ -34,19 +34,19 @@ is-digit-or-point-requires c κs = search needs
 
 -- src/lib.rt:58:13
 returns : tie.Need-returns Inv-loop μ-loop
-returns c = going-stop (c .before .before .before .before .loop .inv) _ (c .before .before .before .loop-test .taken) (c .before .before .char-at .ensures) (sym (c .before .is-digit-or-point .ensures) ∙ not-true _ (c .if1 .taken))
+returns c = going-stop (c .before .before .before .before .loop .inv) _ (c .before .before .before .loop-test .taken) (c .before .before .char-in .ensures) (sym (c .before .is-digit-or-point .ensures) ∙ not-true _ (c .if1 .taken))
 
 -- src/lib.rt:60:9
 add-i : tie.Need-add-i Inv-loop μ-loop
-add-i c = omega (arith, char-step _ _ _ (c .before .before .before .before .loop-test .taken) (c .before .before .before .char-at .ensures) .most)
+add-i c = omega (arith, content-step _ _ _ (c .before .before .before .before .loop-test .taken) (c .before .before .before .char-in .ensures) .most)
 
 -- src/lib.rt:55:5
 loop-less : tie.Need-loop-less Inv-loop μ-loop
-loop-less c = omega (arith, char-step _ _ _ (c .before .before .before .before .loop-test .taken) (c .before .before .before .char-at .ensures) .most, char-step _ _ _ (c .before .before .before .before .loop-test .taken) (c .before .before .before .char-at .ensures) .least)
+loop-less c = omega (arith, content-step _ _ _ (c .before .before .before .before .loop-test .taken) (c .before .before .before .char-in .ensures) .most, content-step _ _ _ (c .before .before .before .before .loop-test .taken) (c .before .before .before .char-in .ensures) .least)
 
 -- src/lib.rt:55:5
 loop-again : tie.Need-loop-again Inv-loop μ-loop
-loop-again c = going-on (c .before .before .before .before .before .loop .inv) _ (c .before .before .before .before .loop-test .taken) (c .before .before .before .char-at .ensures) (sym (c .before .before .is-digit-or-point .ensures) ∙ not-false _ (c .before .if1 .left))
+loop-again c = going-on (c .before .before .before .before .before .loop .inv) _ (c .before .before .before .before .loop-test .taken) (c .before .before .before .char-in .ensures) (sym (c .before .before .is-digit-or-point .ensures) ∙ not-false _ (c .before .if1 .left))
 
 -- src/lib.rt:50:1
 returns-2 : tie.Need-returns-2 Inv-loop μ-loop
@@ -59,7 +59,7 @@ number-end-spec =
     Inv-loop
     μ-loop
     loop-holds
-    char-at-requires
+    char-in-requires
     is-digit-or-point-requires
     returns
     add-i
