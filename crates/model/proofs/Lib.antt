@@ -1,1 +1,3 @@
 pub mod Blanks
+pub mod Stores
+pub mod Tables

@@ -77,3 +77,14 @@ pub struct Row {
     pub relation: RelationRecord,
 }
 
+// A finding. `flag` is `implicit` of a finding of the pass, and marks an error of the parser.
+pub struct Noted {
+    pub parse: bool,
+    pub code: u32,
+    pub spans: u32,
+    pub start: u32,
+    pub end: u32,
+    pub start2: u32,
+    pub end2: u32,
+    pub flag: bool,
+}
