@@ -113,12 +113,12 @@ firstHeld =
 
 -- ---- bounds
 
--- as many rows as the windows hold; what has no window is counted far below what a number holds
+-- as many rows as the windows hold, and a pair for each row at most; what has no window is counted far below what a number holds
 pub record Room (h : Held) : Type 0 where
   pub ingredients : h .counts .ingredients ≤ 513
   pub cookware : h .counts .cookware ≤ 257
-  pub ingredientPairs : h .counts .«ingredient_pairs» ≤ 513
-  pub cookwarePairs : h .counts .«cookware_pairs» ≤ 257
+  pub ingredientPairs : h .counts .«ingredient_pairs» ≤ h .counts .ingredients
+  pub cookwarePairs : h .counts .«cookware_pairs» ≤ h .counts .cookware
   pub findings : h .counts .findings ≤ 1544
   pub here : h .counts .here ≤ 1025
   pub counter : h .counts .counter ≤ 100000

@@ -1,7 +1,16 @@
-// The collector's work memory: rows of components, pairs of definition and referrer, findings, kinds of blocks.
+// The collector's work memory: rows of components, pairs of definition and referrer, findings, kinds of blocks; and the
+// small state beside it. Its windows stand in docs/MEMORY.md.
 ghost use mathlib.Core.Path.{_≡_};
-ghost use Prim.Native.Nat.{_+_, _*_, _<_, _≤_};
-ghost use lib.ListN.{length};
+ghost use mathlib.Core.List.{[], _∷_, reverse};
+ghost use Prim.Native.Nat.{_+_, _-_, _*_, _<_, _≤_};
+ghost use lib.ListN.{length, set};
+ghost use lib.Seq.{sets};
+ghost use Rattle.rules.specs.Basic.{pick};
+ghost use Rattle.rules.specs.Model.{ingredient, cookware};
+ghost use Rattle.rules.specs.Checks.{stepIndices, sectionIndices, nth};
+ghost use Rattle.model.specs.Rows.{rowAt, bitOf, relationWord, relationOf, rowWords, rowOf, notedWords, notedOf, blocksIn};
+ghost use Rattle.model.specs.Memory.{firstHeld, Room, Sound};
+ghost use Rattle.model.specs.Contracts.{foundOf, NextReferrer, RowPushed, PairPushed, FindingPushed, BlockKept, SectionBegun, OverLimits};
 
 pub enum Define {
     All,
@@ -87,4 +96,189 @@ pub struct Noted {
     pub start2: u32,
     pub end2: u32,
     pub flag: bool,
+}
+
+pub enum Found {
+    At(u32),
+    Nothing,
+}
+
+// The next referrer of a definition, and the pair after it.
+pub enum Next {
+    Referrer(u32, usize),
+    NoMore,
+}
+
+// ---- rows
+
+pub fn copy_words(words: &mut [u32], at: usize, row: &[u32])
+    requires { ⌜ at + length (now row) ≤ length (now words) ⌝ }
+    ensures { λ _. ⌜ now (words .exit) ≡ sets (now (words .entry)) at (now (row .entry)) ⌝ }
+{
+    let mut i = 0;
+    while i < row.len() {
+        words[at + i] = row[i];
+        i += 1;
+    }
+}
+
+pub fn bit(b: bool) -> u32
+    ensures { λ r. ⌜ r ≡ bitOf b ⌝ }
+{
+    if b { 1 } else { 0 }
+}
+
+pub fn relation_word(r: Relation) -> u32
+    ensures { λ n. ⌜ n ≡ relationWord r ⌝ }
+{
+    match r {
+        Relation::Definition => 0,
+        Relation::Reference(t) => match t {
+            Target::Ingredient => 1,
+            Target::Step => 2,
+            Target::Section => 3,
+        },
+    }
+}
+
+pub fn relation_of(n: u32) -> Relation
+    ensures { λ r. ⌜ r ≡ relationOf n ⌝ }
+{
+    if n == 0 {
+        return Relation::Definition;
+    }
+    if n == 1 {
+        return Relation::Reference(Target::Ingredient);
+    }
+    if n == 2 {
+        return Relation::Reference(Target::Step);
+    }
+    Relation::Reference(Target::Section)
+}
+
+pub fn put_row(rows: &mut [u32], i: usize, r: Row)
+    requires { ⌜ (i < 513) × (i * 12 + 12 ≤ length (now rows)) ⌝ }
+    ensures { λ _. ⌜ now (rows .exit) ≡ sets (now (rows .entry)) (i * 12) (rowWords r) ⌝ }
+{
+    let at = i * 12;
+    let g = r.relation;
+    let e = g.relation;
+    let w = [
+        r.line_at,
+        r.line_end,
+        r.name_at,
+        r.name_end,
+        bit(r.recipe),
+        bit(r.reference),
+        bit(r.hidden),
+        bit(r.opt),
+        bit(r.new),
+        relation_word(e),
+        g.index,
+        bit(g.in_step),
+    ];
+    copy_words(rows, at, &w);
+}
+
+pub fn row_of(w: &[u32]) -> Row
+    requires { ⌜ length (now w) ≡ 12 ⌝ }
+    ensures { λ r. ⌜ r ≡ rowOf (now (w .entry)) ⌝ }
+{
+    Row {
+        line_at: w[0],
+        line_end: w[1],
+        name_at: w[2],
+        name_end: w[3],
+        recipe: w[4] == 1,
+        reference: w[5] == 1,
+        hidden: w[6] == 1,
+        opt: w[7] == 1,
+        new: w[8] == 1,
+        relation: RelationRecord {
+            relation: relation_of(w[9]),
+            in_step: w[11] == 1,
+            index: w[10],
+        },
+    }
+}
+
+pub fn row_at(rows: &[u32], i: usize) -> Row
+    requires { ⌜ (i < 513) × (i * 12 + 12 ≤ length (now rows)) ⌝ }
+    ensures { λ r. ⌜ r ≡ rowOf (rowAt 12 (now (rows .entry)) i) ⌝ }
+{
+    let at = i * 12;
+    let end = at + 12;
+    row_of(&rows[at..end])
+}
+
+// ---- pairs
+
+// `set_referenced_from`: the pair at n.
+pub fn put_pair(pairs: &mut [u32], n: usize, definition: u32, referrer: u32)
+    requires { ⌜ (n < 513) × (n * 2 + 2 ≤ length (now pairs)) ⌝ }
+    ensures { λ _. ⌜ now (pairs .exit) ≡ sets (now (pairs .entry)) (n * 2) (definition ∷ referrer ∷ []) ⌝ }
+{
+    let at = n * 2;
+    copy_words(pairs, at, &[definition, referrer]);
+}
+
+// The first of the pairs from `from` on, of n, that names the definition.
+pub fn next_referrer(pairs: &[u32], n: usize, definition: u32, from: usize) -> Next
+    requires { ⌜ (n ≤ 513) × (n * 2 ≤ length (now pairs)) ⌝ }
+    ensures { λ r. ⌜ NextReferrer (now (pairs .entry)) n definition from r ⌝ }
+{
+    let mut i = from;
+    while i < n {
+        let at = i * 2;
+        if pairs[at] == definition {
+            return Next::Referrer(pairs[at + 1], i + 1);
+        }
+        i += 1;
+    }
+    Next::NoMore
+}
+
+// ---- findings
+
+pub fn put_finding(findings: &mut [u32], n: usize, x: Noted)
+    requires { ⌜ (n < 1544) × (n * 8 + 8 ≤ length (now findings)) ⌝ }
+    ensures { λ _. ⌜ now (findings .exit) ≡ sets (now (findings .entry)) (n * 8) (notedWords x) ⌝ }
+{
+    let at = n * 8;
+    let w = [
+        bit(x.parse),
+        x.code,
+        x.spans,
+        x.start,
+        x.end,
+        x.start2,
+        x.end2,
+        bit(x.flag),
+    ];
+    copy_words(findings, at, &w);
+}
+
+pub fn noted_of(w: &[u32]) -> Noted
+    requires { ⌜ length (now w) ≡ 8 ⌝ }
+    ensures { λ r. ⌜ r ≡ notedOf (now (w .entry)) ⌝ }
+{
+    Noted {
+        parse: w[0] == 1,
+        code: w[1],
+        spans: w[2],
+        start: w[3],
+        end: w[4],
+        start2: w[5],
+        end2: w[6],
+        flag: w[7] == 1,
+    }
+}
+
+pub fn finding_at(findings: &[u32], i: usize) -> Noted
+    requires { ⌜ (i < 1544) × (i * 8 + 8 ≤ length (now findings)) ⌝ }
+    ensures { λ r. ⌜ r ≡ notedOf (rowAt 8 (now (findings .entry)) i) ⌝ }
+{
+    let at = i * 8;
+    let end = at + 8;
+    noted_of(&findings[at..end])
 }
