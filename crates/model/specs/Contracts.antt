@@ -11,6 +11,7 @@ use Rattle.rules.specs.Event.{Text}
 use Rattle.rules.specs.Model.{Kind, ingredient, cookware}
 use Rattle.rules.specs.Reference.{setReferencedFrom}
 use Rattle.rules.specs.State.{State, tableOf, setTable, report, overLimits}
+use Rattle.rules.specs.Checks.{nth}
 use Rattle.rules.specs.Pass.{keepBlock, onSection}
 use Rattle.model.specs.Blank.{blank}
 use Rattle.model.specs.Rows.{rowWords, entryAs, referrersFrom, notedWords, findingOf, blockOf}
@@ -28,6 +29,10 @@ use Rattle.model.specs.declared.Next.the-variants.{Referrer, NoMore}
 abbrev pub foundOf : Found → Option ℕ
 foundOf (At i) = some i
 foundOf Nothing = none
+
+-- the target of an intermediate reference among candidates, newest first (`resolveIntermediateRef`)
+pub record TargetFound (relative : Bool) (value : ℕ) (candidates : List ℕ) (r : Found) : Type 0 where
+  pub is : foundOf r ≡ nth value (pick relative candidates (reverse candidates))
 
 -- the next of a definition's referrers, from a pair on: the referrer and the pair after it, or there is none
 abbrev pub NextAs : List ℕ → ℕ → ℕ → ℕ → Next → Type 0

@@ -8,9 +8,11 @@ ghost use lib.Seq.{sets};
 ghost use Rattle.rules.specs.Basic.{pick};
 ghost use Rattle.rules.specs.Model.{ingredient, cookware};
 ghost use Rattle.rules.specs.Checks.{stepIndices, sectionIndices, nth};
-ghost use Rattle.model.specs.Rows.{rowAt, bitOf, relationWord, relationOf, rowWords, rowOf, notedWords, notedOf, blocksIn};
+ghost use Rattle.rules.specs.Words.{severe, mild};
+ghost use Rattle.rules.specs.Finding.{diag, parsed};
+ghost use Rattle.model.specs.Rows.{findingOf, rowAt, bitOf, relationWord, relationOf, rowWords, rowOf, notedWords, notedOf, blocksIn};
 ghost use Rattle.model.specs.Memory.{firstHeld, Room, Sound};
-ghost use Rattle.model.specs.Contracts.{foundOf, NextReferrer, RowPushed, PairPushed, FindingPushed, BlockKept, SectionBegun, OverLimits};
+ghost use Rattle.model.specs.Contracts.{foundOf, TargetFound, NextReferrer, RowPushed, PairPushed, FindingPushed, BlockKept, SectionBegun, OverLimits};
 
 pub enum Define {
     All,
@@ -281,4 +283,140 @@ pub fn finding_at(findings: &[u32], i: usize) -> Noted
     let at = i * 8;
     let end = at + 8;
     noted_of(&findings[at..end])
+}
+
+// A finding of the pass at one span.
+pub fn one_span(code: u32, start: u32, end: u32, implicit: bool) -> Noted
+    ensures { λ r. ⌜ findingOf r ≡ diag code (record { start = start; end = end } ∷ []) implicit ⌝ }
+{
+    Noted {
+        parse: false,
+        code,
+        spans: 1,
+        start,
+        end,
+        start2: 0,
+        end2: 0,
+        flag: implicit,
+    }
+}
+
+// A finding of the pass at two spans.
+pub fn two_spans(code: u32, start: u32, end: u32, start2: u32, end2: u32, implicit: bool) -> Noted
+    ensures { λ r. ⌜ findingOf r ≡ diag code (record { start = start; end = end } ∷ record { start = start2; end = end2 } ∷ []) implicit ⌝ }
+{
+    Noted {
+        parse: false,
+        code,
+        spans: 2,
+        start,
+        end,
+        start2,
+        end2,
+        flag: implicit,
+    }
+}
+
+// A finding of the parser.
+pub fn of_parser(error: bool, number: u32) -> Noted
+    ensures { λ r. ⌜ findingOf r ≡ parsed (pick error severe mild) number ⌝ }
+{
+    Noted {
+        parse: true,
+        code: number,
+        spans: 0,
+        start: 0,
+        end: 0,
+        start2: 0,
+        end2: 0,
+        flag: error,
+    }
+}
+
+// ---- kinds of blocks
+
+pub fn put_kind(kinds: &mut [u32], n: usize, step: bool)
+    requires { ⌜ n < length (now kinds) ⌝ }
+    ensures { λ _. ⌜ now (kinds .exit) ≡ set (now (kinds .entry)) n (bitOf step) ⌝ }
+{
+    kinds[n] = bit(step);
+}
+
+// The step that is the value-th, counted back from the newest of n blocks.
+pub fn step_back(kinds: &[u32], n: usize, value: u32) -> Found
+    requires { ⌜ (n ≤ 1025) × (n ≤ length (now kinds)) ⌝ }
+    ensures { λ r. ⌜ foundOf r ≡ nth value (stepIndices (blocksIn (now (kinds .entry)) n)) ⌝ }
+{
+    if value == 0 {
+        return Found::Nothing;
+    }
+    let mut i = n;
+    let mut v = value;
+    while 0 < i {
+        let k = i - 1;
+        if kinds[k] == 1 {
+            if v == 1 {
+                return Found::At(k as u32);
+            }
+            v -= 1;
+            i = k;
+        } else {
+            i = k;
+        }
+    }
+    Found::Nothing
+}
+
+// The step that is the value-th, counted from the first.
+pub fn step_ahead(kinds: &[u32], n: usize, value: u32) -> Found
+    requires { ⌜ (n ≤ 1025) × (n ≤ length (now kinds)) ⌝ }
+    ensures { λ r. ⌜ foundOf r ≡ nth value (reverse (stepIndices (blocksIn (now (kinds .entry)) n))) ⌝ }
+{
+    if value == 0 {
+        return Found::Nothing;
+    }
+    let mut i: usize = 0;
+    let mut v = value;
+    while i < n {
+        if kinds[i] == 1 {
+            if v == 1 {
+                return Found::At(i as u32);
+            }
+            v -= 1;
+            i += 1;
+        } else {
+            i += 1;
+        }
+    }
+    Found::Nothing
+}
+
+pub fn step_target(kinds: &[u32], n: usize, relative: bool, value: u32) -> Found
+    requires { ⌜ (n ≤ 1025) × (n ≤ length (now kinds)) ⌝ }
+    ensures { λ r. ⌜ TargetFound relative value (stepIndices (blocksIn (now (kinds .entry)) n)) r ⌝ }
+{
+    if relative {
+        step_back(kinds, n, value)
+    } else {
+        step_ahead(kinds, n, value)
+    }
+}
+
+pub fn section_target(sections: usize, relative: bool, value: u32) -> Found
+    requires { ⌜ sections ≤ 100000 ⌝ }
+    ensures { λ r. ⌜ TargetFound relative value (sectionIndices sections) r ⌝ }
+{
+    let v = value as usize;
+    if v == 0 {
+        return Found::Nothing;
+    }
+    if sections < v {
+        return Found::Nothing;
+    }
+    if relative {
+        let i = sections - v;
+        return Found::At(i as u32);
+    }
+    let i = v - 1;
+    Found::At(i as u32)
 }
