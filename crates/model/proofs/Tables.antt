@@ -46,11 +46,11 @@ pub noted-back : (n : Noted) → notedOf (notedWords n) ≡ n
 unfolding notedOf notedWords
 noted-back n = simp (bit-back)
 
-row-length : (r : Row) → length (rowWords r) ≡ 12
+pub row-length : (r : Row) → length (rowWords r) ≡ 12
 unfolding rowWords
 row-length r = refl
 
-noted-length : (n : Noted) → length (notedWords n) ≡ 8
+pub noted-length : (n : Noted) → length (notedWords n) ≡ 8
 unfolding notedWords
 noted-length n = refl
 

@@ -6,13 +6,11 @@ ghost use Prim.Native.Nat.{_+_, _-_, _*_, _<_, _≤_};
 ghost use lib.ListN.{length, set};
 ghost use lib.Seq.{sets};
 ghost use Rattle.rules.specs.Basic.{pick};
-ghost use Rattle.rules.specs.Model.{ingredient, cookware};
 ghost use Rattle.rules.specs.Checks.{stepIndices, sectionIndices, nth};
 ghost use Rattle.rules.specs.Words.{severe, mild};
 ghost use Rattle.rules.specs.Finding.{diag, parsed};
 ghost use Rattle.model.specs.Rows.{findingOf, rowAt, bitOf, relationWord, relationOf, rowWords, rowOf, notedWords, notedOf, blocksIn};
-ghost use Rattle.model.specs.Memory.{firstHeld, Room, Sound};
-ghost use Rattle.model.specs.Contracts.{foundOf, TargetFound, NextReferrer, RowPushed, PairPushed, FindingPushed, BlockKept, SectionBegun, OverLimits};
+ghost use Rattle.model.specs.Contracts.{foundOf, TargetFound, NextReferrer};
 
 pub enum Define {
     All,
