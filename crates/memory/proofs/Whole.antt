@@ -93,9 +93,12 @@ module _ {w : List ℕ} {h : Held} (z : Sound w h) (r : Row) (l : h .counts .ing
       ≡ setTable ingredient (entryAs ingredient sheet r [] ∷ tableOf ingredient (stateIn sheet w h)) (stateIn sheet w h)
   unfolding stateIn stateOf setTable setTables tableOf
   ingredient-is sheet =
-      rw (in-ingredients w (h .counts .ingredients * 12) (rowWords r) ingredient-fits, add-one (h .counts .ingredients),
+      rw (
+        in-ingredients w (h .counts .ingredients * 12) (rowWords r) ingredient-fits,
+        add-one (h .counts .ingredients),
         entries-more ingredient sheet (windowsOf w .ingredients) (windowsOf w .ingredientPairs) (h .counts .«ingredient_pairs») (h .counts .ingredients) r (omega (arith, long-ingredients z)),
-        referrers-none (windowsOf w .ingredientPairs) (h .counts .«ingredient_pairs») (h .counts .ingredients) (z .ingredients))
+        referrers-none (windowsOf w .ingredientPairs) (h .counts .«ingredient_pairs») (h .counts .ingredients) (z .ingredients),
+      )
 
   ingredient-sound : Sound (sets w (0 + h .counts .ingredients * 12) (rowWords r)) (withIngredients (h .counts .ingredients + 1) h)
   ingredient-sound =
@@ -121,9 +124,12 @@ module _ {w : List ℕ} {h : Held} (z : Sound w h) (r : Row) (l : h .counts .coo
       ≡ setTable cookware (entryAs cookware sheet r [] ∷ tableOf cookware (stateIn sheet w h)) (stateIn sheet w h)
   unfolding stateIn stateOf setTable setTables tableOf
   cookware-is sheet =
-      rw (in-cookware w (h .counts .cookware * 12) (rowWords r) cookware-fits, add-one (h .counts .cookware),
+      rw (
+        in-cookware w (h .counts .cookware * 12) (rowWords r) cookware-fits,
+        add-one (h .counts .cookware),
         entries-more cookware sheet (windowsOf w .cookware) (windowsOf w .cookwarePairs) (h .counts .«cookware_pairs») (h .counts .cookware) r (omega (arith, long-cookware z)),
-        referrers-none (windowsOf w .cookwarePairs) (h .counts .«cookware_pairs») (h .counts .cookware) (z .cookware))
+        referrers-none (windowsOf w .cookwarePairs) (h .counts .«cookware_pairs») (h .counts .cookware) (z .cookware),
+      )
 
   cookware-sound : Sound (sets w (6156 + h .counts .cookware * 12) (rowWords r)) (withCookware (h .counts .cookware + 1) h)
   cookware-sound =
@@ -154,8 +160,11 @@ module _ {w : List ℕ} {h : Held} (z : Sound w h) (d r : ℕ) (l : h .counts .�
       ≡ setTable ingredient (setReferencedFrom d r (tableOf ingredient (stateIn sheet w h))) (stateIn sheet w h)
   unfolding stateIn stateOf setTable setTables tableOf
   ingredient-pair-is sheet =
-      rw (in-ingredientPairs w (h .counts .«ingredient_pairs» * 2) (d ∷ r ∷ []) ingredient-pair-fits, add-one (h .counts .«ingredient_pairs»),
-        entries-referred (windowsOf w .ingredientPairs) (h .counts .«ingredient_pairs») d r ingredient-pair-long ingredient sheet (windowsOf w .ingredients) (h .counts .ingredients))
+      rw (
+        in-ingredientPairs w (h .counts .«ingredient_pairs» * 2) (d ∷ r ∷ []) ingredient-pair-fits,
+        add-one (h .counts .«ingredient_pairs»),
+        entries-referred (windowsOf w .ingredientPairs) (h .counts .«ingredient_pairs») d r ingredient-pair-long ingredient sheet (windowsOf w .ingredients) (h .counts .ingredients),
+      )
 
   ingredient-pair-sound : Sound (sets w (9240 + h .counts .«ingredient_pairs» * 2) (d ∷ r ∷ [])) (withIngredientPairs (h .counts .«ingredient_pairs» + 1) h)
   ingredient-pair-sound =
@@ -183,8 +192,11 @@ module _ {w : List ℕ} {h : Held} (z : Sound w h) (d r : ℕ) (l : h .counts .�
       ≡ setTable cookware (setReferencedFrom d r (tableOf cookware (stateIn sheet w h))) (stateIn sheet w h)
   unfolding stateIn stateOf setTable setTables tableOf
   cookware-pair-is sheet =
-      rw (in-cookwarePairs w (h .counts .«cookware_pairs» * 2) (d ∷ r ∷ []) cookware-pair-fits, add-one (h .counts .«cookware_pairs»),
-        entries-referred (windowsOf w .cookwarePairs) (h .counts .«cookware_pairs») d r cookware-pair-long cookware sheet (windowsOf w .cookware) (h .counts .cookware))
+      rw (
+        in-cookwarePairs w (h .counts .«cookware_pairs» * 2) (d ∷ r ∷ []) cookware-pair-fits,
+        add-one (h .counts .«cookware_pairs»),
+        entries-referred (windowsOf w .cookwarePairs) (h .counts .«cookware_pairs») d r cookware-pair-long cookware sheet (windowsOf w .cookware) (h .counts .cookware),
+      )
 
   cookware-pair-sound : Sound (sets w (10266 + h .counts .«cookware_pairs» * 2) (d ∷ r ∷ [])) (withCookwarePairs (h .counts .«cookware_pairs» + 1) h)
   cookware-pair-sound =
@@ -211,8 +223,11 @@ module _ {w : List ℕ} {h : Held} (z : Sound w h) (x : Noted) (l : h .counts .f
       ≡ report (findingOf x ∷ []) (stateIn sheet w h)
   unfolding stateIn stateOf report
   finding-is sheet =
-      rw (in-findings w (h .counts .findings * 8) (notedWords x) finding-fits, add-one (h .counts .findings),
-        findings-more (windowsOf w .findings) (h .counts .findings) x (omega (arith, long-findings z)))
+      rw (
+        in-findings w (h .counts .findings * 8) (notedWords x) finding-fits,
+        add-one (h .counts .findings),
+        findings-more (windowsOf w .findings) (h .counts .findings) x (omega (arith, long-findings z)),
+      )
 
   finding-sound : Sound (sets w (10780 + h .counts .findings * 8) (notedWords x)) (withFindings (h .counts .findings + 1) h)
   finding-sound =
@@ -241,8 +256,12 @@ module _ {w : List ℕ} {h : Held} (z : Sound w h) (v c : ℕ) (l : h .counts .h
   block-is : (sheet : List ℕ) → stateIn sheet (sets w (23132 + h .counts .here) (v ∷ [])) (kept c h) ≡ keepBlock (blockOf v) c (stateIn sheet w h)
   unfolding stateIn stateOf keepBlock setKept setPlace openOf
   block-is sheet =
-      rw (in-kinds w (h .counts .here) (v ∷ []) block-fits, add-one (h .counts .here), add-one (h .counts .blocks),
-        blocks-more (windowsOf w .kinds) (h .counts .here) v (omega (arith, long-kinds z)))
+      rw (
+        in-kinds w (h .counts .here) (v ∷ []) block-fits,
+        add-one (h .counts .here),
+        add-one (h .counts .blocks),
+        blocks-more (windowsOf w .kinds) (h .counts .here) v (omega (arith, long-kinds z)),
+      )
 
   block-sound : Sound (sets w (23132 + h .counts .here) (v ∷ [])) (kept c h)
   block-sound =
@@ -253,7 +272,7 @@ module _ {w : List ℕ} {h : Held} (z : Sound w h) (v c : ℕ) (l : h .counts .h
         cookware = rw (in-kinds w (h .counts .here) (v ∷ []) block-fits) (z .cookware);
       }
 
-  pub block-kept : (p : List ℕ) → p ≡ set (midOf 23132 1025 w) (h .counts .here) v → BlockKept w h v c (putMid 23132 1025 w p) (kept c h)
-  block-kept p e =
+  pub block-kept : (p : List ℕ) → p ≡ set (midOf 23132 1025 w) (h .counts .here) v → {r : Held} → r ≡ kept c h → BlockKept w h v c (putMid 23132 1025 w p) r
+  block-kept p e {r} f =
       let q : putMid 23132 1025 w p ≡ sets w (23132 + h .counts .here) (v ∷ []) = ap (putMid 23132 1025 w) e ∙ put-sets 23132 1025 w (h .counts .here) (v ∷ []) block-fits in
-      record { words = q; held = refl; is = λ sheet. rw q (block-is sheet); sound = rw q block-sound }
+      record { words = q; held = f; is = λ sheet. rw (q, f) (block-is sheet); sound = rw (q, f) block-sound }

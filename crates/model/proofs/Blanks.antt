@@ -38,7 +38,7 @@ unfolding blankName
 name-twice none = refl
 name-twice (some n) = refl
 
-open-twice : (o : Open) → blankOpen (blankOpen o) ≡ blankOpen o
+pub open-twice : (o : Open) → blankOpen (blankOpen o) ≡ blankOpen o
 unfolding blankOpen
 open-twice noBlock = refl
 open-twice (stepOpen is) = refl
@@ -116,7 +116,7 @@ blank-pick : (b : Bool) (x y : State) → blank (pick b x y) ≡ pick b (blank x
 blank-pick true x y = refl
 blank-pick false x y = refl
 
-blank-report : (fs : List Finding) (st : State) → blank (report fs st) ≡ report fs (blank st)
+pub blank-report : (fs : List Finding) (st : State) → blank (report fs st) ≡ report fs (blank st)
 unfolding blank report
 blank-report fs st = refl
 
@@ -141,7 +141,7 @@ text-mode-block : (ts us : List (List ℕ)) (st : State) → blank (setBlock (te
 unfolding blankOpen
 text-mode-block ts us st = set-block (textModeOpen ts) (textModeOpen us) st refl
 
-blank-place : (p : Place) (a : State) → blank (setPlace p a) ≡ setPlace (blankPlace p) (blank a)
+pub blank-place : (p : Place) (a : State) → blank (setPlace p a) ≡ setPlace (blankPlace p) (blank a)
 unfolding blank setPlace
 blank-place p a = refl
 
@@ -161,7 +161,7 @@ on-section : (n : Option Text) (st : State) → blank (onSection n st) ≡ blank
 unfolding onSection
 on-section n st = set-place _ _ _ (close-section st)
 
-keep-block : (b : Block) (n : ℕ) (st : State) → blank (keepBlock b n st) ≡ blank (keepBlock (blankBlock b) n (blank st))
+pub keep-block : (b : Block) (n : ℕ) (st : State) → blank (keepBlock b n st) ≡ blank (keepBlock (blankBlock b) n (blank st))
 unfolding keepBlock setKept setPlace blank blankPlace blankMetadata blankKept blankTables blankOpen each
 keep-block b n st = simp (length-replicate, blocks-twice, block-twice, name-twice)
 
@@ -345,3 +345,14 @@ module _ (text : List ℕ) (units : List NamedUnit) (flags : ℕ) where
       blank-walk (suc line) (step text units flags line e w) es
       ∙ ap (λ (v : Walk). blankWalk (walk text units flags (suc line) v es)) (blank-step line e w)
       ∙ sym (blank-walk (suc line) (step text units flags line e (blankWalk w)) es)
+
+  -- one line more: what is left, from here, is the whole
+  pub walk-on : (line : ℕ) (e : Event) (es : List Event) (w v r : Walk)
+      → blankWalk (walk text units flags line w (e ∷ es)) ≡ r → blankWalk v ≡ blankWalk (step text units flags line e w)
+      → blankWalk (walk text units flags (suc line) v es) ≡ r
+  unfolding walk
+  walk-on line e es w v r h q =
+      blank-walk (suc line) v es
+      ∙ ap (λ (u : Walk). blankWalk (walk text units flags (suc line) u es)) q
+      ∙ sym (blank-walk (suc line) (step text units flags line e w) es)
+      ∙ h

@@ -172,6 +172,11 @@ pub findings-more : (fs : List ℕ) (n : ℕ) (x : Noted) → n * 8 + 8 ≤ leng
 unfolding findingsIn findingIn
 findings-more fs n x h = rw (noted-stored fs n x h, findings-below fs n n x (omega arith))
 
+pub findings-length : (fs : List ℕ) (n : ℕ) → length (findingsIn fs n) ≡ n
+unfolding findingsIn
+findings-length fs zero = refl
+findings-length fs (suc n) = ap suc (findings-length fs n)
+
 -- ---- kinds
 
 blocks-below : (ks : List ℕ) (n i v : ℕ) → i ≤ n → blocksIn (set ks n v) i ≡ blocksIn ks i
