@@ -3,3 +3,4 @@ pub mod Stores
 pub mod Tables
 pub mod Searches
 pub mod Parts
+pub mod Entries

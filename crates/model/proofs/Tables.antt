@@ -3,6 +3,7 @@ use Prim.Native.Nat.{ℕ, zero, suc, _+_, _*_, _≤_, _<_}
 use mathlib.Core.Path.{_≡_, refl, sym, ap, _∙_}
 use mathlib.Core.List.{List, [], _∷_, _++_}
 use mathlib.Core.Bool.{Bool, true, false}
+use mathlib.Core.Option.{some}
 use native.Mathlib.Omega.{arith}
 use native.Mathlib.Numerals.{add-one}
 use lib.Dec.{eqb}
@@ -12,10 +13,11 @@ use borrow.Author.Tests.{eq-eqb, ne-eqb, eqb-true, eqb-false}
 use borrow.Rule.Slice.PartMut.{midOf}
 use Rattle.rules.specs.Basic.{pick}
 use Rattle.rules.specs.Model.{Kind, ingredient, cookware, definition, reference, Entry, entryOf, setRelation, setModifiers, Block}
-use Rattle.rules.specs.Reference.{referredBy, setReferencedFrom}
+use Rattle.rules.specs.Reference.{entryAt, referredBy, setReferencedFrom}
 use Rattle.rules.specs.Finding.{Finding}
 use Rattle.model.specs.Rows.{rowAt, bitOf, relationWord, relationOf, rowWords, rowOf, relationAs, relationIn, entryAs, referrersIn, entryIn, entriesIn, notedWords, notedOf, findingOf, findingIn, findingsIn, blockOf, blocksIn}
 use Rattle.model.specs.Memory.{Below}
+use Rattle.model.specs.Fits.{EachRow}
 use Rattle.model.specs.declared.Target.{Target}
 use Rattle.model.specs.declared.Target.the-variants.{Ingredient, Step, Section}
 use Rattle.model.specs.declared.Relation.{Relation}
@@ -90,6 +92,28 @@ module _ (k : Kind) (sheet rows pairs : List ℕ) (m : ℕ) where
       → entriesIn k sheet (sets rows (n * 12) (rowWords r)) pairs m (suc n) ≡ entryAs k sheet r (referrersIn pairs n m) ∷ entriesIn k sheet rows pairs m n
   unfolding entriesIn entryIn
   entries-more n r h = rw (row-stored rows n r h, entries-below n n r (omega arith))
+
+  -- the entry of an index
+  pub entries-at : (i n : ℕ) → i < n → entryAt i (entriesIn k sheet rows pairs m n) ≡ some (entryIn k sheet rows pairs m i)
+  unfolding entriesIn entryAt
+  entries-at i zero h = absurd (omega arith)
+  entries-at i (suc n) h = rw (entries-length n) (by (eqb i n) refl (λ l. entries-at i n l))
+    where
+      by : (t : Bool) → eqb i n ≡ t → (i < n → entryAt i (entriesIn k sheet rows pairs m n) ≡ some (entryIn k sheet rows pairs m i))
+          → pick t (some (entryIn k sheet rows pairs m n)) (entryAt i (entriesIn k sheet rows pairs m n)) ≡ some (entryIn k sheet rows pairs m i)
+      by true e ih = let q : i ≡ n = eqb-true i n e in ap (λ (j : ℕ). some (entryIn k sheet rows pairs m j)) (sym q)
+      by false e ih = let q : (i ≡ n → ⊥) = eqb-false i n e in let l : i < n = omega arith in ih l
+
+-- what holds of all rows, and of one more
+pub each-none : (P : Row → Type 0) (rows : List ℕ) → EachRow P rows 0
+each-none P rows = record { at = λ i h. absurd (omega arith) }
+
+pub each-more : (P : Row → Type 0) (rows : List ℕ) (n : ℕ) (r : Row) → EachRow P rows n → P r → n * 12 + 12 ≤ length rows → EachRow P (sets rows (n * 12) (rowWords r)) (suc n)
+each-more P rows n r z p h = record { at = λ i l. by i (eqb i n) refl l }
+  where
+    by : (i : ℕ) (t : Bool) → eqb i n ≡ t → i < suc n → P (rowOf (rowAt 12 (sets rows (n * 12) (rowWords r)) i))
+    by i true e l = let q : i ≡ n = eqb-true i n e in rw q (rw (row-stored rows n r h) p)
+    by i false e l = let q : (i ≡ n → ⊥) = eqb-false i n e in let g : i < n = omega arith in rw (row-other rows n i r g) (z .at i g)
 
 -- no referrers of what has not come
 pub referrers-none : (pairs : List ℕ) (m n : ℕ) → Below pairs m n → referrersIn pairs n m ≡ []

@@ -3,3 +3,4 @@ pub mod Rows
 pub mod Memory
 pub mod Small
 pub mod Contracts
+pub mod Fits
