@@ -10,7 +10,7 @@ use borrow.Author.Tests.{eq-eqb, ne-eqb}
 use lib.Dec.{eqb}
 use lib.ListN.{length, getD, drop, drop-of-length-le}
 use lib.Seq.{drop-cons}
-use Rattle.rules.specs.Basic.{pick, codes, eqList, isEmpty, minus}
+use Rattle.rules.specs.Basic.{pick, eqList, isEmpty, minus}
 use Rattle.rules.specs.Sheet.{Signed, signedAs, signedOf, numberUpTo}
 use Rattle.rules.specs.Read.{leads, past, noModifiers, modifierLetters, modifiersOf, readModifiers, readSigned}
 use Rattle.rules.proofs.Basics.{pick-either, no-some, some-inj}

@@ -1,6 +1,6 @@
 -- The bytes of a part, and its content.
 use Prim.Native.Nat.{ℕ, zero, suc, _-_, _≤_, _<_}
-use mathlib.Core.Path.{_≡_, refl, ap, sym, _∙_}
+use mathlib.Core.Path.{_≡_, refl, ap, sym}
 use mathlib.Core.List.{List, []}
 use mathlib.Core.Option.{some}
 use native.Mathlib.Omega.{arith}
@@ -10,7 +10,7 @@ use Rattle.rules.specs.Basic.{onSome}
 use Rattle.rules.specs.Utf8.{chars}
 use Rattle.rules.specs.Read.{contentOf}
 use Rattle.parts.specs.declared.Part.{Part}
-use Rattle.parts.specs.Views.{partOf, bytesIn, contentIn, PartWithin}
+use Rattle.parts.specs.Views.{partOf, contentIn, PartWithin}
 
 take-none : (n : ℕ) → take {A = ℕ} n [] ≡ []
 take-none zero = refl

@@ -31,7 +31,7 @@ use Rattle.parts.specs.declared.GotContent.the-variants as content
 use Rattle.parts.specs.declared.GotKind.the-variants as kind
 use Rattle.parts.specs.declared.Dash.the-variants as dash
 use Rattle.parts.specs.declared.Part.{Part}
-use Rattle.parts.specs.Views.{partOf, orEmpty, bytesIn, contentIn, PartWithin, kindIn}
+use Rattle.parts.specs.Views.{partOf, orEmpty, bytesIn, contentIn, kindIn}
 use Rattle.parts.specs.Got.{ReadAt, NumberRead, ContentRead, KindRead, dashAs, DashAt}
 use Rattle.parts.proofs.Sequence.{reads, fails}
 

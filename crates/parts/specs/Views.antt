@@ -2,13 +2,10 @@
 use Prim.Native.Nat.{ℕ, _-_, _≤_}
 use mathlib.Core.Path.{_≡_}
 use mathlib.Core.List.{List, []}
-use mathlib.Core.Bool.{Bool, true}
 use mathlib.Core.Option.{Option, none, some}
 use lib.ListN.{length, take, drop}
-use Rattle.rules.specs.Basic.{isSome}
 use Rattle.rules.specs.Utf8.{chars}
 use Rattle.rules.specs.Words as words
-use Rattle.rules.specs.Sheet as sheets
 use Rattle.rules.specs.Sheet.{unescape}
 use Rattle.rules.specs.Event as rules
 use Rattle.parts.specs.declared.Span.{Span}

@@ -1,13 +1,12 @@
 -- A line's first word, what follows it, and that nothing follows then.
 use Prim.Native.Nat.{ℕ, _+_, _≤_, _<_}
 use mathlib.Core.Path.{_≡_, refl, ap, sym, _∙_}
-use mathlib.Core.Bool.{Bool, true, false, not}
 use mathlib.Core.List.{List, [], _∷_}
 use mathlib.Core.Option.{Option, none, some}
 use native.Mathlib.Omega.{arith}
 use borrow.Author.Tests.{le-leb}
 use lib.ListN.{length}
-use Rattle.rules.specs.Basic.{pick, isSome, wordIn}
+use Rattle.rules.specs.Basic.{isSome, wordIn}
 use Rattle.rules.specs.Utf8.{isUtf8, firstFault}
 use Rattle.rules.specs.Sheet.{fieldsOf}
 use Rattle.rules.specs.Words as words

@@ -2,7 +2,7 @@
 use Prim.Native.Nat.{ℕ, suc, _+_, _-_, _≤_, _<_}
 use mathlib.Core.Path.{_≡_, refl, ap, sym, _∙_}
 use mathlib.Core.Bool.{Bool, true, false}
-use mathlib.Core.List.{List, [], _∷_}
+use mathlib.Core.List.{List, []}
 use mathlib.Core.Option.{Option, none, some}
 use native.Mathlib.Numerals.{add-one}
 use native.Mathlib.Omega.{arith}
@@ -11,11 +11,11 @@ use lib.Dec.{ltb}
 use lib.ListN.{length, take, drop, drop-of-length-le}
 use lib.Seq.{drop-cons}
 use Rattle.rules.specs.Basic.{pick, isEmpty, all}
-use Rattle.rules.specs.Sheet.{Lines, last, more, lines}
+use Rattle.rules.specs.Sheet.{Lines, last, lines}
 use Rattle.rules.specs.Event.{Event, spansOf}
 use Rattle.rules.specs.Read.{parseLine}
-use Rattle.rules.specs.Answer.{Reading, events, unread, withEvent, isGoodSpan, readLine, readFrom, readSheet}
-use Rattle.rules.proofs.Basics.{no-some}
+use Rattle.rules.specs.Answer.{Reading, events, unread, eventsOr, withEvent, isGoodSpan, readLine, readFrom, readSheet}
+use Rattle.rules.proofs.Basics.{no-some, some-inj}
 use Rattle.sheet.specs.declared.LineEnd.{LineEnd}
 use Rattle.sheet.specs.declared.LineEnd.the-variants.{At, Nothing}
 use Rattle.sheet.specs.Lines.{linesFrom, LineAt}
@@ -139,3 +139,27 @@ module _ {text bytes : List ℕ} {at number : ℕ} (w : Walking text bytes at nu
             most = omega arith;
             is = rw (add-one number) (sym (rest-none text number _ _ z) ∙ sym next ∙ w .is);
           }
+
+-- ---- what the answer for a sheet says of its reading
+events-of : (r : Reading) → none ≡ faultOf r → r ≡ events (eventsOr r)
+unfolding faultOf eventsOr
+events-of (events es) e = refl
+events-of (unread n l) e = no-some e
+
+unread-of : (r : Reading) {n l : ℕ} → some (n, l) ≡ faultOf r → r ≡ unread n l
+unfolding faultOf
+unread-of (events es) e = no-some (sym e)
+unread-of (unread m k) e =
+    let p = some-inj e in
+    let a = ap (λ (x : ℕ × ℕ). x .0) p in
+    let b = ap (λ (x : ℕ × ℕ). x .1) p in
+    rw (a, b)
+
+module _ {text bytes : List ℕ} where
+  pub sheet-good : SheetChecked text bytes sheet.Good → readSheet text bytes ≡ events (eventsOr (readSheet text bytes))
+  unfolding readAs
+  sheet-good c = events-of _ (c .is)
+
+  pub sheet-refused : {n l : ℕ} → SheetChecked text bytes (sheet.Refused n l) → readSheet text bytes ≡ unread n l
+  unfolding readAs
+  sheet-refused c = unread-of _ (c .is)

@@ -1,10 +1,9 @@
 -- A span, and spans one after the other.
 use Prim.Native.Nat.{ℕ, _≤_, _<_}
-use mathlib.Core.Path.{_≡_, refl, ap, sym, _∙_}
+use mathlib.Core.Path.{_≡_, refl, sym, _∙_}
 use mathlib.Core.Bool.{Bool, true, false, _&&_, not}
 use mathlib.Core.List.{List, [], _∷_, _++_}
 use borrow.Author.Tests.{le-leb, lt-leb}
-use lib.Dec.{leb}
 use lib.ListN.{length}
 use Rattle.rules.specs.Basic.{all}
 use Rattle.rules.specs.Utf8.{isInside}
@@ -15,10 +14,6 @@ use Rattle.parts.specs.Views.{spanIn}
 use Rattle.spans.specs.Goods.{Goods}
 
 -- ---- one span
-and-false : (a : Bool) → (a && false) ≡ false
-and-false true = refl
-and-false false = refl
-
 module _ (text : List ℕ) (s : View) where
   pub span-reversed : s .end < s .start → false ≡ isGoodSpan text (length text) (spanIn s)
   unfolding isGoodSpan spanIn

@@ -4,7 +4,7 @@ use mathlib.Core.Path.{ap}
 use Rattle.events.specs.Got.{blockGot}
 use Rattle.events.specs.Views.{eventIn, insideIn, EventWithin, InsideWithin}
 use Rattle.rules.specs.Read.{readEnd}
-use Rattle.parts.proofs.Sequence.{gives, reads, fails, good-of, step, stop}
+use Rattle.parts.proofs.Sequence.{gives, reads, fails, step, stop}
 use Rattle.events.proofs.read_end.Statement.{statement}
 use Rattle.events.proofs.read_end.Tie as tie
 use Rattle.events.proofs.read_end.Reads as reads

@@ -4,7 +4,7 @@ use mathlib.Core.Path.{ap}
 use Rattle.events.specs.Got.{blockGot}
 use Rattle.events.specs.Views.{eventIn, betweenIn, EventWithin, BetweenWithin}
 use Rattle.rules.specs.Read.{readStart}
-use Rattle.parts.proofs.Sequence.{gives, reads, fails, good-of, step, stop}
+use Rattle.parts.proofs.Sequence.{gives, reads, fails, step, stop}
 use Rattle.events.proofs.read_start.Statement.{statement}
 use Rattle.events.proofs.read_start.Tie as tie
 use Rattle.events.proofs.read_start.Reads as reads

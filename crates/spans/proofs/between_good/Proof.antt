@@ -1,7 +1,5 @@
 use borrow.Author.Needs.{needs}
 use native.Mathlib.Omega.{arith}
-use mathlib.Core.List.{List}
-use Prim.Native.Nat.{ℕ}
 use Rattle.events.specs.declared.Between.{Between}
 use Rattle.events.specs.Views.{betweenIn}
 use Rattle.parts.specs.Views.{textIn}

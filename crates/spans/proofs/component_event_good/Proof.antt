@@ -1,7 +1,5 @@
 use borrow.Author.Needs.{needs}
 use native.Mathlib.Omega.{arith}
-use mathlib.Core.List.{List}
-use Prim.Native.Nat.{ℕ}
 use Rattle.events.specs.declared.ComponentEvent.{ComponentEvent}
 use Rattle.events.specs.Views.{componentEventIn}
 use Rattle.rules.specs.Event.{componentSpans}

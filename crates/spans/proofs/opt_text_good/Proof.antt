@@ -1,7 +1,5 @@
 use borrow.Author.Needs.{needs}
 use native.Mathlib.Omega.{arith}
-use mathlib.Core.List.{List}
-use Prim.Native.Nat.{ℕ}
 use Rattle.parts.specs.declared.OptText.{OptText}
 use Rattle.parts.specs.Views.{textIn, optTextIn}
 use Rattle.rules.specs.Event.{textSpans}
