@@ -2,6 +2,8 @@ mod case;
 mod cases;
 mod fuzz;
 mod generate;
+mod limits;
+mod page;
 mod pass;
 mod plain;
 mod sheet;
@@ -45,7 +47,7 @@ fn batch(file: &str) -> Vec<u8> {
 /// Writes the fixed list.
 fn list() {
     std::fs::create_dir_all(answers()).unwrap();
-    let all = [cases::paper(), cases::decisions(), cases::chosen(240, 2026), cases::limits()];
+    let all = [cases::paper(), cases::decisions(), generate::chosen(240, 2026), cases::limits()];
     let mut counts = fuzz::Counts::default();
     for (file, cases) in FILES.iter().zip(all) {
         let mut out = Vec::new();
@@ -90,7 +92,7 @@ fn main() {
         ["batch", file] => batch(file),
         ["sample", n, seed] => {
             let mut out = Vec::new();
-            cases::chosen(n.parse().unwrap(), seed.parse().unwrap()).iter().for_each(|c| c.write(&mut out));
+            generate::chosen(n.parse().unwrap(), seed.parse().unwrap()).iter().for_each(|c| c.write(&mut out));
             out
         }
         ["list"] => {
