@@ -79,6 +79,13 @@ fn verify() -> Vec<u8> {
 
 fn main() {
     pass::quiet_panics();
+    if std::panic::catch_unwind(run).is_err() {
+        eprintln!("panic: {}", pass::last_panic());
+        std::process::exit(101)
+    }
+}
+
+fn run() {
     let args: Vec<String> = std::env::args().skip(1).collect();
     let words: Vec<&str> = args.iter().map(|s| s.as_str()).collect();
     let out = match words[..] {
