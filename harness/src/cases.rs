@@ -5,8 +5,8 @@
 //! `in=n:step:1`; `t name;..` (`-`: no name); `mode v`, `define v`, `dup v`, `key k=v` (meta); `sec name`, `sec-`; `w n`, `x n` (warning, error);
 //! or a line of the sheet with `|` for tab. Spans of the short form come from a row of pairs within ten bytes.
 use crate::case::{Case, ROOM};
-use crate::generate::{damaged, limit, recipe, Rng, LIMITS};
-use crate::pass::escape;
+use crate::limits::{limit, LIMITS};
+use crate::page::escape;
 
 struct Short {
     next: usize,
@@ -399,25 +399,6 @@ pub fn decisions() -> Vec<Case> {
     c.name = "room exactly the page".into();
     c.room = 34;
     add(c);
-    out
-}
-
-/// Realistic sheets and damaged copies, small, by chance.
-pub fn chosen(n: usize, seed: u64) -> Vec<Case> {
-    let mut rng = Rng(seed);
-    let mut out = Vec::new();
-    while out.len() < n {
-        let mut c = recipe(&mut rng, 5, 5);
-        let d = rng.chance(25);
-        if d {
-            c = damaged(&mut rng, &c);
-        }
-        let size = c.sheet.len() + c.text.len() + c.units.len();
-        if (200..1400).contains(&size) {
-            c.name = format!("{} {}", if d { "damaged" } else { "recipe" }, out.len());
-            out.push(c);
-        }
-    }
     out
 }
 

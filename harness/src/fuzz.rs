@@ -1,6 +1,7 @@
 //! Many sheets by chance, and what they reach.
 use crate::case::Case;
-use crate::generate::{damaged, limit, recipe, Rng, LIMITS};
+use crate::generate::{damaged, recipe, Rng};
+use crate::limits::{limit, LIMITS};
 use crate::pass::{collect, last_panic};
 use crate::plain::plain_form;
 use crate::sheet::Refusal;

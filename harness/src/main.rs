@@ -2,6 +2,8 @@ mod case;
 mod cases;
 mod fuzz;
 mod generate;
+mod limits;
+mod page;
 mod pass;
 mod plain;
 mod sheet;
@@ -45,7 +47,7 @@ fn batch(file: &str) -> Vec<u8> {
 /// Writes the fixed list.
 fn list() {
     std::fs::create_dir_all(answers()).unwrap();
-    let all = [cases::paper(), cases::decisions(), cases::chosen(240, 2026), cases::limits()];
+    let all = [cases::paper(), cases::decisions(), generate::chosen(240, 2026), cases::limits()];
     let mut counts = fuzz::Counts::default();
     for (file, cases) in FILES.iter().zip(all) {
         let mut out = Vec::new();
@@ -77,6 +79,13 @@ fn verify() -> Vec<u8> {
 
 fn main() {
     pass::quiet_panics();
+    if std::panic::catch_unwind(run).is_err() {
+        eprintln!("panic: {}", pass::last_panic());
+        std::process::exit(101)
+    }
+}
+
+fn run() {
     let args: Vec<String> = std::env::args().skip(1).collect();
     let words: Vec<&str> = args.iter().map(|s| s.as_str()).collect();
     let out = match words[..] {
@@ -90,7 +99,7 @@ fn main() {
         ["batch", file] => batch(file),
         ["sample", n, seed] => {
             let mut out = Vec::new();
-            cases::chosen(n.parse().unwrap(), seed.parse().unwrap()).iter().for_each(|c| c.write(&mut out));
+            generate::chosen(n.parse().unwrap(), seed.parse().unwrap()).iter().for_each(|c| c.write(&mut out));
             out
         }
         ["list"] => {

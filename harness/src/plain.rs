@@ -1,5 +1,6 @@
 //! The plain form, from document 01 and the Rust's own state and recipe.
-use crate::pass::{collect, escape, modifier_letters, Collected, Input};
+use crate::page::{escape, modifier_letters};
+use crate::pass::{collect, Collected, Input};
 use crate::sheet::{Component, Event, Kind, Refusal};
 use cooklang::model::{IngredientReferenceTarget, Recipe};
 use cooklang::parser::Modifiers;
