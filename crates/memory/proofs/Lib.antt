@@ -1,3 +1,4 @@
 pub mod Windows
 pub mod Whole
 pub mod Smalls
+pub mod Added

@@ -129,6 +129,7 @@ module _ {h r : Held} (named : Bool) (l : h .counts .sections < 100000) where
       rw e
       record {
         is = λ sheet w name q. begun sheet w (withSections (h .counts .sections + 1) h) named name q (stateIn sheet w h) (close-named sheet w h t);
+        fit = λ sheet w f. record { ingredients = f .ingredients; cookware = f .cookware };
         sound = λ w z. sound-next named (h .counts .sections + 1) (omega arith) z;
       }
 
@@ -137,6 +138,7 @@ module _ {h r : Held} (named : Bool) (l : h .counts .sections < 100000) where
       rw e
       record {
         is = λ sheet w name q₁. begun sheet w (withSections (h .counts .sections + 1) h) named name q₁ (stateIn sheet w h) (close-filled sheet w h t q);
+        fit = λ sheet w f. record { ingredients = f .ingredients; cookware = f .cookware };
         sound = λ w z. sound-next named (h .counts .sections + 1) (omega arith) z;
       }
 
@@ -145,6 +147,7 @@ module _ {h r : Held} (named : Bool) (l : h .counts .sections < 100000) where
       rw e
       record {
         is = λ sheet w name q₁. begun sheet w h named name q₁ (stateIn sheet w h) (close-empty sheet w h t q);
+        fit = λ sheet w f. record { ingredients = f .ingredients; cookware = f .cookware };
         sound = λ w z. sound-next named (h .counts .sections) (omega arith) z;
       }
 

@@ -17,13 +17,14 @@ use Rattle.rules.specs.Pass.{keepBlock}
 use Rattle.model.specs.Blank.{blank}
 use Rattle.model.specs.Rows.{rowWords, entryAs, entriesIn, notedWords, findingOf, findingsIn, blockOf, blocksIn, referrersIn}
 use Rattle.model.specs.Memory.{Windows, windowsOf, openOf, stateOf, stateIn, Room, Below, Sound}
+use Rattle.model.specs.Fits.{Fits, AllFit}
 use Rattle.model.specs.Small.{withBlock, withCounter, withHere, withBlocks, withIngredients, withCookware, withIngredientPairs, withCookwarePairs, withFindings}
 use Rattle.model.specs.declared.Open.the-variants.{Nothing}
 use Rattle.model.specs.declared.Row.{Row}
 use Rattle.model.specs.declared.Noted.{Noted}
 use Rattle.model.specs.declared.Held.{Held}
 use Rattle.model.proofs.Stores.{put-sets}
-use Rattle.model.proofs.Tables.{row-length, noted-length, entries-more, referrers-none, entries-referred, below-more, findings-more, blocks-more}
+use Rattle.model.proofs.Tables.{row-length, each-more, noted-length, entries-more, referrers-none, entries-referred, below-more, findings-more, blocks-more}
 use Rattle.memory.specs.Pushes.{RowPushed, PairPushed, FindingPushed, BlockKept}
 use Rattle.memory.proofs.Windows.{in-ingredients, in-cookware, in-ingredientPairs, in-cookwarePairs, in-findings, in-kinds}
 
@@ -109,12 +110,20 @@ module _ {w : List ℕ} {h : Held} (z : Sound w h) (r : Row) (l : h .counts .ing
         cookware = rw (in-ingredients w (h .counts .ingredients * 12) (rowWords r) ingredient-fits) (z .cookware);
       }
 
+  ingredient-fit : (sheet : List ℕ) → AllFit sheet w h → Fits ingredient sheet r → AllFit sheet (sets w (0 + h .counts .ingredients * 12) (rowWords r)) (withIngredients (h .counts .ingredients + 1) h)
+  ingredient-fit sheet f x =
+      rw (add-one (h .counts .ingredients))
+      record {
+        ingredients = rw (in-ingredients w (h .counts .ingredients * 12) (rowWords r) ingredient-fits) (each-more (Fits ingredient sheet) (windowsOf w .ingredients) (h .counts .ingredients) r (f .ingredients) x (omega (arith, long-ingredients z)));
+        cookware = rw (in-ingredients w (h .counts .ingredients * 12) (rowWords r) ingredient-fits) (f .cookware);
+      }
+
   -- a row stored in the window that was lent
   pub ingredient-pushed : (p : List ℕ) → p ≡ sets (midOf 0 6156 w) (h .counts .ingredients * 12) (rowWords r)
       → RowPushed ingredient w h r (putMid 0 6156 w p) (withIngredients (h .counts .ingredients + 1) h)
   ingredient-pushed p e =
       let q : putMid 0 6156 w p ≡ sets w (0 + h .counts .ingredients * 12) (rowWords r) = ap (putMid 0 6156 w) e ∙ put-sets 0 6156 w (h .counts .ingredients * 12) (rowWords r) ingredient-fits in
-      record { words = q; held = refl; is = λ sheet. rw q (ingredient-is sheet); sound = rw q ingredient-sound }
+      record { words = q; held = refl; is = λ sheet. rw q (ingredient-is sheet); fit = λ sheet f x. rw q (ingredient-fit sheet f x); sound = rw q ingredient-sound }
 
 module _ {w : List ℕ} {h : Held} (z : Sound w h) (r : Row) (l : h .counts .cookware < 257) where
   cookware-fits : h .counts .cookware * 12 + length (rowWords r) ≤ 3084
@@ -140,12 +149,20 @@ module _ {w : List ℕ} {h : Held} (z : Sound w h) (r : Row) (l : h .counts .coo
         cookware = rw (in-cookware w (h .counts .cookware * 12) (rowWords r) cookware-fits) (below-suc (z .cookware));
       }
 
+  cookware-fit : (sheet : List ℕ) → AllFit sheet w h → Fits cookware sheet r → AllFit sheet (sets w (6156 + h .counts .cookware * 12) (rowWords r)) (withCookware (h .counts .cookware + 1) h)
+  cookware-fit sheet f x =
+      rw (add-one (h .counts .cookware))
+      record {
+        ingredients = rw (in-cookware w (h .counts .cookware * 12) (rowWords r) cookware-fits) (f .ingredients);
+        cookware = rw (in-cookware w (h .counts .cookware * 12) (rowWords r) cookware-fits) (each-more (Fits cookware sheet) (windowsOf w .cookware) (h .counts .cookware) r (f .cookware) x (omega (arith, long-cookware z)));
+      }
+
   -- a row stored in the window that was lent
   pub cookware-pushed : (p : List ℕ) → p ≡ sets (midOf 6156 3084 w) (h .counts .cookware * 12) (rowWords r)
       → RowPushed cookware w h r (putMid 6156 3084 w p) (withCookware (h .counts .cookware + 1) h)
   cookware-pushed p e =
       let q : putMid 6156 3084 w p ≡ sets w (6156 + h .counts .cookware * 12) (rowWords r) = ap (putMid 6156 3084 w) e ∙ put-sets 6156 3084 w (h .counts .cookware * 12) (rowWords r) cookware-fits in
-      record { words = q; held = refl; is = λ sheet. rw q (cookware-is sheet); sound = rw q cookware-sound }
+      record { words = q; held = refl; is = λ sheet. rw q (cookware-is sheet); fit = λ sheet f x. rw q (cookware-fit sheet f x); sound = rw q cookware-sound }
 
 -- ---- a referrer more
 
@@ -175,11 +192,18 @@ module _ {w : List ℕ} {h : Held} (z : Sound w h) (d r : ℕ) (l : h .counts .�
         cookware = rw (in-ingredientPairs w (h .counts .«ingredient_pairs» * 2) (d ∷ r ∷ []) ingredient-pair-fits) (z .cookware);
       }
 
+  ingredient-pair-fit : (sheet : List ℕ) → AllFit sheet w h → AllFit sheet (sets w (9240 + h .counts .«ingredient_pairs» * 2) (d ∷ r ∷ [])) (withIngredientPairs (h .counts .«ingredient_pairs» + 1) h)
+  ingredient-pair-fit sheet f =
+      record {
+        ingredients = rw (in-ingredientPairs w (h .counts .«ingredient_pairs» * 2) (d ∷ r ∷ []) ingredient-pair-fits) (f .ingredients);
+        cookware = rw (in-ingredientPairs w (h .counts .«ingredient_pairs» * 2) (d ∷ r ∷ []) ingredient-pair-fits) (f .cookware);
+      }
+
   pub ingredient-referred : (p : List ℕ) → p ≡ sets (midOf 9240 1026 w) (h .counts .«ingredient_pairs» * 2) (d ∷ r ∷ [])
       → PairPushed ingredient w h d r (putMid 9240 1026 w p) (withIngredientPairs (h .counts .«ingredient_pairs» + 1) h)
   ingredient-referred p e =
       let q : putMid 9240 1026 w p ≡ sets w (9240 + h .counts .«ingredient_pairs» * 2) (d ∷ r ∷ []) = ap (putMid 9240 1026 w) e ∙ put-sets 9240 1026 w (h .counts .«ingredient_pairs» * 2) (d ∷ r ∷ []) ingredient-pair-fits in
-      record { words = q; held = refl; is = λ sheet. rw q (ingredient-pair-is sheet); sound = rw q ingredient-pair-sound }
+      record { words = q; held = refl; is = λ sheet. rw q (ingredient-pair-is sheet); fit = λ sheet f. rw q (ingredient-pair-fit sheet f); sound = rw q ingredient-pair-sound }
 
 module _ {w : List ℕ} {h : Held} (z : Sound w h) (d r : ℕ) (l : h .counts .«cookware_pairs» < h .counts .cookware) (g : d < h .counts .cookware) where
   cookware-pair-fits : h .counts .«cookware_pairs» * 2 + length (d ∷ r ∷ []) ≤ 514
@@ -207,11 +231,18 @@ module _ {w : List ℕ} {h : Held} (z : Sound w h) (d r : ℕ) (l : h .counts .�
         ingredients = rw (in-cookwarePairs w (h .counts .«cookware_pairs» * 2) (d ∷ r ∷ []) cookware-pair-fits) (z .ingredients);
       }
 
+  cookware-pair-fit : (sheet : List ℕ) → AllFit sheet w h → AllFit sheet (sets w (10266 + h .counts .«cookware_pairs» * 2) (d ∷ r ∷ [])) (withCookwarePairs (h .counts .«cookware_pairs» + 1) h)
+  cookware-pair-fit sheet f =
+      record {
+        ingredients = rw (in-cookwarePairs w (h .counts .«cookware_pairs» * 2) (d ∷ r ∷ []) cookware-pair-fits) (f .ingredients);
+        cookware = rw (in-cookwarePairs w (h .counts .«cookware_pairs» * 2) (d ∷ r ∷ []) cookware-pair-fits) (f .cookware);
+      }
+
   pub cookware-referred : (p : List ℕ) → p ≡ sets (midOf 10266 514 w) (h .counts .«cookware_pairs» * 2) (d ∷ r ∷ [])
       → PairPushed cookware w h d r (putMid 10266 514 w p) (withCookwarePairs (h .counts .«cookware_pairs» + 1) h)
   cookware-referred p e =
       let q : putMid 10266 514 w p ≡ sets w (10266 + h .counts .«cookware_pairs» * 2) (d ∷ r ∷ []) = ap (putMid 10266 514 w) e ∙ put-sets 10266 514 w (h .counts .«cookware_pairs» * 2) (d ∷ r ∷ []) cookware-pair-fits in
-      record { words = q; held = refl; is = λ sheet. rw q (cookware-pair-is sheet); sound = rw q cookware-pair-sound }
+      record { words = q; held = refl; is = λ sheet. rw q (cookware-pair-is sheet); fit = λ sheet f. rw q (cookware-pair-fit sheet f); sound = rw q cookware-pair-sound }
 
 -- ---- a finding more
 
@@ -238,11 +269,18 @@ module _ {w : List ℕ} {h : Held} (z : Sound w h) (x : Noted) (l : h .counts .f
         cookware = rw (in-findings w (h .counts .findings * 8) (notedWords x) finding-fits) (z .cookware);
       }
 
+  finding-fit : (sheet : List ℕ) → AllFit sheet w h → AllFit sheet (sets w (10780 + h .counts .findings * 8) (notedWords x)) (withFindings (h .counts .findings + 1) h)
+  finding-fit sheet f =
+      record {
+        ingredients = rw (in-findings w (h .counts .findings * 8) (notedWords x) finding-fits) (f .ingredients);
+        cookware = rw (in-findings w (h .counts .findings * 8) (notedWords x) finding-fits) (f .cookware);
+      }
+
   pub finding-pushed : (p : List ℕ) → p ≡ sets (midOf 10780 12352 w) (h .counts .findings * 8) (notedWords x)
       → FindingPushed w h x (putMid 10780 12352 w p) (withFindings (h .counts .findings + 1) h)
   finding-pushed p e =
       let q : putMid 10780 12352 w p ≡ sets w (10780 + h .counts .findings * 8) (notedWords x) = ap (putMid 10780 12352 w) e ∙ put-sets 10780 12352 w (h .counts .findings * 8) (notedWords x) finding-fits in
-      record { words = q; held = refl; is = λ sheet. rw q (finding-is sheet); sound = rw q finding-sound }
+      record { words = q; held = refl; is = λ sheet. rw q (finding-is sheet); fit = λ sheet f. rw q (finding-fit sheet f); sound = rw q finding-sound }
 
 -- ---- a block more
 
@@ -272,7 +310,14 @@ module _ {w : List ℕ} {h : Held} (z : Sound w h) (v c : ℕ) (l : h .counts .h
         cookware = rw (in-kinds w (h .counts .here) (v ∷ []) block-fits) (z .cookware);
       }
 
+  block-fit : (sheet : List ℕ) → AllFit sheet w h → AllFit sheet (sets w (23132 + h .counts .here) (v ∷ [])) (kept c h)
+  block-fit sheet f =
+      record {
+        ingredients = rw (in-kinds w (h .counts .here) (v ∷ []) block-fits) (f .ingredients);
+        cookware = rw (in-kinds w (h .counts .here) (v ∷ []) block-fits) (f .cookware);
+      }
+
   pub block-kept : (p : List ℕ) → p ≡ set (midOf 23132 1025 w) (h .counts .here) v → {r : Held} → r ≡ kept c h → BlockKept w h v c (putMid 23132 1025 w p) r
   block-kept p e {r} f =
       let q : putMid 23132 1025 w p ≡ sets w (23132 + h .counts .here) (v ∷ []) = ap (putMid 23132 1025 w) e ∙ put-sets 23132 1025 w (h .counts .here) (v ∷ []) block-fits in
-      record { words = q; held = f; is = λ sheet. rw (q, f) (block-is sheet); sound = rw (q, f) block-sound }
+      record { words = q; held = f; is = λ sheet. rw (q, f) (block-is sheet); fit = λ sheet g. rw (q, f) (block-fit sheet g); sound = rw (q, f) block-sound }

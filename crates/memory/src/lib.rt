@@ -6,10 +6,11 @@ ghost use Rattle.rules.specs.Model.{ingredient, cookware};
 ghost use Rattle.model.specs.Memory.{firstHeld, Sound};
 ghost use Rattle.model.specs.Small.{withCounts, withNamed, withBlock};
 ghost use Rattle.model.specs.declared.Open.the-variants.{Nothing};
-ghost use Rattle.memory.specs.Pushes.{RowPushed, PairPushed, FindingPushed, BlockKept, SectionBegun, OverLimits};
+ghost use Rattle.memory.specs.Pushes.{RowPushed, PairPushed, ComponentAdded, FoundBelow, FindingPushed, BlockKept, SectionBegun, OverLimits};
 use model::Counts;
 use model::Define;
 use model::Duplicate;
+use model::Found;
 use model::Held;
 use model::Noted;
 use model::Open;
@@ -84,6 +85,31 @@ pub fn refer_cookware(words: &mut [u32], mut h: Held, definition: u32, referrer:
     let more = n + 1;
     h.counts.cookware_pairs = more;
     h
+}
+
+// A component, and with it the referrer of what it refers to.
+pub fn add_ingredient(words: &mut [u32], h: Held, row: Row, to: Found) -> Held
+    requires { ⌜ Sound (now words) h × (h .counts .ingredients < 513) × FoundBelow to (h .counts .ingredients) ⌝ }
+    ensures { λ r. ⌜ ComponentAdded ingredient (now (words .entry)) h row to (now (words .exit)) r ⌝ }
+{
+    let n = h.counts.ingredients;
+    let more = push_ingredient(words, h, row);
+    match to {
+        Found::Nothing => more,
+        Found::At(d) => refer_ingredient(words, more, d, n as u32),
+    }
+}
+
+pub fn add_cookware(words: &mut [u32], h: Held, row: Row, to: Found) -> Held
+    requires { ⌜ Sound (now words) h × (h .counts .cookware < 257) × FoundBelow to (h .counts .cookware) ⌝ }
+    ensures { λ r. ⌜ ComponentAdded cookware (now (words .entry)) h row to (now (words .exit)) r ⌝ }
+{
+    let n = h.counts.cookware;
+    let more = push_cookware(words, h, row);
+    match to {
+        Found::Nothing => more,
+        Found::At(d) => refer_cookware(words, more, d, n as u32),
+    }
 }
 
 pub fn push_finding(words: &mut [u32], mut h: Held, x: Noted) -> Held
