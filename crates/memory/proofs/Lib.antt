@@ -2,3 +2,5 @@ pub mod Windows
 pub mod Whole
 pub mod Smalls
 pub mod Added
+pub mod Bounds
+pub mod Endings

@@ -2,23 +2,25 @@
 use Prim.Native.Nat.{ℕ, _+_, _*_, _<_}
 use mathlib.Core.Path.{_≡_}
 use mathlib.Core.List.{List, [], _∷_}
-use mathlib.Core.Bool.{Bool}
+use mathlib.Core.Bool.{Bool, true, false}
 use mathlib.Core.Option.{Option, none, some}
 use lib.ListN.{length}
+use lib.Dec.{eqb}
 use lib.Seq.{sets}
-use Rattle.rules.specs.Basic.{isSome}
+use Rattle.rules.specs.Basic.{pick, isSome}
 use Rattle.rules.specs.Event.{Text}
 use Rattle.rules.specs.Model.{Kind, ingredient, cookware, Entry}
 use Rattle.rules.specs.Reference.{setReferencedFrom}
-use Rattle.rules.specs.State.{tableOf, setTable, report, overLimits}
-use Rattle.rules.specs.Pass.{keepBlock, onSection}
-use Rattle.model.specs.Blank.{blank}
+use Rattle.rules.specs.State.{tableOf, setTable, report, overLimits, going}
+use Rattle.rules.specs.Pass.{keepBlock, onSection, finish}
+use Rattle.model.specs.Blank.{blank, refusalOf}
 use Rattle.model.specs.Rows.{rowWords, entryAs, notedWords, findingOf, blockOf}
 use Rattle.model.specs.Memory.{stateIn, Sound}
 use Rattle.model.specs.Fits.{Fits, AllFit}
 use Rattle.model.specs.Contracts.{foundOf}
 use Rattle.model.specs.Small.{withBlock, withCounter, withHere, withBlocks, withIngredients, withCookware, withIngredientPairs, withCookwarePairs, withFindings}
-use Rattle.model.specs.declared.Open.the-variants.{Nothing}
+use Rattle.model.specs.declared.Open.{Open}
+use Rattle.model.specs.declared.Open.the-variants.{Nothing, Step, Text as TextBlock, TextMode}
 use Rattle.model.specs.declared.Found.{Found}
 use Rattle.model.specs.declared.Found.the-variants.{At, Nothing as Absent}
 use Rattle.model.specs.declared.Row.{Row}
@@ -92,6 +94,16 @@ pub record SectionBegun (h₀ : Held) (named : Bool) (h : Held) : Type 0 where
 
 pub record OverLimits (h : Held) (r : Bool) : Type 0 where
   pub is : (sheet w : List ℕ) → r ≡ overLimits (stateIn sheet w h)
+
+-- what the end of the pass refuses: 0 nothing, 19 a block is open, 17 a limit is passed
+pub record EndRefused (h : Held) (r : ℕ) : Type 0 where
+  pub is : (sheet w : List ℕ) → refusalOf (finish (going (stateIn sheet w h))) ≡ pick (eqb r 0) none (some (r, 0))
+
+abbrev pub isOpenBlock : Open → Bool
+isOpenBlock Nothing = false
+isOpenBlock Step = true
+isOpenBlock TextBlock = true
+isOpenBlock TextMode = true
 
 -- ---- a component, and with it the referrer of what it refers to (`pushed` of the rules)
 

@@ -6,7 +6,7 @@ ghost use Rattle.rules.specs.Model.{ingredient, cookware};
 ghost use Rattle.model.specs.Memory.{firstHeld, Sound};
 ghost use Rattle.model.specs.Small.{withCounts, withNamed, withBlock};
 ghost use Rattle.model.specs.declared.Open.the-variants.{Nothing};
-ghost use Rattle.memory.specs.Pushes.{RowPushed, PairPushed, ComponentAdded, FoundBelow, FindingPushed, BlockKept, SectionBegun, OverLimits};
+ghost use Rattle.memory.specs.Pushes.{RowPushed, PairPushed, ComponentAdded, FoundBelow, FindingPushed, BlockKept, SectionBegun, OverLimits, EndRefused, isOpenBlock};
 use model::Counts;
 use model::Define;
 use model::Duplicate;
@@ -217,4 +217,39 @@ pub fn over_limits(h: Held) -> bool
         return true;
     }
     1024 < h.counts.findings
+}
+
+pub fn is_open(b: Open) -> bool
+    ensures { λ r. ⌜ r ≡ isOpenBlock b ⌝ }
+{
+    match b {
+        Open::Nothing => false,
+        Open::Step => true,
+        Open::Text => true,
+        Open::TextMode => true,
+    }
+}
+
+// What the end refuses: 19 where a block is open, 17 where the last section or finding 3 passes a limit, else 0.
+pub fn end_refusal(h: Held) -> u32
+    requires { ⌜ (h .counts .sections < 100000) × (h .counts .findings < 100000) ⌝ }
+    ensures { λ r. ⌜ EndRefused h r ⌝ }
+{
+    let block = h.block;
+    if is_open(block) {
+        return 19;
+    }
+    let mut g = begin_section(h, false);
+    if h.counts.old == 0 {
+        if over_limits(g) {
+            return 17;
+        }
+        return 0;
+    }
+    let more = h.counts.findings + 1;
+    g.counts.findings = more;
+    if over_limits(g) {
+        return 17;
+    }
+    0
 }

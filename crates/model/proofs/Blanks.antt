@@ -95,7 +95,7 @@ pub over-blank : (st : State) → overLimits (blank st) ≡ overLimits st
 unfolding overLimits blank blankKept blankTables
 over-blank st = simp (length-replicate)
 
-open-blank : (o : Open) → isOpen (blankOpen o) ≡ isOpen o
+pub open-blank : (o : Open) → isOpen (blankOpen o) ≡ isOpen o
 unfolding isOpen blankOpen
 open-blank noBlock = refl
 open-blank (stepOpen is) = refl
@@ -148,7 +148,7 @@ blank-place p a = refl
 set-place : (p : Place) (a b : State) → blank a ≡ blank b → blank (setPlace p a) ≡ blank (setPlace p b)
 set-place p a b e = blank-place p a ∙ ap (setPlace (blankPlace p)) e ∙ sym (blank-place p b)
 
-close-section : (st : State) → blank (closeSection st) ≡ blank (closeSection (blank st))
+pub close-section : (st : State) → blank (closeSection st) ≡ blank (closeSection (blank st))
 unfolding closeSection blank blankPlace blankMetadata blankKept blankTables setKept
 close-section st = rw (empty-section (st .place)) (go (isEmptySection (st .place .section)))
   where

@@ -20,9 +20,6 @@ use Rattle.model.specs.declared.Row.{Row}
 -- ---- the parts of an entry
 
 module _ (k : Kind) (sheet : List ℕ) (r : Row) (by : List ℕ) where
-  abbrev made : Entry
-  made = entryOf k true (componentOfLine k (slice (r .«line_at») (r .«line_end») sheet))
-
   pub entry-modifiers : entryAs k sheet r by .modifiers ≡ modifiersIn r
   unfolding entryAs setRelation setModifiers
   entry-modifiers = refl

@@ -4,3 +4,4 @@ pub mod Tables
 pub mod Searches
 pub mod Parts
 pub mod Entries
+pub mod Ends

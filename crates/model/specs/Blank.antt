@@ -7,7 +7,7 @@ use lib.ListN.{length, replicate}
 use Rattle.rules.specs.Basic.{each}
 use Rattle.rules.specs.Event.{Span}
 use Rattle.rules.specs.Model.{Timer, InlineQuantity, Block, stepBlock, textBlock, Section}
-use Rattle.rules.specs.State.{Open, noBlock, stepOpen, textOpen, textModeOpen, Place, Metadata, Tables, Kept, State, Step, next, stop, Walk, going, failed, refused}
+use Rattle.rules.specs.State.{Open, noBlock, stepOpen, textOpen, textModeOpen, Place, Metadata, Tables, Kept, State, Step, next, stop, Walk, going, failed, refused, Outcome, recipe, noRecipe, refusal}
 
 unfoldable pub blankSpan : Span
 blankSpan = record { start = 0; end = 0 }
@@ -77,3 +77,9 @@ unfoldable pub blankWalk : Walk → Walk
 blankWalk (going st) = going (blank st)
 blankWalk (failed fs) = failed fs
 blankWalk (refused n l) = refused n l
+
+-- the refusal of an outcome, its number and line
+unfoldable pub refusalOf : Outcome → Option (ℕ × ℕ)
+refusalOf (recipe st) = none
+refusalOf (noRecipe fs) = none
+refusalOf (refusal n l) = some (n, l)
