@@ -1,7 +1,7 @@
 -- The texts that the writers write, piece by piece.
 use Prim.Native.Nat.{ℕ, suc, _+_, _/_, _%_, _^_, _≤_, _<_}
 use mathlib.Core.Path.{_≡_, refl, ap, sym, _∙_}
-use mathlib.Core.List.{List, [], _∷_, _++_, append-assoc}
+use mathlib.Core.List.{List, [], _∷_, _++_, append-assoc, append-nil}
 use native.Mathlib.Numerals.{add-one}
 use native.Mathlib.Omega.{arith}
 use borrow.Author.Tests.{eq-eqb, ne-eqb}
@@ -10,7 +10,7 @@ use lib.Seq.{drop-cons}
 use Rattle.rules.specs.Basic.{codes, tab, lf, joinBy, each, decimal}
 use Rattle.rules.specs.Sheet.{escapeChar, escape, lineOf, refusedLine}
 use Rattle.rules.proofs.Numbers.{decimal-one, decimal-more, escape-decimal}
-use Rattle.output.specs.Put.{Put}
+use Rattle.output.specs.Put.{Put, tabbed}
 use Rattle.output.proofs.Puts.{put-seq}
 
 -- the same writing, its text said otherwise
@@ -56,10 +56,37 @@ pub escape-none : (f : List ℕ) (i : ℕ) → length f ≤ i → escape (drop i
 unfolding escape
 escape-none f i h = rw (drop-of-length-le f h)
 
--- ---- the line of a refusal
-three-fields : (a b c : List ℕ) → (a ++ (tab ∷ (b ++ (tab ∷ c)))) ++ (lf ∷ []) ≡ a ++ (tab ∷ []) ++ b ++ (tab ∷ []) ++ c ++ (lf ∷ [])
-three-fields a b c = simp append-assoc
+-- ---- the fields of a line
+join-tabbed : (f : List ℕ) (fs : List (List ℕ)) → joinBy tab (each escape (f ∷ fs)) ≡ escape f ++ tabbed fs
+unfolding joinBy each tabbed
+join-tabbed f [] = rw append-nil
+join-tabbed f (g ∷ fs) = rw (join-tabbed g fs)
 
-pub refused-is : (n l : ℕ) → refusedLine n l ≡ codes "refused" ++ (tab ∷ []) ++ decimal n ++ (tab ∷ []) ++ decimal l ++ (lf ∷ [])
-unfolding refusedLine lineOf joinBy each escape escapeChar
-refused-is n l = rw (escape-decimal n, escape-decimal l) (three-fields (codes "refused") (decimal n) (decimal l))
+pub line-tabbed : (f : List ℕ) (fs : List (List ℕ)) → lineOf (f ∷ fs) ≡ escape f ++ tabbed fs ++ (lf ∷ [])
+unfolding lineOf
+line-tabbed f fs = rw (join-tabbed f fs)
+
+pub tabbed-both : (fs gs : List (List ℕ)) → tabbed (fs ++ gs) ≡ tabbed fs ++ tabbed gs
+unfolding tabbed
+tabbed-both [] gs = refl
+tabbed-both (f ∷ fs) gs = rw (tabbed-both fs gs, append-assoc)
+
+pub tabbed-one : (f : List ℕ) → tabbed (f ∷ []) ≡ (tab ∷ []) ++ escape f
+unfolding tabbed
+tabbed-one f = rw append-nil
+
+pub tabbed-number : (n : ℕ) → tabbed (decimal n ∷ []) ≡ (tab ∷ []) ++ decimal n
+tabbed-number n = tabbed-one (decimal n) ∙ rw (escape-decimal n)
+
+-- fields after fields
+pub put-fields : {o₀ o₁ o₂ : List ℕ} {at n r : ℕ} (fs gs : List (List ℕ)) → Put (tabbed fs) o₀ at o₁ n → Put (tabbed gs) o₁ n o₂ r → Put (tabbed (fs ++ gs)) o₀ at o₂ r
+put-fields fs gs p q = rw (tabbed-both fs gs) (put-seq p q)
+
+-- a line: its first field, the others, and the LF
+pub put-line : {o₀ o₁ o₂ o₃ : List ℕ} {at m n r : ℕ} (f : List ℕ) (fs : List (List ℕ)) → Put (escape f) o₀ at o₁ m → Put (tabbed fs) o₁ m o₂ n → Put (lf ∷ []) o₂ n o₃ r → Put (lineOf (f ∷ fs)) o₀ at o₃ r
+put-line f fs p q e = rw (line-tabbed f fs) (put-seq (put-seq p q) e)
+
+-- the line of a refusal
+pub put-refused : {o₀ o₁ o₂ o₃ o₄ : List ℕ} {at m n k r : ℕ} (number line : ℕ) → Put (codes "refused") o₀ at o₁ m → Put (tabbed (decimal number ∷ [])) o₁ m o₂ n → Put (tabbed (decimal line ∷ [])) o₂ n o₃ k → Put (lf ∷ []) o₃ k o₄ r → Put (refusedLine number line) o₀ at o₄ r
+unfolding refusedLine escape escapeChar
+put-refused number line p q s e = put-line (codes "refused") (decimal number ∷ decimal line ∷ []) p (put-fields (decimal number ∷ []) (decimal line ∷ []) q s) e

@@ -4,7 +4,8 @@ use mathlib.Core.Path.{_≡_}
 use mathlib.Core.List.{List, [], _∷_, _++_}
 use lib.Dec.{leb}
 use lib.ListN.{length, take, drop}
-use Rattle.rules.specs.Basic.{pick}
+use Rattle.rules.specs.Basic.{pick, tab}
+use Rattle.rules.specs.Sheet.{escape}
 
 -- w written over the front of o, as far as o goes
 unfoldable pub over : List ℕ → List ℕ → List ℕ
@@ -24,3 +25,8 @@ after at k m = pick (leb (at + k) m) (at + k) (m + 1)
 pub record Put (w o₀ : List ℕ) (at : ℕ) (o : List ℕ) (r : ℕ) : Type 0 where
   pub bytes : o ≡ overAt at w o₀
   pub next : r ≡ after at (length w) (length o₀)
+
+-- the fields of a page line after its first: each is escaped and stands after a tab
+unfoldable pub tabbed : List (List ℕ) → List ℕ
+tabbed [] = []
+tabbed (f ∷ fs) = tab ∷ (escape f ++ tabbed fs)

@@ -3,7 +3,7 @@
 ghost use mathlib.Core.List.{[], _∷_};
 ghost use Rattle.rules.specs.Basic.{decimal};
 ghost use Rattle.rules.specs.Sheet.{escapeChar, escape, refusedLine};
-ghost use Rattle.output.specs.Put.{Put};
+ghost use Rattle.output.specs.Put.{Put, tabbed};
 
 pub fn put_byte(out: &mut [u8], at: usize, b: u8) -> usize
     ensures { λ r. ⌜ Put (b ∷ []) (now (out .entry)) at (now (out .exit)) r ⌝ }
@@ -68,17 +68,31 @@ pub fn put_escaped(out: &mut [u8], at: usize, f: &[u8]) -> usize
     if n <= out.len() { n } else { out.len() + 1 }
 }
 
+// A further field of a line: a tab and the field, escaped.
+pub fn put_field(out: &mut [u8], at: usize, f: &[u8]) -> usize
+    ensures { λ r. ⌜ Put (tabbed (now (f .entry) ∷ [])) (now (out .entry)) at (now (out .exit)) r ⌝ }
+{
+    let n = put_byte(out, at, b'\t');
+    put_escaped(out, n, f)
+}
+
+// A further field that is a number.
+pub fn put_number(out: &mut [u8], at: usize, n: u32) -> usize
+    ensures { λ r. ⌜ Put (tabbed (decimal n ∷ [])) (now (out .entry)) at (now (out .exit)) r ⌝ }
+{
+    let m = put_byte(out, at, b'\t');
+    put_decimal(out, m, n)
+}
+
 // The line of a refusal at the front of the unwritten rest of the output: how many bytes it took, or one more than
 // the rest has where it does not fit.
 pub fn write_refusal(rest: &mut [u8], number: u32, line: u32) -> usize
     ensures { λ r. ⌜ Put (refusedLine number line) (now (rest .entry)) 0 (now (rest .exit)) r ⌝ }
 {
     let a = put_bytes(rest, 0, b"refused");
-    let b = put_byte(rest, a, b'\t');
-    let c = put_decimal(rest, b, number);
-    let d = put_byte(rest, c, b'\t');
-    let e = put_decimal(rest, d, line);
-    put_byte(rest, e, b'\n')
+    let b = put_number(rest, a, number);
+    let c = put_number(rest, b, line);
+    put_byte(rest, c, b'\n')
 }
 
 // The same at a position of the output: the rest from there on is lent.

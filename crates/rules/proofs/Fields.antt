@@ -197,11 +197,22 @@ split-without b [] = all-more without-none all-none
 split-without b (x ∷ l) =
     pick-either (AllWithout b) (eqb x b) _ _ (λ e. all-more without-none (split-without b l)) (λ n. first-without x (splitAt b l) n (split-without b l))
 
+-- nor any byte that the whole did not hold
+pub split-keeps : (b : ℕ) {c : ℕ} {l : List ℕ} → Without c l → AllWithout c (splitAt b l)
+unfolding splitAt
+split-keeps b without-none = all-more without-none all-none
+split-keeps b {c} (without-more {c = x} {s = l} q h) =
+    pick-either (AllWithout c) (eqb x b) _ _ (λ e. all-more without-none (split-keeps b h)) (λ n. first-without x (splitAt b l) q (split-keeps b h))
+
 -- escaped fields, as a page has them
 pub all-escaped : (fs : List (List ℕ)) → AllWithout tab (each escape fs)
 unfolding each
 all-escaped [] = all-none
 all-escaped (f ∷ fs) = all-more (escape-no-tab f) (all-escaped fs)
+
+pub split-escaped : (f : List ℕ) (fs : List (List ℕ)) → fieldsOf (joinBy tab (each escape (f ∷ fs))) ≡ each escape (f ∷ fs)
+unfolding each
+split-escaped f fs = split-join (all-more (escape-no-tab f) (all-escaped fs))
 
 pub join-no-lf : (fs : List (List ℕ)) → Without lf (joinBy tab (each escape fs))
 unfolding joinBy each
@@ -220,6 +231,23 @@ pub lines-last : {l : List ℕ} → Without lf l → lines l ≡ last l
 unfolding lines onLine
 lines-last without-none = refl
 lines-last (without-more q h) = rw (q, lines-last h)
+
+-- every line, the unended one too, has the property P
+pub data EachLine (P : List ℕ → Type 0) : Lines → Type 0 where
+  each-last : {l : List ℕ} → P l → EachLine P (last l)
+  each-more : {l : List ℕ} {ls : Lines} → P l → EachLine P ls → EachLine P (more l ls)
+
+on-line-without : (b : ℕ) {ls : Lines} → eqb b lf ≡ false → EachLine (Without lf) ls → EachLine (Without lf) (onLine b ls)
+unfolding onLine
+on-line-without b q (each-last h) = each-last (without-more q h)
+on-line-without b q (each-more h hs) = each-more (without-more q h) hs
+
+-- no line holds an LF
+pub lines-without : (s : List ℕ) → EachLine (Without lf) (lines s)
+unfolding lines
+lines-without [] = each-last without-none
+lines-without (b ∷ r) =
+    pick-either (EachLine (Without lf)) (eqb b lf) _ _ (λ e. each-more without-none (lines-without r)) (λ n. on-line-without b n (lines-without r))
 
 -- the line of some fields is one line
 pub lines-line : (fs : List (List ℕ)) (r : List ℕ) → lines (lineOf fs ++ r) ≡ more (joinBy tab (each escape fs)) (lines r)

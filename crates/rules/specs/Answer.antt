@@ -79,13 +79,17 @@ pub record Lent : Type 0 where
 
 -- "work memory shorter than the sizes in docs/, which the limits alone fix" (docs/MEMORY.md)
 unfoldable pub wordsNeeded : ℕ
-wordsNeeded = 65536
+wordsNeeded = 24157
 
 unfoldable pub bytesNeeded : ℕ
-bytesNeeded = 262144
+bytesNeeded = 65536
 
 unfoldable pub isShort : Lent → Bool
 isShort m = ltb (m .words) wordsNeeded || ltb (m .bytes) bytesNeeded
+
+-- memory enough for any form, which has at most 65,536 bytes, and for the page of a small sheet
+abbrev pub enough : Lent
+enough = record { words = wordsNeeded; bytes = bytesNeeded; room = 65536 }
 
 -- "20 answer longer than the space lent"
 unfoldable pub handOut : ℕ → List ℕ → Answer

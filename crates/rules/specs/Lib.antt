@@ -27,4 +27,6 @@ pub mod Page
 pub mod Plain
 pub mod Answer
 pub mod Demand
+pub mod PlainForm
+pub mod NineCases
 pub mod Evaluate

@@ -89,12 +89,12 @@ signed-plus [] h q = absurd (h refl)
 signed-plus (x ∷ s) h q = simp (ne-eqb _ _ q)
 
 -- what a number that was told says of the option behind it
-told-bad : (o : Option ℕ) → Bad ≡ numberAs o → o ≡ none
+pub told-bad : (o : Option ℕ) → Bad ≡ numberAs o → o ≡ none
 unfolding numberAs
 told-bad none e = refl
 told-bad (some n) e = absurd (let z : _≡_ {A = ℕ} 0 1 = cc in omega arith)
 
-told-value : (o : Option ℕ) {n : ℕ} → Value n ≡ numberAs o → o ≡ some n
+pub told-value : (o : Option ℕ) {n : ℕ} → Value n ≡ numberAs o → o ≡ some n
 unfolding numberAs
 told-value none e = absurd (let z : _≡_ {A = ℕ} 0 1 = cc in omega arith)
 told-value (some m) e = cc

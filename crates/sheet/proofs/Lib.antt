@@ -2,3 +2,4 @@ pub mod Scans
 pub mod Tests
 pub mod Digits
 pub mod Texts
+pub mod Answers

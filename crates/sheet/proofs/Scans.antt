@@ -104,9 +104,14 @@ fields-at : (s : List ℕ) (at : ℕ) → at ≤ length s → fieldsFrom s at �
 unfolding fieldsFrom fieldsOf
 fields-at s at h = rw (le-leb at (length s) h)
 
-fields-past : (s : List ℕ) (at : ℕ) → length s < at → fieldsFrom s at ≡ []
+pub fields-past : (s : List ℕ) (at : ℕ) → length s < at → fieldsFrom s at ≡ []
 unfolding fieldsFrom
 fields-past s at h = rw (lt-leb at (length s) h)
+
+-- from its start on they are all of a line's fields
+pub fields-start : (s : List ℕ) → fieldsFrom s 0 ≡ fieldsOf s
+unfolding fieldsFrom
+fields-start s = rw (le-leb 0 (length s) (omega arith))
 
 -- the fields of a line, one after the other: f is the one that starts at `at`
 record Next (s : List ℕ) (at : ℕ) (f : List ℕ) : Type 0 where
@@ -131,6 +136,10 @@ next-at s at h e (at-first {f = f} r w) =
 
 pub field-within : (s : List ℕ) (at : ℕ) → at ≤ length s → at + length (fieldAt s at) ≤ length s
 field-within s at h = next-at s at h refl (cut tab (drop at s)) .within
+
+-- the same of a field that was read
+pub field-to : (s : List ℕ) (at : ℕ) {f : List ℕ} → f ≡ fieldAt s at → at ≤ length s → at + length f ≤ length s
+field-to s at e h = rw e (field-within s at h)
 
 pub fields-next : (s : List ℕ) (at : ℕ) → at ≤ length s → fieldsFrom s at ≡ fieldAt s at ∷ fieldsFrom s (at + length (fieldAt s at) + 1)
 fields-next s at h = next-at s at h refl (cut tab (drop at s)) .next

@@ -1,11 +1,11 @@
 -- What the answer of `check_units` says of the list.
-use mathlib.Core.Path.{_≡_, refl, sym, _∙_}
+use mathlib.Core.Path.{_≡_, refl}
 use mathlib.Core.Bool.{Bool, true, false}
 use mathlib.Core.List.{List}
 use mathlib.Core.Option.{Option, none, some}
 use Prim.Native.Nat.{ℕ}
 use native.Mathlib.Omega.{arith}
-use Rattle.rules.specs.Basic.{pick, isSome}
+use Rattle.rules.specs.Basic.{isSome}
 use Rattle.rules.specs.Units.{NamedUnit, nameTwice}
 use Rattle.rules.specs.Answer.{unitsOr}
 use Rattle.rules.proofs.Basics.{pick-either}
@@ -26,14 +26,23 @@ read us t e = record { is = refl; some-read = refl; twice = e }
 pub ill-units : (o : Option (List NamedUnit)) → unitsCheckedOf o ≡ Ill → o ≡ none
 unfolding unitsCheckedOf
 ill-units none e = refl
-ill-units (some us) e = pick-either (λ (r : UnitsChecked). r ≡ Ill → some us ≡ none) (nameTwice us) Twice Good (λ h q. absurd (let z : _≡_ {A = ℕ} 0 1 = cc in omega arith)) (λ h q. absurd (let z : _≡_ {A = ℕ} 0 1 = cc in omega arith)) e
+ill-units (some us) e =
+    pick-either (λ (r : UnitsChecked). r ≡ Ill → some us ≡ none) (nameTwice us) Twice Good
+    (λ h q. absurd (let z : _≡_ {A = ℕ} 0 1 = cc in omega arith))
+    (λ h q. absurd (let z : _≡_ {A = ℕ} 0 1 = cc in omega arith)) e
 
 pub twice-units : (o : Option (List NamedUnit)) → unitsCheckedOf o ≡ Twice → Read o true
 unfolding unitsCheckedOf
 twice-units none e = absurd (let z : _≡_ {A = ℕ} 0 1 = cc in omega arith)
-twice-units (some us) e = pick-either (λ (r : UnitsChecked). r ≡ Twice → Read (some us) true) (nameTwice us) Twice Good (λ h q. read us true h) (λ h q. absurd (let z : _≡_ {A = ℕ} 0 1 = cc in omega arith)) e
+twice-units (some us) e =
+    pick-either (λ (r : UnitsChecked). r ≡ Twice → Read (some us) true) (nameTwice us) Twice Good
+    (λ h q. read us true h)
+    (λ h q. absurd (let z : _≡_ {A = ℕ} 0 1 = cc in omega arith)) e
 
 pub good-units : (o : Option (List NamedUnit)) → unitsCheckedOf o ≡ Good → Read o false
 unfolding unitsCheckedOf
 good-units none e = absurd (let z : _≡_ {A = ℕ} 0 1 = cc in omega arith)
-good-units (some us) e = pick-either (λ (r : UnitsChecked). r ≡ Good → Read (some us) false) (nameTwice us) Twice Good (λ h q. absurd (let z : _≡_ {A = ℕ} 0 1 = cc in omega arith)) (λ h q. read us false h) e
+good-units (some us) e =
+    pick-either (λ (r : UnitsChecked). r ≡ Good → Read (some us) false) (nameTwice us) Twice Good
+    (λ h q. absurd (let z : _≡_ {A = ℕ} 0 1 = cc in omega arith))
+    (λ h q. read us false h) e

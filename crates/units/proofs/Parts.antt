@@ -1,13 +1,13 @@
 -- One line of a unit list: its fields, and the unit that they are.
 use Prim.Native.Nat.{ℕ, _+_, _≤_, _<_}
 use mathlib.Core.Path.{_≡_, refl, ap, sym, _∙_}
-use mathlib.Core.Bool.{Bool, true, false, _&&_}
+use mathlib.Core.Bool.{Bool, true, false}
 use mathlib.Core.Option.{Option, none, some}
 use mathlib.Core.List.{List, [], _∷_, _++_}
 use native.Mathlib.Omega.{arith}
 use borrow.Author.Tests.{le-leb, lt-leb}
 use lib.ListN.{length}
-use Rattle.rules.specs.Basic.{pick, tab, eqList, isEmpty, isSome, wordIn, splitAt, joinBy}
+use Rattle.rules.specs.Basic.{pick, tab, isEmpty, isSome, wordIn, joinBy}
 use Rattle.rules.specs.Utf8.{firstFault, isUtf8, chars}
 use Rattle.rules.specs.Sheet.{fieldsOf}
 use Rattle.rules.specs.Units.{PhysicalQuantity, volume, mass, len, temperature, time, physicalWords, NamedUnit, namedUnit, unitOfFields, unitOf}
@@ -100,7 +100,8 @@ module _ (line : List ℕ) {f : List ℕ} (e : f ≡ fieldAt line 0) where
         pub unit-known : (length f ≡ 0 → ⊥) → b ≡ true → Unit (length f) p ≡ unitLineAs line (unitOfFields (fieldsOf line))
         unit-known z q = rw (two-fields, w) (go (wordIn g physicalWords) (sym q ∙ known) f z e)
           where
-            go : (o : Option PhysicalQuantity) → true ≡ isSome o → (h : List ℕ) → (length h ≡ 0 → ⊥) → h ≡ fieldAt line 0 → Unit (length h) (physicalAs o) ≡ unitLineAs line (namedUnit h o)
+            go : (o : Option PhysicalQuantity) → true ≡ isSome o → (h : List ℕ) → (length h ≡ 0 → ⊥) → h ≡ fieldAt line 0
+                → Unit (length h) (physicalAs o) ≡ unitLineAs line (namedUnit h o)
             go none t h y i = unfold isSome in no-truth (sym t)
             go (some x) t [] y i = absurd (y refl)
             go (some x) t (a ∷ h) y i = unfold namedUnit isEmpty unitLineAs in rw (sym i)

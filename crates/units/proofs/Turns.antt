@@ -1,15 +1,15 @@
 -- What stands at a place of a well-formed list: a name, a tab, a word, an LF, and the rest of the list.
 use Prim.Native.Nat.{ℕ, suc, _+_, _-_, _≤_, _<_}
 use mathlib.Core.Path.{_≡_, refl, ap, sym, _∙_}
-use mathlib.Core.Bool.{Bool, true, false}
+use mathlib.Core.Bool.{true}
 use mathlib.Core.Option.{Option, none, some}
 use mathlib.Core.List.{List, [], _∷_, _++_, append-assoc}
 use native.Mathlib.Omega.{arith}
 use borrow.Author.Tests.{le-leb, eqb-true}
 use lib.Dec.{eqb}
-use lib.ListN.{length, getD, take, drop, length-append, length-drop, drop-of-length-le, List·getD-append}
+use lib.ListN.{length, getD, drop, length-append, length-drop, drop-of-length-le, List·getD-append}
 use lib.Seq.{drop-drop, drop-append-add, getD-drop, getD-append-add, take-at}
-use Rattle.rules.specs.Basic.{pick, codes, tab, lf, eqList, isEmpty, isSome, wordIn, splitAt}
+use Rattle.rules.specs.Basic.{codes, tab, lf, eqList, isEmpty, isSome, wordIn}
 use Rattle.rules.specs.Utf8.{isUtf8, chars}
 use Rattle.rules.specs.Sheet.{Lines, last, more, onLine, lines, fieldsOf}
 use Rattle.rules.specs.Units.{PhysicalQuantity, volume, mass, len, temperature, time, physicalWords, NamedUnit, unitOf, withUnit, unitsOf}
@@ -20,6 +20,7 @@ use Rattle.rules.proofs.SameChars.{eq-true}
 use Rattle.sheet.specs.Lines.{fieldsFrom, fieldAt}
 use Rattle.units.specs.declared.Physical.{Physical}
 use Rattle.units.specs.declared.Physical.the-variants.{Volume, Mass, Length, Temperature, Time}
+use Rattle.units.specs.declared.UnitAt.{UnitAt}
 use Rattle.units.specs.declared.UnitAt.the-variants.{Unit, End}
 use Rattle.units.specs.Quantities.{physicalAs}
 use Rattle.units.specs.Lists.{isListFrom, unitsFrom, part, namedAs, UnitTurn, UnitHere}
@@ -83,7 +84,8 @@ named-unit : (u : NamedUnit) (n : List ℕ) → u .name ≡ chars n → u ≡ na
 unfolding namedAs
 named-unit u n e = rw (← e)
 
-ahead-line : (l r : List ℕ) (u : NamedUnit) → lines (l ++ (lf ∷ r)) ≡ more l (lines r) → unitOf l ≡ some u → isSome (unitsOf (lines r)) ≡ true → Line l u → Ahead (l ++ (lf ∷ r))
+ahead-line : (l r : List ℕ) (u : NamedUnit) → lines (l ++ (lf ∷ r)) ≡ more l (lines r) → unitOf l ≡ some u → isSome (unitsOf (lines r)) ≡ true → Line l u
+    → Ahead (l ++ (lf ∷ r))
 ahead-line l r u c e h a =
     record {
       name = a .name;
@@ -167,11 +169,11 @@ module _ (s : List ℕ) (at : ℕ) (a : Ahead (drop at s)) where
         rest = rw (rest-at k e) (a .left);
       }
 
-pub here : {s : List ℕ} {at e k : ℕ} {p : Physical} → UnitTurn s at e k p → UnitHere s at (Unit e k p)
-here {s} {at} t =
+pub here : {s : List ℕ} {at e k : ℕ} {p : Physical} {r : UnitAt} → r ≡ Unit e k p → UnitTurn s at e k p → UnitHere s at r
+here {s} {at} {e} {k} {p} {r} u t =
     record {
       none-left = λ q. absurd (let z : _≡_ {A = ℕ} 0 1 = cc in omega arith);
-      unit = λ e k p q. same q t;
+      unit = λ f l o q. same (sym u ∙ q) t;
     }
   where
     same : {e k f l : ℕ} {p q : Physical} → Unit e k p ≡ Unit f l q → UnitTurn s at e k p → UnitTurn s at f l q
@@ -230,8 +232,8 @@ time-word is-length e = absurd (omega arith)
 time-word is-temperature e = absurd (omega arith)
 time-word is-time e = record { long = refl; says = refl }
 
-other-word : {w : List ℕ} {q : PhysicalQuantity} → PhysicalWord w q → (getD w 0 0 ≡ 118 → ⊥) → (getD w 0 0 ≡ 109 → ⊥) → (getD w 0 0 ≡ 108 → ⊥) → (getD w 1 0 ≡ 105 → ⊥)
-    → Worded w q 11 Temperature
+other-word : {w : List ℕ} {q : PhysicalQuantity} → PhysicalWord w q → (getD w 0 0 ≡ 118 → ⊥) → (getD w 0 0 ≡ 109 → ⊥) → (getD w 0 0 ≡ 108 → ⊥)
+    → (getD w 1 0 ≡ 105 → ⊥) → Worded w q 11 Temperature
 unfolding physicalAs
 other-word is-volume n m l i = absurd (n refl)
 other-word is-mass n m l i = absurd (m refl)

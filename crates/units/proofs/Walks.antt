@@ -11,8 +11,8 @@ use lib.ListN.{length, drop, length-drop, drop-of-length-le}
 use lib.Seq.{length-take-le}
 use Rattle.rules.specs.Basic.{pick, eqList, isEmpty, isSome}
 use Rattle.rules.specs.Utf8.{isUtf8, chars}
-use Rattle.rules.specs.Sheet.{Lines, last, more, lines}
-use Rattle.rules.specs.Units.{PhysicalQuantity, NamedUnit, unitOf, withUnit, unitsOf, atMost1024, readUnits, findUnit, nameTwice}
+use Rattle.rules.specs.Sheet.{last, more, lines}
+use Rattle.rules.specs.Units.{NamedUnit, unitOf, withUnit, unitsOf, atMost1024, readUnits, findUnit, nameTwice}
 use Rattle.rules.specs.Answer.{unitsOr}
 use Rattle.rules.proofs.Basics.{no-truth}
 use Rattle.rules.proofs.SameChars.{same-chars}
@@ -24,7 +24,6 @@ use Rattle.units.specs.declared.Physical.{Physical}
 use Rattle.units.specs.declared.Physical.the-variants.{Unknown}
 use Rattle.units.specs.declared.UnitLine.{UnitLine}
 use Rattle.units.specs.declared.UnitLine.the-variants as line
-use Rattle.units.specs.declared.UnitsChecked.{UnitsChecked}
 use Rattle.units.specs.declared.UnitsChecked.the-variants.{Good, Ill, Twice}
 use Rattle.units.specs.declared.UnitAt.{UnitAt}
 use Rattle.units.specs.declared.UnitAt.the-variants.{Unit, End}
@@ -204,7 +203,8 @@ module _ {s : List ℕ} {at n : ℕ} (i : Counting s at n) where
       pub counting-ill : u ≡ line.Ill → false ≡ isSome (readUnits s)
       counting-ill h = go (unitOf (part s at e)) (sym h ∙ v) (sym (i .is) ∙ ap (counted n) cut)
         where
-          go : (o : Option NamedUnit) → line.Ill ≡ unitLineAs (part s at e) o → isSome (readUnits s) ≡ counted n (withUnit o (unitsOf (lines (drop (e + 1) s)))) → false ≡ isSome (readUnits s)
+          go : (o : Option NamedUnit) → line.Ill ≡ unitLineAs (part s at e) o → isSome (readUnits s) ≡ counted n (withUnit o (unitsOf (lines (drop (e + 1) s))))
+              → false ≡ isSome (readUnits s)
           go none w c = unfold withUnit counted in sym c
           go (some x) w c = unfold unitLineAs in absurd (let z : _≡_ {A = ℕ} 0 1 = cc in omega arith)
 

@@ -8,6 +8,7 @@ ghost use Rattle.rules.specs.Utf8.{isUtf8, chars};
 ghost use Rattle.rules.specs.Sheet.{fieldsOf};
 ghost use Rattle.rules.specs.Units.{physicalWords, unitOfFields, unitOf, readUnits, findUnit, nameTwice};
 ghost use Rattle.rules.specs.Answer.{unitsOr};
+ghost use Rattle.units.specs.declared.UnitAt.the-variants.{Unit};
 ghost use Rattle.units.specs.Quantities.{physicalAs, isKnown, unitLineAs};
 ghost use Rattle.units.specs.Lists.{unitsCheckedOf, isListFrom, unitsFrom, part, UnitHere};
 
@@ -130,6 +131,16 @@ pub enum UnitAt {
     End,
 }
 
+fn unit_to(end: usize, next: usize, physical: Physical) -> UnitAt
+    ensures { λ r. ⌜ r ≡ Unit end next physical ⌝ }
+{
+    UnitAt::Unit {
+        name_end: end,
+        next,
+        physical,
+    }
+}
+
 // The unit whose line starts at a place of a well-formed list. The words of the physical quantities differ in
 // their first two letters.
 pub fn unit_at(units: &[u8], at: usize) -> UnitAt
@@ -144,39 +155,19 @@ pub fn unit_at(units: &[u8], at: usize) -> UnitAt
     let w = e + 1;
     let c = units[w];
     if c == b'v' {
-        return UnitAt::Unit {
-            name_end: e,
-            next: w + 7,
-            physical: Physical::Volume,
-        };
+        return unit_to(e, w + 7, Physical::Volume);
     }
     if c == b'm' {
-        return UnitAt::Unit {
-            name_end: e,
-            next: w + 5,
-            physical: Physical::Mass,
-        };
+        return unit_to(e, w + 5, Physical::Mass);
     }
     if c == b'l' {
-        return UnitAt::Unit {
-            name_end: e,
-            next: w + 7,
-            physical: Physical::Length,
-        };
+        return unit_to(e, w + 7, Physical::Length);
     }
     let d = units[w + 1];
     if d == b'i' {
-        return UnitAt::Unit {
-            name_end: e,
-            next: w + 5,
-            physical: Physical::Time,
-        };
+        return unit_to(e, w + 5, Physical::Time);
     }
-    UnitAt::Unit {
-        name_end: e,
-        next: w + 12,
-        physical: Physical::Temperature,
-    }
+    unit_to(e, w + 12, Physical::Temperature)
 }
 
 // Whether the name from one place of a list to another is this one. Most differ in their length.

@@ -1,6 +1,6 @@
 use borrow.Author.Needs.{needs}
 use native.Mathlib.Omega.{arith}
-use Prim.Native.Nat.{_-_, _≤_, _<_, _+_}
+use Prim.Native.Nat.{_-_}
 use lib.ListN.{length}
 use Rattle.units.proofs.Walks.{Counting, counting-starts, counting-open, counting-full, counting-ill, counting-on, counting-end}
 use Rattle.units.proofs.is_list.Statement.{statement}

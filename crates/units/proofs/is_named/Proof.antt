@@ -13,7 +13,7 @@ add-e c = search needs
 
 -- src/lib.rt:189:9
 returns : tie.Need-returns
-returns c = named-other _ _ _ (c .before .before .before .pre .0) (c .before .before .before .pre .1) (c .if1 .taken)
+returns c = named-other (c .before .before .before .args .units .now) (c .before .before .before .args .name .now) (c .before .before .before .args .at) {e = c .before .before .before .args .end} (c .before .before .before .pre .0) (c .before .before .before .pre .1) (λ q. omega (arith, c .if1 .taken))
 
 -- src/lib.rt:191:29
 sub-same-bytes : tie.Need-sub-same-bytes

@@ -1,6 +1,5 @@
 use borrow.Author.Needs.{needs}
 use native.Mathlib.Omega.{arith}
-use Rattle.sheet.proofs.Scans.{field-within}
 use Rattle.units.proofs.Parts.{no-name, no-tab, two-tabs, unit-known, unit-unknown}
 use Rattle.units.proofs.unit_fields.Statement.{statement}
 use Rattle.units.proofs.unit_fields.Tie as tie

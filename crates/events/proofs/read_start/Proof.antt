@@ -1,0 +1,39 @@
+use borrow.Author.Needs.{needs}
+use native.Mathlib.Omega.{arith}
+use mathlib.Core.Path.{ap}
+use Rattle.events.specs.Got.{blockGot}
+use Rattle.events.specs.Views.{eventIn, betweenIn, EventWithin, BetweenWithin}
+use Rattle.rules.specs.Read.{readStart}
+use Rattle.parts.proofs.Sequence.{gives, reads, fails, step, stop}
+use Rattle.events.proofs.read_start.Statement.{statement}
+use Rattle.events.proofs.read_start.Tie as tie
+use Rattle.events.proofs.read_start.Reads as reads
+use Rattle.events.proofs.read_start.Lts as lts
+use Rattle.events.proofs.read_block.Reads as read-block-reads
+
+read-block-requires : tie.Need-read-block-requires
+read-block-requires c κs = search needs
+
+enum-known-kind : tie.Need-enum-known-kind
+enum-known-kind c = search needs
+
+enum-told : tie.Need-enum-told
+enum-told c = search needs
+
+returns : tie.Need-returns
+unfolding readStart eventIn betweenIn EventWithin BetweenWithin
+returns c = fails (stop (c .before .before .read-block .ensures) (ap blockGot (c .enum-told .given .1)) _)
+
+returns-2 : tie.Need-returns-2
+unfolding readStart eventIn betweenIn EventWithin BetweenWithin
+returns-2 c = reads (step (c .before .before .before .read-block .ensures) (ap blockGot (c .before .kind .given .1)) _ (gives _ _)) (tt)
+
+pub read-start-spec : {M : Type 1} → statement M
+read-start-spec =
+    tie.close
+    (tie.spec
+    read-block-requires
+    enum-known-kind
+    enum-told
+    returns
+    returns-2)

@@ -1,0 +1,7 @@
+pub mod Blanks
+pub mod Stores
+pub mod Tables
+pub mod Searches
+pub mod Parts
+pub mod Entries
+pub mod Ends

@@ -1,0 +1,279 @@
+// The parts of a line as views: numbers, and where the contents stand in the line. All readers take any bytes and any position;
+// `Ill` says that the part is ill-formed.
+ghost use mathlib.Core.Path.{_≡_};
+ghost use Rattle.parts.specs.Views.{partOf};
+ghost use Rattle.parts.specs.Got.{DashAt, NumberRead, SpanRead, ContentRead, TextRead, OptTextRead, KindRead, LockRead, QuantityRead, OptQuantityRead};
+
+pub struct Span {
+    pub start: u32,
+    pub end: u32,
+}
+
+// A part of a line, still escaped.
+pub struct Part {
+    pub from: usize,
+    pub to: usize,
+}
+
+pub struct TextView {
+    pub span: Span,
+    pub content: Part,
+}
+
+pub enum OptText {
+    Absent,
+    Present(TextView),
+}
+
+pub enum ValueKind {
+    Number,
+    Range,
+    Textual,
+}
+
+pub struct QuantityView {
+    pub span: Span,
+    pub kind: ValueKind,
+    pub value_span: Span,
+    pub value: Part,
+    pub lock: bool,
+    pub unit: OptText,
+}
+
+pub enum OptQuantity {
+    Absent,
+    Present(QuantityView),
+}
+
+// The bytes of a part; of one that a reader made, the line from `from` to `to`.
+pub fn part_of<'a>(line: &'a [u8], p: Part) -> &'a [u8]
+    ensures { λ r. ⌜ now r ≡ partOf (now (line .entry)) p ⌝ }
+{
+    let from = p.from;
+    let to = p.to;
+    if line.len() < from {
+        return &line[..0];
+    }
+    if to < from {
+        return &line[..0];
+    }
+    if line.len() < to {
+        return &line[from..];
+    }
+    &line[from..to]
+}
+
+// Whether an opt part is there.
+pub enum Dash {
+    // `-`; the next field starts at the position.
+    Absent(usize),
+    Present,
+    Ill,
+}
+
+pub fn opt_dash(line: &[u8], at: usize) -> Dash
+    ensures { λ r. ⌜ DashAt (now (line .entry)) at r ⌝ }
+{
+    if line.len() < at {
+        return Dash::Ill;
+    }
+    let f = sheet::field(line, at);
+    if sheet::same_bytes(f, b"-") {
+        return Dash::Absent(at + f.len() + 1);
+    }
+    Dash::Present
+}
+
+// What a reader answers: what it read, and where the next field starts.
+pub enum GotNumber {
+    Got(u32, usize),
+    Ill,
+}
+
+pub fn read_number(line: &[u8], at: usize) -> GotNumber
+    ensures { λ r. ⌜ NumberRead (now (line .entry)) at r ⌝ }
+{
+    if line.len() < at {
+        return GotNumber::Ill;
+    }
+    let f = sheet::field(line, at);
+    let sheet::Number::Value(n) = sheet::read_number(f) else {
+        return GotNumber::Ill;
+    };
+    GotNumber::Got(n, at + f.len() + 1)
+}
+
+pub enum GotSpan {
+    Got(Span, usize),
+    Ill,
+}
+
+pub fn read_span(line: &[u8], at: usize) -> GotSpan
+    ensures { λ r. ⌜ SpanRead (now (line .entry)) at r ⌝ }
+{
+    let GotNumber::Got(start, a1) = read_number(line, at) else {
+        return GotSpan::Ill;
+    };
+    let GotNumber::Got(end, a2) = read_number(line, a1) else {
+        return GotSpan::Ill;
+    };
+    GotSpan::Got(Span { start, end }, a2)
+}
+
+pub enum GotContent {
+    Got(Part, usize),
+    Ill,
+}
+
+pub fn read_content(line: &[u8], at: usize) -> GotContent
+    ensures { λ r. ⌜ ContentRead (now (line .entry)) at r ⌝ }
+{
+    if line.len() < at {
+        return GotContent::Ill;
+    }
+    let f = sheet::field(line, at);
+    if sheet::is_well_escaped(f) {
+        let to = at + f.len();
+        return GotContent::Got(Part { from: at, to }, to + 1);
+    }
+    GotContent::Ill
+}
+
+pub enum GotText {
+    Got(TextView, usize),
+    Ill,
+}
+
+pub fn read_text(line: &[u8], at: usize) -> GotText
+    ensures { λ r. ⌜ TextRead (now (line .entry)) at r ⌝ }
+{
+    let GotSpan::Got(span, a1) = read_span(line, at) else {
+        return GotText::Ill;
+    };
+    let GotContent::Got(content, a2) = read_content(line, a1) else {
+        return GotText::Ill;
+    };
+    GotText::Got(TextView { span, content }, a2)
+}
+
+pub enum GotOptText {
+    Got(OptText, usize),
+    Ill,
+}
+
+pub fn read_opt_text(line: &[u8], at: usize) -> GotOptText
+    ensures { λ r. ⌜ OptTextRead (now (line .entry)) at r ⌝ }
+{
+    match opt_dash(line, at) {
+        Dash::Absent(n) => GotOptText::Got(OptText::Absent, n),
+        Dash::Ill => GotOptText::Ill,
+        Dash::Present => {
+            let GotText::Got(v, m) = read_text(line, at) else {
+                return GotOptText::Ill;
+            };
+            GotOptText::Got(OptText::Present(v), m)
+        }
+    }
+}
+
+pub enum GotKind {
+    Got(ValueKind, usize),
+    Ill,
+}
+
+pub fn read_kind(line: &[u8], at: usize) -> GotKind
+    ensures { λ r. ⌜ KindRead (now (line .entry)) at r ⌝ }
+{
+    if line.len() < at {
+        return GotKind::Ill;
+    }
+    let f = sheet::field(line, at);
+    let n = at + f.len() + 1;
+    match sheet::value_kind(f) {
+        sheet::ValueWord::Number => GotKind::Got(ValueKind::Number, n),
+        sheet::ValueWord::Range => GotKind::Got(ValueKind::Range, n),
+        sheet::ValueWord::Text => GotKind::Got(ValueKind::Textual, n),
+        sheet::ValueWord::Unknown => GotKind::Ill,
+    }
+}
+
+pub enum GotFlag {
+    Got(bool, usize),
+    Ill,
+}
+
+// The lock of a quantity: `l` or `-`.
+pub fn read_lock(line: &[u8], at: usize) -> GotFlag
+    ensures { λ r. ⌜ LockRead (now (line .entry)) at r ⌝ }
+{
+    if line.len() < at {
+        return GotFlag::Ill;
+    }
+    let f = sheet::field(line, at);
+    if sheet::same_bytes(f, b"l") {
+        return GotFlag::Got(true, at + f.len() + 1);
+    }
+    if sheet::same_bytes(f, b"-") {
+        return GotFlag::Got(false, at + f.len() + 1);
+    }
+    GotFlag::Ill
+}
+
+pub enum GotQuantity {
+    Got(QuantityView, usize),
+    Ill,
+}
+
+pub fn read_quantity(line: &[u8], at: usize) -> GotQuantity
+    ensures { λ r. ⌜ QuantityRead (now (line .entry)) at r ⌝ }
+{
+    let GotSpan::Got(span, a1) = read_span(line, at) else {
+        return GotQuantity::Ill;
+    };
+    let GotKind::Got(kind, a2) = read_kind(line, a1) else {
+        return GotQuantity::Ill;
+    };
+    let GotSpan::Got(value_span, a3) = read_span(line, a2) else {
+        return GotQuantity::Ill;
+    };
+    let GotContent::Got(value, a4) = read_content(line, a3) else {
+        return GotQuantity::Ill;
+    };
+    let GotFlag::Got(lock, a5) = read_lock(line, a4) else {
+        return GotQuantity::Ill;
+    };
+    let GotOptText::Got(unit, a6) = read_opt_text(line, a5) else {
+        return GotQuantity::Ill;
+    };
+    GotQuantity::Got(
+        QuantityView {
+            span,
+            kind,
+            value_span,
+            value,
+            lock,
+            unit,
+        },
+        a6,
+    )
+}
+
+pub enum GotOptQuantity {
+    Got(OptQuantity, usize),
+    Ill,
+}
+
+pub fn read_opt_quantity(line: &[u8], at: usize) -> GotOptQuantity
+    ensures { λ r. ⌜ OptQuantityRead (now (line .entry)) at r ⌝ }
+{
+    match opt_dash(line, at) {
+        Dash::Absent(n) => GotOptQuantity::Got(OptQuantity::Absent, n),
+        Dash::Ill => GotOptQuantity::Ill,
+        Dash::Present => {
+            let GotQuantity::Got(v, m) = read_quantity(line, at) else {
+                return GotOptQuantity::Ill;
+            };
+            GotOptQuantity::Got(OptQuantity::Present(v), m)
+        }
+    }
+}

@@ -1,0 +1,103 @@
+// The event sheet, line by line. All functions take any bytes.
+ghost use Rattle.events.specs.Got.{EventRead};
+ghost use Rattle.reading.specs.Answers.{readWord, EventOf, LineOf, LineChecked, SheetChecked};
+
+// The event after a line's first word.
+pub fn read_after(line: &[u8], at: usize, w: sheet::Word) -> events::GotEvent
+    ensures { λ r. ⌜ EventRead (readWord w) (now (line .entry)) at r ⌝ }
+{
+    match w {
+        sheet::Word::Meta => events::read_meta(line, at),
+        sheet::Word::Section => events::read_section(line, at),
+        sheet::Word::Start => events::read_start(line, at),
+        sheet::Word::End => events::read_end(line, at),
+        sheet::Word::Text => events::read_text_line(line, at),
+        sheet::Word::Ingredient => events::read_ingredient(line, at),
+        sheet::Word::Cookware => events::read_cookware(line, at),
+        sheet::Word::Timer => events::read_timer(line, at),
+        sheet::Word::Error => events::read_finding(line, at, events::Severity::Severe),
+        sheet::Word::Warning => events::read_finding(line, at, events::Severity::Mild),
+        sheet::Word::Unknown => events::GotEvent::Ill,
+    }
+}
+
+pub enum ReadEvent {
+    Event(events::EventView),
+    Ill,
+}
+
+// The event of a line's fields.
+pub fn event_in(line: &[u8]) -> ReadEvent
+    ensures { λ r. ⌜ EventOf (now (line .entry)) r ⌝ }
+{
+    let f = sheet::field(line, 0);
+    let n = f.len() + 1;
+    let w = sheet::event_word(f);
+    let events::GotEvent::Got(v, m) = read_after(line, n, w) else {
+        return ReadEvent::Ill;
+    };
+    if m <= line.len() {
+        return ReadEvent::Ill;
+    }
+    ReadEvent::Event(v)
+}
+
+// The event of a line without its LF; an ill-formed line has none.
+pub fn event_at(line: &[u8]) -> ReadEvent
+    ensures { λ r. ⌜ LineOf (now (line .entry)) r ⌝ }
+{
+    match utf8::first_fault(line) {
+        utf8::Checked::Valid => event_in(line),
+        utf8::Checked::Fault(at) => ReadEvent::Ill,
+    }
+}
+
+pub enum LineFault {
+    Nothing,
+    Fault(u32),
+}
+
+// The refusal of a line with its number: 8, 9 or 10.
+pub fn line_fault(text: &[u8], number: u32, line: &[u8]) -> LineFault
+    ensures { λ r. ⌜ LineChecked (now (text .entry)) number (now (line .entry)) r ⌝ }
+{
+    let ReadEvent::Event(v) = event_at(line) else {
+        return LineFault::Fault(8);
+    };
+    if 4096 < number {
+        return LineFault::Fault(9);
+    }
+    if spans::spans_good(text, v) {
+        return LineFault::Nothing;
+    }
+    LineFault::Fault(10)
+}
+
+pub enum SheetRead {
+    Good,
+    // The number of the refusal, and of the line.
+    Refused(u32, u32),
+}
+
+pub fn read_sheet(bytes: &[u8], text: &[u8]) -> SheetRead
+    ensures { λ r. ⌜ SheetChecked (now (text .entry)) (now (bytes .entry)) r ⌝ }
+{
+    let mut at = 0;
+    let mut number: u32 = 1;
+    while at < bytes.len() {
+        let sheet::LineEnd::At(end) = sheet::line_end(bytes, at) else {
+            return SheetRead::Refused(8, number);
+        };
+        let fault = line_fault(text, number, &bytes[at..end]);
+        match fault {
+            LineFault::Fault(k) => {
+                return SheetRead::Refused(k, number);
+            }
+            LineFault::Nothing => {
+                at = end + 1;
+                number += 1;
+            }
+        }
+    }
+    SheetRead::Good
+}

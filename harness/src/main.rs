@@ -1,0 +1,116 @@
+mod case;
+mod cases;
+mod fuzz;
+mod generate;
+mod limits;
+mod page;
+mod pass;
+mod plain;
+mod sheet;
+
+use case::{Case, ROOM};
+use std::io::Write;
+
+fn read_files() -> Case {
+    let read = |name: &str| {
+        std::fs::read(name).unwrap_or_else(|e| {
+            eprintln!("{name}: {e}");
+            std::process::exit(1)
+        })
+    };
+    Case {
+        name: String::new(),
+        room: ROOM,
+        text: read("recipe.cook"),
+        units: read("units.tsv"),
+        flags: read("flags"),
+        sheet: read("events.tsv"),
+    }
+}
+
+/// The files of the fixed list, in data/answers.
+const FILES: [&str; 4] = ["paper.txt", "decisions.txt", "generated.txt", "limits.txt"];
+
+fn answers() -> std::path::PathBuf {
+    std::path::Path::new(env!("CARGO_MANIFEST_DIR")).join("../data/answers")
+}
+
+/// Prints each case with its answers, in the format of the list.
+fn batch(file: &str) -> Vec<u8> {
+    let mut out = Vec::new();
+    for (c, _) in Case::read_all(&std::fs::read(file).unwrap()) {
+        c.write(&mut out);
+    }
+    out
+}
+
+/// Writes the fixed list.
+fn list() {
+    std::fs::create_dir_all(answers()).unwrap();
+    let all = [cases::paper(), cases::decisions(), generate::chosen(240, 2026), cases::limits()];
+    let mut counts = fuzz::Counts::default();
+    for (file, cases) in FILES.iter().zip(all) {
+        let mut out = Vec::new();
+        for c in &cases {
+            counts.see(c);
+            c.write(&mut out);
+        }
+        println!("{file}: {} cases, {} bytes", cases.len(), out.len());
+        std::fs::write(answers().join(file), out).unwrap();
+    }
+    counts.print();
+}
+
+/// Runs the fixed list again and compares.
+fn verify() -> Vec<u8> {
+    let (mut cases, mut different) = (0, 0);
+    for file in FILES {
+        for (c, stored) in Case::read_all(&std::fs::read(answers().join(file)).unwrap()) {
+            cases += 1;
+            if stored != [c.collect_answer(), c.plain_answer()] {
+                different += 1;
+                println!("different: {file}: {}", c.name);
+            }
+        }
+    }
+    println!("{cases} cases, {different} different");
+    std::process::exit((different > 0) as i32)
+}
+
+fn main() {
+    pass::quiet_panics();
+    if std::panic::catch_unwind(run).is_err() {
+        eprintln!("panic: {}", pass::last_panic());
+        std::process::exit(101)
+    }
+}
+
+fn run() {
+    let args: Vec<String> = std::env::args().skip(1).collect();
+    let words: Vec<&str> = args.iter().map(|s| s.as_str()).collect();
+    let out = match words[..] {
+        [] | ["collect"] => read_files().collect_answer(),
+        ["plain"] => read_files().plain_answer(),
+        ["fuzz", n, seed] => {
+            let c = fuzz::fuzz(n.parse().unwrap(), seed.parse().unwrap());
+            c.print();
+            std::process::exit((c.uncaught > 0) as i32)
+        }
+        ["batch", file] => batch(file),
+        ["sample", n, seed] => {
+            let mut out = Vec::new();
+            generate::chosen(n.parse().unwrap(), seed.parse().unwrap()).iter().for_each(|c| c.write(&mut out));
+            out
+        }
+        ["list"] => {
+            list();
+            Vec::new()
+        }
+        ["verify"] => verify(),
+        _ => {
+            eprintln!("usage: harness [collect | plain | batch FILE | fuzz COUNT SEED | sample COUNT SEED | list | verify]");
+            std::process::exit(2)
+        }
+    };
+    std::io::stdout().write_all(&out).unwrap();
+}
