@@ -1,4 +1,6 @@
 // Everything that is refused before the pass, in the order of document 01's table. All functions take any bytes.
+ghost use mathlib.Core.Path.{_≡_};
+ghost use Rattle.rules.specs.Answer.{flagsOf};
 ghost use Rattle.inputs.specs.Inputs.{InputsChecked, ContentsChecked, SheetFlagsChecked};
 
 pub enum Inputs {
@@ -54,4 +56,27 @@ pub fn check_inputs(sheet: &[u8], text: &[u8], units: &[u8], flags: u32, words: 
         return Inputs::Refused(3, 0);
     }
     check_contents(sheet, text, units, flags)
+}
+
+fn wide(b: u8) -> u32
+    ensures { λ r. ⌜ r ≡ b ⌝ }
+{
+    b as u32
+}
+
+// The flags that a file of one digit says; any other file says 8.
+pub fn read_flags(f: &[u8]) -> u32
+    ensures { λ r. ⌜ r ≡ flagsOf (now (f .entry)) ⌝ }
+{
+    if f.len() != 1 {
+        return 8;
+    }
+    let c = wide(f[0]);
+    if c < 48 {
+        return 8;
+    }
+    if 57 < c {
+        return 8;
+    }
+    c - 48
 }
