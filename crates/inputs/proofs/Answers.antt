@@ -161,7 +161,8 @@ good-inputs sheet text units flags words bytes e =
       names-once = list .2;
       flags-known = ltb-false 7 flags (known .0);
       sheet-read = reading-none (readSheet text sheet) (known .1);
-      collects = collection-passed sheet text units flags (lengths .1) }
+      collects = collection-passed sheet text units flags (lengths .1);
+    }
 
 module _ (sheet text units : List ℕ) (flags : ℕ) (m : Lent) (g : GoodInputs sheet text units flags (m .words) (m .bytes)) where
   pub good-collect : collectAnswer sheet text units flags m

@@ -3,6 +3,11 @@ ghost use mathlib.Core.Path.{_≡_};
 ghost use Rattle.rules.specs.Answer.{flagsOf};
 ghost use Rattle.inputs.specs.Inputs.{InputsChecked, ContentsChecked, SheetFlagsChecked};
 
+// How much work memory has to be lent (docs/MEMORY.md).
+pub const WORDS: usize = 24157;
+
+pub const BYTES: usize = 65536;
+
 pub enum Inputs {
     Good,
     // The number of the refusal, and of the line.
@@ -37,13 +42,20 @@ fn check_contents(sheet: &[u8], text: &[u8], units: &[u8], flags: u32) -> Inputs
 }
 
 // The three files, the flags, and how many words and bytes of work memory are lent.
-pub fn check_inputs(sheet: &[u8], text: &[u8], units: &[u8], flags: u32, words: usize, bytes: usize) -> Inputs
+pub fn check_inputs(
+    sheet: &[u8],
+    text: &[u8],
+    units: &[u8],
+    flags: u32,
+    words: usize,
+    bytes: usize,
+) -> Inputs
     ensures { λ r. ⌜ InputsChecked (now (sheet .entry)) (now (text .entry)) (now (units .entry)) flags words bytes r ⌝ }
 {
-    if words < 24157 {
+    if words < WORDS {
         return Inputs::Refused(1, 0);
     }
-    if bytes < 65536 {
+    if bytes < BYTES {
         return Inputs::Refused(1, 0);
     }
     if 65536 < sheet.len() {

@@ -33,9 +33,12 @@ struct Told {
 
 // Places in the list of counts: how many were good, refused by 1 to 10, of all, and of those that differ.
 const CASES: usize = 11;
+
 const DIFFERENT: usize = 12;
 
-fn wide(b: u8) -> u32 {
+fn wide(b: u8) -> u32
+    ensures { λ r. ⌜ r ≡ b ⌝ }
+{
     b as u32
 }
 
@@ -51,7 +54,7 @@ fn byte(s: &[u8], at: usize) -> u8 {
 }
 
 // The decimal number at a place, to nine digits.
-fn number(s: &[u8], at: usize) -> Number {
+fn read_number(s: &[u8], at: usize) -> Number {
     let mut n: u32 = 0;
     let mut i = at;
     while i < s.len() {
@@ -68,7 +71,7 @@ fn number(s: &[u8], at: usize) -> Number {
                 next: i + 1,
             };
         }
-        n = n % 100000000 * 10 + wide(b) % 10;
+        n = n % 100000000 * 10 + (wide(b) - 48);
         i += 1;
     }
     Number { value: n, next: i }
@@ -101,18 +104,38 @@ fn starts(s: &[u8], word: &[u8]) -> bool {
 
 // The case whose first line starts at a place.
 fn case_at(s: &[u8], at: usize) -> Case {
-    let room = number(s, after(s, at, 5));
-    let name = number(s, room.next);
-    let sheet = number(s, name.next);
-    let text = number(s, sheet.next);
-    let units = number(s, text.next);
-    let flags = number(s, units.next);
-    let collect = number(s, flags.next);
-    let plain = number(s, collect.next);
-    laid_out(s, plain.next, name.value, sheet.value, text.value, units.value, flags.value, collect.value, plain.value)
+    let room = read_number(s, after(s, at, 5));
+    let name = read_number(s, room.next);
+    let sheet = read_number(s, name.next);
+    let text = read_number(s, sheet.next);
+    let units = read_number(s, text.next);
+    let flags = read_number(s, units.next);
+    let collect = read_number(s, flags.next);
+    let plain = read_number(s, collect.next);
+    laid_out(
+        s,
+        plain.next,
+        name.value,
+        sheet.value,
+        text.value,
+        units.value,
+        flags.value,
+        collect.value,
+        plain.value,
+    )
 }
 
-fn laid_out(s: &[u8], at: usize, name: u32, sheet: u32, text: u32, units: u32, flags: u32, collect: u32, plain: u32) -> Case {
+fn laid_out(
+    s: &[u8],
+    at: usize,
+    name: u32,
+    sheet: u32,
+    text: u32,
+    units: u32,
+    flags: u32,
+    collect: u32,
+    plain: u32,
+) -> Case {
     let a = after(s, at, name);
     let b = after(s, a, sheet);
     let c = after(s, b, text);
@@ -132,8 +155,8 @@ fn laid_out(s: &[u8], at: usize, name: u32, sheet: u32, text: u32, units: u32, f
     }
 }
 
-fn add(counts: &mut [u64], i: usize) {
-    if i < counts.len() {
+fn add(counts: &mut [u64; 13], i: usize) {
+    if i < 13 {
         let n = counts[i];
         if n < 1000000 {
             counts[i] = n + 1;
@@ -141,7 +164,7 @@ fn add(counts: &mut [u64], i: usize) {
     }
 }
 
-fn told(r: Inputs) -> Told {
+fn told_of(r: Inputs) -> Told {
     match r {
         Inputs::Good => Told { number: 0, line: 0 },
         Inputs::Refused(n, l) => Told { number: n, line: l },
@@ -153,8 +176,8 @@ fn stored(answer: &[u8]) -> Told {
     if !starts(answer, b"refused\t") {
         return Told { number: 0, line: 0 };
     }
-    let n = number(answer, 8);
-    let l = number(answer, n.next);
+    let n = read_number(answer, 8);
+    let l = read_number(answer, n.next);
     if 10 < n.value {
         return Told { number: 0, line: 0 };
     }
@@ -170,11 +193,11 @@ fn run(s: &[u8], c: Case) -> Told {
     let text = part(s, c.text, c.units);
     let units = part(s, c.units, c.flags);
     let flags = inputs::read_flags(part(s, c.flags, c.collect));
-    told(inputs::check_inputs(sheet, text, units, flags, 24157, 65536))
+    told_of(inputs::check_inputs(sheet, text, units, flags, inputs::WORDS, inputs::BYTES))
 }
 
 // One case; where it ends.
-fn replay(s: &[u8], at: usize, counts: &mut [u64]) -> usize {
+fn replay(s: &[u8], at: usize, counts: &mut [u64; 13]) -> usize {
     let c = case_at(s, at);
     let is = run(s, c);
     let should = stored(part(s, c.collect, c.plain));
@@ -190,34 +213,47 @@ fn replay(s: &[u8], at: usize, counts: &mut [u64]) -> usize {
     c.end
 }
 
-// Each case of a file. One that is not as the format says counts as different, and nothing after it is read.
-fn replay_all(s: &[u8], counts: &mut [u64]) {
+// One case and the LF after it; where the next starts. What is not as the format says counts as different, and nothing
+// after it is read.
+fn turn(s: &[u8], at: usize, counts: &mut [u64; 13]) -> usize {
+    if !starts(part(s, at, s.len()), b"case ") {
+        add(counts, DIFFERENT);
+        return s.len();
+    }
+    let end = replay(s, at, counts);
+    if byte(s, end) != b'\n' {
+        add(counts, DIFFERENT);
+        return s.len();
+    }
+    after(s, end, 1)
+}
+
+fn replay_all(s: &[u8], counts: &mut [u64; 13]) {
     let mut at = 0;
     while at < s.len() {
-        if !starts(&s[at..], b"case ") {
-            add(counts, DIFFERENT);
+        let next = turn(s, at, counts);
+        if next <= at {
             return;
         }
-        let end = replay(s, at, counts);
-        if end <= at {
-            add(counts, DIFFERENT);
-            return;
-        }
-        if byte(s, end) != b'\n' {
-            add(counts, DIFFERENT);
-            return;
-        }
-        at = end + 1;
+        at = next;
     }
 }
 
-fn replay_file(name: &[u8], space: &mut [u8], counts: &mut [u64]) {
+// Room for the longest file.
+fn room() -> [u8; 2097152]
+    ensures { λ r. ⌜ 2097152 ≡ length r ⌝ }
+{
+    [0; 2097152]
+}
+
+fn replay_file(name: &[u8], counts: &mut [u64; 13]) {
     let fd = os::open_read(name);
     if fd < 0 {
         os::fail(name);
         return;
     }
-    let n = io::read_full(fd, space);
+    let mut space = room();
+    let n = io::read_full(fd, &mut space);
     libc::close(fd);
     replay_all(&space[..n], counts);
 }
@@ -228,14 +264,14 @@ fn show(what: &[u8], n: u64) {
     io::write_all(STDOUT_FILENO, b"\n");
 }
 
-fn count_of(counts: &[u64], i: usize) -> u64 {
-    if i < counts.len() {
+fn count_of(counts: &[u64; 13], i: usize) -> u64 {
+    if i < 13 {
         return counts[i];
     }
     0
 }
 
-fn show_numbers(counts: &[u64]) {
+fn show_numbers(counts: &[u64; 13]) {
     show(b"good ", count_of(counts, 0));
     let mut i = 1;
     while i <= 10 {
@@ -247,12 +283,11 @@ fn show_numbers(counts: &[u64]) {
 }
 
 fn main() {
-    let mut space = [0u8; 2097152];
     let mut counts = [0u64; 13];
-    replay_file(b"paper.txt", &mut space, &mut counts);
-    replay_file(b"decisions.txt", &mut space, &mut counts);
-    replay_file(b"generated.txt", &mut space, &mut counts);
-    replay_file(b"limits.txt", &mut space, &mut counts);
+    replay_file(b"paper.txt", &mut counts);
+    replay_file(b"decisions.txt", &mut counts);
+    replay_file(b"generated.txt", &mut counts);
+    replay_file(b"limits.txt", &mut counts);
     show(b"cases ", count_of(&counts, CASES));
     show_numbers(&counts);
     show(b"different ", count_of(&counts, DIFFERENT));
