@@ -28,11 +28,11 @@ fn read_files() -> Case {
     }
 }
 
-/// The files of the fixed list, in data/answers.
+/// The files of the fixed list, in crates/replay/data.
 const FILES: [&str; 4] = ["paper.txt", "decisions.txt", "generated.txt", "limits.txt"];
 
 fn answers() -> std::path::PathBuf {
-    std::path::Path::new(env!("CARGO_MANIFEST_DIR")).join("../data/answers")
+    std::path::Path::new(env!("CARGO_MANIFEST_DIR")).join("../crates/replay/data")
 }
 
 /// Prints each case with its answers, in the format of the list.

@@ -1,0 +1,56 @@
+#!/usr/bin/env python3
+"""replay.py [--check]: writes what the program `replay` must print (crates/replay/stdout), counted off the fixed list in
+crates/replay/data; with --check it writes nothing and fails where the file is not what would be written."""
+import os
+import sys
+
+HERE = os.path.dirname(os.path.dirname(os.path.abspath(__file__)))
+CRATE = os.path.join(HERE, "crates", "replay")
+
+
+def cases():
+    """for each case its lent room and its seven parts; the format is that of crates/replay/data/README.md"""
+    for name in ("paper", "decisions", "generated", "limits"):
+        data, at = open(os.path.join(CRATE, "data", name + ".txt"), "rb").read(), 0
+        while at < len(data):
+            end = data.index(b"\n", at)
+            word, room, *lengths = data[at:end].split(b" ")
+            assert word == b"case" and len(lengths) == 7, data[at:end]
+            at, parts = end + 1, []
+            for length in lengths:
+                parts.append(data[at:at + int(length)])
+                at += int(length)
+            assert data[at:at + 1] == b"\n"
+            at += 1
+            yield int(room), parts
+
+
+def expected():
+    total, good, refused = 0, 0, [0] * 11
+    for _, parts in cases():
+        answer = parts[5].split(b"\t")
+        number = int(answer[1]) if answer[0] == b"refused" else 0
+        total += 1
+        if 1 <= number <= 10:
+            refused[number] += 1
+        else:
+            good += 1
+    lines = ["cases %d" % total, "good %d" % good]
+    lines += ["refused %d: %d" % (n, refused[n]) for n in range(1, 11)]
+    return "\n".join(lines + ["different 0"]) + "\n"
+
+
+def main():
+    path, text = os.path.join(CRATE, "stdout"), expected()
+    old = open(path, encoding="ascii").read() if os.path.exists(path) else None
+    if sys.argv[1:] == ["--check"]:
+        if old != text:
+            sys.exit("not what tools/replay.py writes: crates/replay/stdout")
+        print("replay: all current")
+    else:
+        with open(path, "w", encoding="ascii") as f:
+            f.write(text)
+
+
+if __name__ == "__main__":
+    main()
