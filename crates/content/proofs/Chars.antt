@@ -1,21 +1,18 @@
 -- The character that a field starts with, and the content after it.
-use Prim.Native.Nat.{ℕ, zero, suc, pred, _+_, _≤_, _<_}
-use mathlib.Core.Path.{_≡_, refl, sym, ap, _∙_}
-use mathlib.Core.List.{List, [], _∷_, _++_}
-use mathlib.Core.Bool.{Bool, true, false}
+use Prim.Native.Nat.{ℕ, suc, _+_, _≤_, _<_}
+use mathlib.Core.Path.{_≡_, refl, sym, _∙_}
+use mathlib.Core.List.{List, [], _∷_}
 use mathlib.Core.Option.{Option, none, some}
-use native.Mathlib.Nat.{le-of-suc-le-suc, not-suc-le-zero}
 use native.Mathlib.Numerals.{add-one}
 use native.Mathlib.Omega.{arith}
 use lib.Dec.{eqb}
 use lib.ListN.{length, getD, drop, length-drop, drop-of-length-le}
 use lib.Seq.{drop-drop, drop-cons}
-use borrow.Author.Tests.{eq-eqb, ne-eqb, eqb-true, eqb-false}
-use Rattle.rules.specs.Basic.{pick}
+use borrow.Author.Tests.{ne-eqb}
 use Rattle.rules.specs.Sheet.{escaped}
-use Rattle.rules.specs.Utf8.{sizeOf, sized, firstOf, charOr, followers, charsFrom, chars}
+use Rattle.rules.specs.Utf8.{sizeOf, firstOf, charOr, followers, charsFrom, chars}
 use Rattle.rules.proofs.Basics.{pick-either, no-some}
-use Rattle.rules.proofs.Begins.{Begins, begins, begins-more, begins-fits, first-some, one, size-1}
+use Rattle.rules.proofs.Begins.{begins, first-some, one, size-1}
 use Rattle.rules.proofs.Chars.{skip-chars, fits, chars-ascii}
 use Rattle.rules.proofs.Scalars.{Scalar, char-scalar, low-scalar}
 use Rattle.utf8.specs.declared.Char.{Char}

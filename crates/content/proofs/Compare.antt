@@ -1,18 +1,18 @@
 -- Comparing two texts character by character; r is the answer on the whole.
-use Prim.Native.Nat.{ℕ, zero, _+_, _≤_, _<_}
-use mathlib.Core.Path.{_≡_, refl, sym, ap, _∙_}
+use Prim.Native.Nat.{ℕ, _+_, _≤_, _<_}
+use mathlib.Core.Path.{_≡_, refl, _∙_}
 use mathlib.Core.List.{List, [], _∷_}
 use mathlib.Core.Bool.{Bool, true, false}
-use lib.Dec.{eqb, leb}
+use lib.Dec.{leb}
 use lib.ListN.{length, drop, drop-of-length-le}
 use borrow.Author.Tests.{eq-eqb, ne-eqb, le-leb, lt-leb}
 use native.Mathlib.Omega.{arith}
-use Rattle.rules.specs.Basic.{pick, eqList}
+use Rattle.rules.specs.Basic.{eqList}
 use Rattle.rules.specs.Utf8.{charsFrom, chars}
 use Rattle.rules.proofs.Basics.{by-order}
 use Rattle.utf8.specs.declared.Char.{Char}
 use Rattle.utf8.specs.Reading.{charOf}
-use Rattle.utf8.proofs.Steps.{CharStep, char-step}
+use Rattle.utf8.proofs.Steps.{char-step}
 use Rattle.content.specs.Contents.{contentIn, keptIn}
 use Rattle.content.specs.Readings.{charIn}
 use Rattle.content.proofs.Chars.{content-step, content-none}

@@ -3,17 +3,15 @@ use Prim.Native.Nat.{ℕ, zero, suc, pred, _+_, _-_, _≤_, _<_}
 use mathlib.Core.Path.{_≡_, refl, sym, ap, _∙_}
 use mathlib.Core.List.{List, [], _∷_, _++_, append-nil, append-assoc}
 use mathlib.Core.Option.{Option, none, some}
-use native.Mathlib.Nat.{le-of-suc-le-suc, not-suc-le-zero}
 use native.Mathlib.Omega.{arith}
 use lib.ListN.{length, take, drop, length-append, length-drop, take-append-drop}
-use lib.Seq.{take-add, drop-drop, drop-append-seam, take-append-seam, length-take-le, take-all}
+use lib.Seq.{take-add, drop-drop, drop-append-seam, take-append-seam, length-take-le}
 use Rattle.rules.specs.Sheet.{escaped}
-use Rattle.rules.specs.Utf8.{sizeOf, sized, firstOf, charOr, followers}
+use Rattle.rules.specs.Utf8.{sizeOf, sized, firstOf, followers}
 use Rattle.rules.proofs.Basics.{no-some}
 use Rattle.rules.proofs.Begins.{begins, begins-more, first-some}
 use Rattle.utf8.specs.declared.Char.{Char}
 use Rattle.utf8.specs.Reading.{charOf}
-use Rattle.utf8.proofs.Turns.{charWith}
 use Rattle.content.specs.Contents.{contentIn}
 use Rattle.content.specs.Readings.{pairIn, charIn}
 use Rattle.content.specs.Parts.{Field, Cut, CutAt}

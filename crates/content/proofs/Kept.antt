@@ -1,19 +1,18 @@
 -- Of blanks that follow one another only the first is kept.
-use Prim.Native.Nat.{ℕ, zero, suc, _+_, _-_, _≤_, _<_}
+use Prim.Native.Nat.{ℕ, suc, _+_, _-_, _≤_, _<_}
 use mathlib.Core.Path.{_≡_, refl, sym, ap, _∙_}
-use mathlib.Core.List.{List, [], _∷_, _++_}
-use mathlib.Core.Bool.{Bool, true, false, and-false}
-use mathlib.Core.Option.{Option, none, some}
-use native.Mathlib.Numerals.{add-one}
+use mathlib.Core.List.{List, [], _∷_}
+use mathlib.Core.Bool.{and-false}
+use mathlib.Core.Option.{Option}
 use native.Mathlib.Omega.{arith}
 use lib.Dec.{eqb}
-use lib.ListN.{length, getD, take, drop, drop-of-length-le}
+use lib.ListN.{length, getD, drop}
 use lib.Seq.{drop-cons}
-use borrow.Author.Tests.{eq-eqb, ne-eqb, eqb-true, eqb-false}
-use Rattle.rules.specs.Basic.{pick, blank}
+use borrow.Author.Tests.{ne-eqb}
+use Rattle.rules.specs.Basic.{blank}
 use Rattle.rules.specs.Sheet.{escaped}
 use Rattle.rules.specs.Text.{retain}
-use Rattle.rules.specs.Utf8.{sizeOf, firstOf, charOr, followers}
+use Rattle.rules.specs.Utf8.{charOr, followers}
 use Rattle.rules.proofs.Basics.{pick-either, by-order}
 use Rattle.rules.proofs.Begins.{one, first-some, size-1}
 use Rattle.rules.proofs.Ascii.{char-beyond}
@@ -24,7 +23,7 @@ use Rattle.content.specs.Contents.{contentIn, keptIn}
 use Rattle.content.specs.Readings.{pairIn, charIn}
 use Rattle.content.specs.Kept.{Skipped, KeptStep}
 use Rattle.content.proofs.Plains.{by-backslash}
-use Rattle.content.proofs.Chars.{ContentStep, content-step, content-none, char-plain, char-last, in-ascii}
+use Rattle.content.proofs.Chars.{content-step, content-none, char-plain, char-last, in-ascii}
 
 -- ---- over code points
 

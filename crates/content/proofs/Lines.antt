@@ -1,7 +1,7 @@
 -- The fields of a line of a sheet.
 use Prim.Native.Nat.{ℕ, _+_, _≤_}
-use mathlib.Core.Path.{_≡_, refl, sym, ap, _∙_}
-use mathlib.Core.List.{List, [], _∷_, _++_, append-nil, append-assoc}
+use mathlib.Core.Path.{_≡_, refl, sym, _∙_}
+use mathlib.Core.List.{List, [], _∷_, _++_, append-nil}
 use mathlib.Core.Bool.{Bool, true, false, _&&_}
 use mathlib.Core.Option.{Option, none, some}
 use native.Mathlib.Omega.{arith}
@@ -9,7 +9,7 @@ use lib.Dec.{eqb}
 use lib.ListN.{length}
 use lib.Seq.{append-snoc}
 use borrow.Author.Tests.{eqb-true}
-use Rattle.rules.specs.Basic.{pick, tab, lf, isSome, onSome, splitAt}
+use Rattle.rules.specs.Basic.{tab, lf, isSome, onSome, splitAt}
 use Rattle.rules.specs.Sheet.{Lines, last, more, onLine, lines, fieldsOf, unescape}
 use Rattle.rules.specs.Read.{contentOf}
 use Rattle.rules.specs.Utf8.{isUtf8, chars}

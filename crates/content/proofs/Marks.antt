@@ -4,11 +4,9 @@ use mathlib.Core.Path.{_≡_, refl, sym, ap, _∙_}
 use mathlib.Core.List.{List, [], _∷_, _++_}
 use mathlib.Core.Bool.{Bool, true, false, _&&_}
 use mathlib.Core.Option.{Option, none, some}
-use lib.Dec.{eqb}
-use borrow.Author.Tests.{eq-eqb, ne-eqb}
-use Rattle.rules.specs.Basic.{tab, lf, isSome}
+use Rattle.rules.specs.Basic.{isSome}
 use Rattle.rules.specs.Sheet.{escaped, onto, unescape}
-use Rattle.rules.specs.Utf8.{isUtf8, chars}
+use Rattle.rules.specs.Utf8.{isUtf8}
 use Rattle.rules.proofs.Basics.{and-left, and-right}
 use Rattle.rules.proofs.Chars.{chars-split, utf8-split}
 use Rattle.rules.proofs.Fields.{Without, without-more, without-left, without-right}

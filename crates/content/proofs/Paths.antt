@@ -1,17 +1,16 @@
 -- The last separator of a name, and what stands before and after it.
-use Prim.Native.Nat.{ℕ, zero, suc, _+_, _≤_, _<_}
+use Prim.Native.Nat.{ℕ, _+_, _≤_, _<_}
 use mathlib.Core.Path.{_≡_, refl, sym, ap, _∙_}
 use mathlib.Core.List.{List, [], _∷_, _++_, append-nil, append-assoc}
 use mathlib.Core.Bool.{Bool, true, false, not}
-use mathlib.Core.Option.{Option, none, some}
+use mathlib.Core.Option.{none, some}
 use native.Mathlib.Omega.{arith}
 use lib.Dec.{eqb}
-use lib.ListN.{length, take, drop, drop-of-length-le}
+use lib.ListN.{length, take, drop}
 use lib.Seq.{take-all, drop-append-seam}
-use borrow.Author.Tests.{eqb-true, eqb-false, eq-eqb, ne-eqb}
-use Rattle.rules.specs.Basic.{pick, slash, isEmpty, splitAt, joinBy, each, onSome}
-use Rattle.rules.specs.Model.{RecipeReference, isPath, asSlash, parseReference, nameOf, pathOf}
-use Rattle.rules.specs.Text.{retain}
+use borrow.Author.Tests.{ne-eqb}
+use Rattle.rules.specs.Basic.{pick, slash, isEmpty, splitAt, each, onSome}
+use Rattle.rules.specs.Model.{isPath, asSlash, parseReference, nameOf, pathOf}
 use Rattle.rules.proofs.Basics.{no-truth}
 use Rattle.rules.proofs.Fields.{Without, without-none, without-more, without-both}
 use Rattle.utf8.specs.declared.Char.{Char}
@@ -23,7 +22,7 @@ use Rattle.content.specs.Names.{isSeparator, separatorFirst, Found, nowh
 use Rattle.content.proofs.Chars.{content-step, content-none, no-content}
 use Rattle.content.proofs.Cuts.{cut-step, cut-start, cut-content}
 use Rattle.content.proofs.Kept.{kept-some, kept-none}
-use Rattle.content.proofs.Splits.{join-split, each-append, slash-of, split-name, without-retain, parse-plain, parse-parts, path-kept, path-none, path-other, path-one, path-short, path-third, path-two, path-parted}
+use Rattle.content.proofs.Splits.{join-split, each-append, split-name, parse-plain, parse-parts, path-kept, path-none, path-other, path-one, path-short, path-third, path-two, path-parted}
 
 -- ---- `is_separator`, `separator_at`
 

@@ -8,13 +8,12 @@ use native.Mathlib.Omega.{arith}
 use lib.Dec.{eqb}
 use lib.ListN.{getD, drop}
 use borrow.Author.Tests.{eq-eqb, ne-eqb, eqb-true, eqb-false}
-use Rattle.rules.specs.Basic.{pick, onSome}
+use Rattle.rules.specs.Basic.{onSome}
 use Rattle.rules.specs.Sheet.{escaped, onto, unescape}
 use Rattle.rules.specs.Read.{contentOf}
-use Rattle.rules.specs.Utf8.{sizeOf, second, later, sized, firstOf, chars}
+use Rattle.rules.specs.Utf8.{sizeOf, sized, firstOf, chars}
 use Rattle.rules.proofs.Basics.{pick-either, by-order, no-some, some-inj}
 use Rattle.rules.proofs.Begins.{Begins, one, two, three, four, second-ascii, later-ascii, second-from, later-from, size-1, size-2, size-3, size-4}
-use Rattle.rules.proofs.Escaped.{unescape-plain, unescape-pair}
 use Rattle.content.specs.Contents.{pairOr, plainOf, contentIn}
 
 pub plain-one : (c : ℕ) (s : List ℕ) → (c ≡ 92 → ⊥) → plainOf (c ∷ s) ≡ c ∷ plainOf s

@@ -1,13 +1,12 @@
 -- Collapsing the blanks of a field collapses those of its content; what is trimmed at its ends has no blank at its front.
-use Prim.Native.Nat.{ℕ, suc, _+_, _≤_, _<_}
+use Prim.Native.Nat.{ℕ, _+_, _≤_}
 use mathlib.Core.Path.{_≡_, refl, sym, ap, _∙_}
 use mathlib.Core.List.{List, [], _∷_, _++_, append-nil}
 use mathlib.Core.Bool.{Bool, true, false}
 use native.Mathlib.Omega.{arith}
 use lib.Dec.{eqb}
 use lib.ListN.{length}
-use borrow.Author.Tests.{eqb-true, eqb-false, ne-eqb, eq-eqb}
-use Rattle.rules.specs.Basic.{pick, blank}
+use borrow.Author.Tests.{eqb-true, eqb-false, ne-eqb}
 use Rattle.rules.specs.Ranges.{member}
 use Rattle.rules.specs.WhiteSpace.{whiteSpace}
 use Rattle.rules.specs.Unicode.{isWhiteSpace}

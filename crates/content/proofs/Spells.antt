@@ -1,5 +1,5 @@
 -- A field is the spelling of its content, and of no other.
-use Prim.Native.Nat.{ℕ, suc, pred, _+_, _≤_, _<_}
+use Prim.Native.Nat.{ℕ, _+_, _≤_, _<_}
 use mathlib.Core.Path.{_≡_, refl, sym, ap, _∙_}
 use mathlib.Core.List.{List, [], _∷_, _++_, append-nil, append-assoc}
 use mathlib.Core.Bool.{Bool, true, false}
@@ -11,21 +11,20 @@ use lib.Seq.{take-append-seam, drop-append-seam}
 use borrow.Author.Tests.{ne-eqb, eqb-true, eqb-false}
 use Rattle.rules.specs.Basic.{pick, tab, lf, isSome}
 use Rattle.rules.specs.Sheet.{escaped, unescape, escapeChar, escape}
-use Rattle.rules.specs.Utf8.{sizeOf, firstOf, charOr, followers, isUtf8, chars, encodeChar, encode}
+use Rattle.rules.specs.Utf8.{charOr, followers, isUtf8, encodeChar, encode}
 use Rattle.rules.proofs.Basics.{by-order, no-truth}
 use Rattle.rules.proofs.Begins.{one, begins-more, first-some, size-1}
 use Rattle.rules.proofs.Fields.{Without, escape-unescape, unescape-escape, escape-no-tab, escape-no-lf}
 use Rattle.rules.proofs.Scalars.{Scalar, Scalars, scalars-none, scalars-more, chars-scalars}
 use Rattle.rules.proofs.Encodes.{Spelled, spelled, encode-1, encode-chars, chars-encode, utf8-encode}
 use Rattle.rules.proofs.Escaped.{Highs, highs-none, highs-more, encode-highs, utf8-escape, utf8-unescape}
-use Rattle.utf8.specs.declared.Char.{Char}
 use Rattle.utf8.specs.Reading.{charOf}
 use Rattle.utf8.proofs.Turns.{charWith}
 use Rattle.content.specs.Contents.{plainOf, contentIn, spell}
 use Rattle.content.specs.Readings.{pairIn, charIn}
 use Rattle.content.specs.Parts.{Field}
 use Rattle.content.proofs.Plains.{plain-unescape}
-use Rattle.content.proofs.Chars.{ContentFirst, content-first, char-plain, no-content}
+use Rattle.content.proofs.Chars.{ContentFirst, content-first, char-plain}
 
 -- ---- spellings by parts
 

@@ -1,19 +1,19 @@
 -- A name split at its separators, and its paths.
-use Prim.Native.Nat.{ℕ, _≤_, _<_}
+use Prim.Native.Nat.{ℕ}
 use mathlib.Core.Path.{_≡_, refl, sym, ap, _∙_}
-use mathlib.Core.List.{List, [], _∷_, _++_, append-assoc}
+use mathlib.Core.List.{List, [], _∷_, _++_}
 use mathlib.Core.Bool.{Bool, true, false, _&&_, _||_}
-use mathlib.Core.Option.{Option, none, some}
+use mathlib.Core.Option.{none, some}
 use native.Mathlib.Omega.{arith}
 use lib.Dec.{eqb}
-use borrow.Author.Tests.{eqb-true, eqb-false, eq-eqb, ne-eqb}
-use Rattle.rules.specs.Basic.{pick, codes, slash, backslash, isEmpty, onFirst, splitAt, joinBy, each, onSome}
-use Rattle.rules.specs.Model.{RecipeReference, startsWith, isPath, asSlash, lastPart, allButLast, referenceParts, parseReference, nameOf, pathOf}
+use borrow.Author.Tests.{eqb-true, eqb-false, ne-eqb}
+use Rattle.rules.specs.Basic.{pick, codes, slash, isEmpty, onFirst, splitAt, joinBy, each}
+use Rattle.rules.specs.Model.{startsWith, isPath, asSlash, lastPart, allButLast, referenceParts, parseReference}
 use Rattle.rules.specs.Text.{retain}
 use Rattle.rules.proofs.Basics.{pick-either, no-truth}
-use Rattle.rules.proofs.Fields.{Without, without-none, without-more, split-one}
+use Rattle.rules.proofs.Fields.{Without, without-more, split-one}
 use Rattle.content.specs.Names.{isSeparator, separatorFirst}
-use Rattle.content.proofs.Kept.{retain-other, retain-front, retain-keeps}
+use Rattle.content.proofs.Kept.{retain-other, retain-keeps}
 
 -- ---- splitting and joining
 

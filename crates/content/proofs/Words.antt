@@ -1,19 +1,18 @@
 -- A content is a plain word where the bytes of its field are.
-use Prim.Native.Nat.{ℕ, suc, _+_, _≤_, _<_}
+use Prim.Native.Nat.{ℕ, _<_}
 use mathlib.Core.Path.{_≡_, refl, sym, ap, _∙_}
 use mathlib.Core.List.{List, [], _∷_}
 use mathlib.Core.Bool.{Bool, true, false, _&&_, not}
 use native.Mathlib.Omega.{arith}
 use lib.Dec.{eqb, ltb}
-use lib.ListN.{length, drop}
-use borrow.Author.Tests.{eqb-true, eqb-false, ltb-true, eq-eqb, ne-eqb}
+use lib.ListN.{drop}
+use borrow.Author.Tests.{eqb-true, eqb-false, ltb-true, ne-eqb}
 use Rattle.rules.specs.Basic.{pick, eqList, wordIn}
 use Rattle.rules.specs.Text.{retain}
 use Rattle.rules.specs.Utf8.{chars}
 use Rattle.rules.specs.Words.{configKeys, defineWords, duplicateWords}
-use Rattle.rules.proofs.Basics.{and-left, and-right, by-order}
+use Rattle.rules.proofs.Basics.{and-left, and-right}
 use Rattle.rules.proofs.Ascii.{wordIn-chars, ascii-keys, ascii-defines, ascii-duplicates}
-use Rattle.utf8.specs.declared.Char.{Char}
 use Rattle.content.specs.Contents.{contentIn, keptIn}
 use Rattle.content.specs.Readings.{charIn}
 use Rattle.content.proofs.Chars.{ContentFirst, content-first, no-content}

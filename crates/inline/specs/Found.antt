@@ -1,13 +1,12 @@
 -- What `find_inline_quantity` answers.
-use Prim.Native.Nat.{ℕ, _-_, _≤_, _<_}
+use Prim.Native.Nat.{ℕ, _≤_, _<_}
 use mathlib.Core.Path.{_≡_}
-use mathlib.Core.Bool.{true}
-use mathlib.Core.List.{List, [], _∷_, _++_}
-use lib.ListN.{length, take, drop}
+use mathlib.Core.List.{List, _∷_, _++_}
+use lib.ListN.{length, drop}
 use Rattle.content.specs.Contents.{contentIn}
 use Rattle.content.specs.Parts.{Field}
 use Rattle.rules.specs.Units.{NamedUnit}
-use Rattle.rules.specs.Inline.{Piece, textPiece, quantityPiece, textIfAny, inlinePieces}
+use Rattle.rules.specs.Inline.{Piece, quantityPiece, textIfAny, inlinePieces}
 use Rattle.inline.specs.declared.Inline.{Inline}
 use Rattle.inline.specs.declared.Inline.the-variants.{Found, Nothing}
 use Rattle.inline.specs.Scans.{part}

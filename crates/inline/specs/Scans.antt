@@ -1,7 +1,7 @@
 -- What the functions that go over a text answer.
 use Prim.Native.Nat.{ℕ, _≤_, _-_}
 use mathlib.Core.Path.{_≡_}
-use mathlib.Core.Bool.{Bool, true, not}
+use mathlib.Core.Bool.{Bool, not}
 use mathlib.Core.List.{List}
 use lib.ListN.{length, take, drop}
 use Rattle.rules.specs.Unicode.{isWhiteSpace}

@@ -5,7 +5,7 @@ use mathlib.Core.Bool.{true, false}
 use mathlib.Core.List.{List, _++_}
 use native.Mathlib.Omega.{arith}
 use borrow.Author.Tests.{eq-eqb, ne-eqb}
-use lib.ListN.{length, drop}
+use lib.ListN.{length}
 use Rattle.rules.specs.Basic.{eqList}
 use Rattle.rules.specs.Unicode.{fold, foldName, sameName}
 use Rattle.content.specs.Contents.{keptIn}

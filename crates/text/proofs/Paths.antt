@@ -3,23 +3,21 @@ use Prim.Native.Nat.{ℕ, zero, suc, _<_, _≤_, _+_}
 use mathlib.Core.Path.{_≡_, refl, sym, ap, _∙_}
 use mathlib.Core.Bool.{Bool, true, false, _&&_, not, and-false}
 use mathlib.Core.List.{List, [], _∷_, _++_}
-use native.Mathlib.Numerals.{add-one}
 use native.Mathlib.Omega.{arith}
-use borrow.Author.Tests.{eq-eqb, ne-eqb, eqb-true, eqb-false, not-true, not-false}
+use borrow.Author.Tests.{ne-eqb, eqb-true, eqb-false, not-true, not-false}
 use lib.Dec.{eqb}
 use lib.ListN.{length, getD, drop, drop-of-length-le}
 use lib.Seq.{drop-cons, getD-drop}
-use Rattle.rules.specs.Basic.{pick, blank, slash, backslash, each}
+use Rattle.rules.specs.Basic.{pick, blank, each}
 use Rattle.rules.specs.Model.{asSlash}
 use Rattle.rules.specs.Text.{retain}
 use Rattle.rules.specs.Sheet.{escape, escapeChar}
 use Rattle.rules.specs.Utf8.{encode, encodeChar}
-use Rattle.rules.proofs.Basics.{and-left, and-right, by-order, no-truth}
-use Rattle.rules.proofs.Fields.{Without, without-none, without-more}
+use Rattle.rules.proofs.Basics.{and-left, and-right, by-order}
 use Rattle.rules.proofs.Encodes.{encode-1}
 use Rattle.rules.proofs.Escaped.{Highs, highs-none, highs-more, encode-highs}
 use Rattle.rules.proofs.Scalars.{Scalar, Scalars, scalars-none, scalars-more}
-use Rattle.content.specs.Contents.{contentIn, keptIn, spell}
+use Rattle.content.specs.Contents.{keptIn, spell}
 use Rattle.content.specs.Parts.{Field}
 use Rattle.content.proofs.Kept.{retain-front, retain-other, retain-keeps, retain-blank}
 use Rattle.content.proofs.Spells.{spell-cons, escape-highs, char-written, field-spell, content-scalars}

@@ -1,19 +1,19 @@
 -- Trimming, one character at a time.
-use Prim.Native.Nat.{ℕ, zero, suc, _≤_, _<_, _+_, _-_}
+use Prim.Native.Nat.{ℕ, _≤_, _<_, _+_, _-_}
 use mathlib.Core.Path.{_≡_, refl, sym, ap, _∙_}
-use mathlib.Core.Bool.{Bool, true, false, _||_, not}
-use mathlib.Core.List.{List, [], _∷_, _++_, append-assoc, append-nil}
+use mathlib.Core.Bool.{Bool, true, false, not}
+use mathlib.Core.List.{List, [], _∷_, _++_, append-assoc}
 use native.Mathlib.Omega.{arith}
 use borrow.Author.Tests.{not-true, not-false}
 use lib.ListN.{length, drop, take, length-drop, length-append, take-append-drop}
 use lib.Seq.{take-all}
-use Rattle.rules.specs.Basic.{pick, any}
+use Rattle.rules.specs.Basic.{any}
 use Rattle.rules.specs.Text.{trimStart, trimOnto, trimEnd, trimMatches, textOuterTrimmed, unitTrimmed, isNotAlphabetic}
 use Rattle.rules.specs.Unicode.{isWhiteSpace, isAlphabetic}
 use Rattle.utf8.specs.declared.Char.{Char}
 use Rattle.content.specs.Contents.{contentIn}
 use Rattle.content.specs.Readings.{charIn}
-use Rattle.content.specs.Parts.{Field, Cut, CutAt}
+use Rattle.content.specs.Parts.{Cut, CutAt}
 use Rattle.content.proofs.Chars.{content-step, content-none, no-content}
 use Rattle.content.proofs.Cuts.{cut-none, cut-seq, cut-start, cut-step}
 use Rattle.text.specs.declared.Dropped.{Dropped}

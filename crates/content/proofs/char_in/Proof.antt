@@ -1,6 +1,5 @@
 use Rattle.content.proofs.Chars.{in-ascii, in-wide}
 use borrow.Author.Needs.{needs}
-use native.Mathlib.Omega.{arith}
 use Rattle.content.proofs.char_in.Statement.{statement}
 use Rattle.content.proofs.char_in.Tie as tie
 use Rattle.content.proofs.char_in.Reads as reads

@@ -1,5 +1,3 @@
-use borrow.Author.Needs.{needs}
-use native.Mathlib.Omega.{arith}
 use Rattle.content.proofs.Paths.{back-separator, other-separator}
 use Rattle.content.proofs.is_separator.Statement.{statement}
 use Rattle.content.proofs.is_separator.Tie as tie

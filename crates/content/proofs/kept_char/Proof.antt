@@ -1,5 +1,4 @@
 use borrow.Author.Needs.{needs}
-use native.Mathlib.Omega.{arith}
 use Rattle.content.proofs.Kept.{kept-ascii}
 use Rattle.content.proofs.kept_char.Statement.{statement}
 use Rattle.content.proofs.kept_char.Tie as tie

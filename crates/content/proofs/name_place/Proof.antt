@@ -1,5 +1,4 @@
 use borrow.Author.Needs.{needs}
-use native.Mathlib.Omega.{arith}
 use Rattle.content.proofs.Paths.{name-plain, name-empty, name-found}
 use Rattle.content.proofs.name_place.Statement.{statement}
 use Rattle.content.proofs.name_place.Tie as tie

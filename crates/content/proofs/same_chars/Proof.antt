@@ -6,7 +6,7 @@ use Rattle.content.proofs.Chars.{content-step}
 use Rattle.rules.specs.Utf8.{chars}
 use Rattle.utf8.proofs.Steps.{char-step}
 use Rattle.content.specs.Contents.{contentIn}
-use Rattle.content.proofs.Compare.{Comparing, comparing, Stepped, content-on, chars-step, compare-on, compare-differ, compare-longer, compare-end, content-ending, chars-ending}
+use Rattle.content.proofs.Compare.{Comparing, comparing, content-on, chars-step, compare-on, compare-differ, compare-longer, compare-end, content-ending, chars-ending}
 use Rattle.content.proofs.same_chars.Statement.{statement}
 use Rattle.content.proofs.same_chars.Tie as tie
 use Rattle.content.proofs.same_chars.Reads as reads

@@ -5,7 +5,7 @@ use lib.ListN.{length}
 use Rattle.rules.specs.Utf8.{chars}
 use Rattle.utf8.proofs.Steps.{char-step}
 use Rattle.content.specs.Contents.{keptIn}
-use Rattle.content.proofs.Compare.{Comparing, comparing, Stepped, kept-step, chars-step, compare-on, compare-differ, compare-longer, compare-end, kept-ending, chars-ending}
+use Rattle.content.proofs.Compare.{Comparing, comparing, kept-step, chars-step, compare-on, compare-differ, compare-longer, compare-end, kept-ending, chars-ending}
 use Rattle.content.proofs.same_content.Statement.{statement}
 use Rattle.content.proofs.same_content.Tie as tie
 use Rattle.content.proofs.same_content.Reads as reads

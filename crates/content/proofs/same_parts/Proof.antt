@@ -2,9 +2,8 @@ use borrow.Author.Needs.{needs}
 use native.Mathlib.Omega.{arith}
 use Prim.Native.Nat.{_-_}
 use lib.ListN.{length}
-use Rattle.rules.specs.Utf8.{chars}
 use Rattle.content.specs.Contents.{keptIn}
-use Rattle.content.proofs.Compare.{Comparing, comparing, Stepped, kept-step, chars-step, compare-on, compare-differ, compare-longer, compare-end, kept-ending, chars-ending}
+use Rattle.content.proofs.Compare.{Comparing, comparing, kept-step, compare-on, compare-differ, compare-longer, compare-end, kept-ending}
 use Rattle.content.proofs.same_parts.Statement.{statement}
 use Rattle.content.proofs.same_parts.Tie as tie
 use Rattle.content.proofs.same_parts.Reads as reads

@@ -1,5 +1,4 @@
 use borrow.Author.Needs.{needs}
-use native.Mathlib.Omega.{arith}
 use Rattle.content.proofs.Paths.{separator-none, separator-some}
 use Rattle.content.proofs.separator_at.Statement.{statement}
 use Rattle.content.proofs.separator_at.Tie as tie

@@ -1,12 +1,9 @@
 use borrow.Author.Needs.{needs}
 use native.Mathlib.Omega.{arith}
-use Prim.Native.Nat.{_≤_, _-_}
-use mathlib.Core.Path.{_≡_, refl}
-use lib.ListN.{length, drop}
+use Prim.Native.Nat.{_-_}
+use mathlib.Core.Path.{refl}
+use lib.ListN.{length}
 use Rattle.content.proofs.Kept.{Skipping}
-use Rattle.rules.specs.Basic.{blank}
-use Rattle.rules.specs.Text.{retain}
-use Rattle.content.specs.Contents.{contentIn}
 use Rattle.content.proofs.Kept.{skip-more, skip-end, skip-other}
 use Rattle.content.proofs.skip_blanks.Statement.{statement}
 use Rattle.content.proofs.skip_blanks.Tie as tie

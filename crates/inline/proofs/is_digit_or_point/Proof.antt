@@ -1,5 +1,4 @@
 use borrow.Author.Needs.{needs}
-use native.Mathlib.Omega.{arith}
 use Rattle.inline.proofs.Scans.{digit-passes, point-passes}
 use Rattle.inline.proofs.is_digit_or_point.Statement.{statement}
 use Rattle.inline.proofs.is_digit_or_point.Tie as tie

@@ -1,5 +1,4 @@
 use borrow.Author.Needs.{needs}
-use native.Mathlib.Omega.{arith}
 use mathlib.Core.Path.{refl}
 use Rattle.inline.proofs.Signs.{sign-empty, sign-minus, sign-other}
 use Rattle.inline.proofs.sign_start.Statement.{statement}

@@ -1,4 +1,3 @@
-use native.Mathlib.Omega.{arith}
 use Rattle.inline.proofs.Items.{items-yes, items-no}
 use Rattle.inline.proofs.text_items.Statement.{statement}
 use Rattle.inline.proofs.text_items.Tie as tie

@@ -1,5 +1,4 @@
 use borrow.Author.Needs.{needs}
-use native.Mathlib.Omega.{arith}
 use Rattle.inline.proofs.Names.{unit-there}
 use Rattle.inline.proofs.unit_part.Statement.{statement}
 use Rattle.inline.proofs.unit_part.Tie as tie

@@ -1,5 +1,4 @@
 use borrow.Author.Needs.{needs}
-use native.Mathlib.Omega.{arith}
 use Rattle.text.proofs.Paths.{back-past, back-other, back-last, back-next}
 use Rattle.text.proofs.is_back.Statement.{statement}
 use Rattle.text.proofs.is_back.Tie as tie

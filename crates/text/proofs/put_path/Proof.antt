@@ -1,6 +1,5 @@
 use borrow.Author.Needs.{needs}
 use native.Mathlib.Omega.{arith}
-use mathlib.Core.Path.{refl}
 use Prim.Native.Nat.{_-_}
 use lib.ListN.{length, drop}
 use Rattle.output.proofs.Puts.{Leads, starts, turn, step, ends-in, ends-out}

@@ -1,5 +1,4 @@
 use borrow.Author.Needs.{needs}
-use native.Mathlib.Omega.{arith}
 use Rattle.text.proofs.Writes.{put-trimmed}
 use Rattle.text.proofs.put_text_trimmed.Statement.{statement}
 use Rattle.text.proofs.put_text_trimmed.Tie as tie

@@ -1,5 +1,4 @@
 use borrow.Author.Needs.{needs}
-use native.Mathlib.Omega.{arith}
 use Rattle.text.proofs.Trims.{trimmed-both}
 use Rattle.text.proofs.trimmed.Statement.{statement}
 use Rattle.text.proofs.trimmed.Tie as tie
