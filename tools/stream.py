@@ -31,6 +31,11 @@ LINES = [line.encode("utf-8") for line in [
     "\u3000\u2003 1 c\u00e0\u0300ndied\u00a0 \u00a0peel\u2028\u2029\u0085", "\u200b\u2060\ufeff not blank \ufeff", " " * 40, "a" + " " * 40 + "b", "a b",
     "\x00\x01\x7f\x1c\x1f", "\x0b\x0c\r mixed \r\x0c\x0b", "\u0080 \u07ff \u0800 \ud7ff \ue000 \uffff \U00010000",
 ]] + [
+    # escapes, and backslashes that escape nothing
+    b"\\n\\t two\\\\eggs \\t\\n", b"\\t Two\\\\Eggs", b"two\\\\eggs", b"two\\eggs", b"\\", b"\\\\", b"\\\\\\", b"a\\", b"\\ \\x \\\xc3\xa9", b"\xc3\\n", b"\xe2\x80\\t",
+    b"a\\t  \\t  b", b"A\\t \\t b", b"  a   b  ", b" A B ", b"\\N\\T", b"\\n\\T",
+    # paths
+    b"./", b"./bread", b"../bread", b"./my/bread", b"./my\\\\bread", b".\\\\my\\\\bread", b"..\\\\bread", b".\\bread", b"./bread/", b"./ bread  and   butter", b".../x", b".bread/x", b". /x", b"./\\t/a\\n", b"..", b".", b"../..",
     b"\xff", b"\x80\xbf", b"bad \xc3", b"bad \xc3 bad", b"\xe2\x80", b"\xe2\x80\x20\x20\x83\xe2\x80\x83", b"\xf0\x9f\x8d", b" \xf0\x9f\x8d\x20 \x20",
     b"\xc0\xaf \xe0\x80\xaf \xf0\x80\x80\xaf", b"\xed\xa0\x80 \xed\xbf\xbf", b"\xf4\x90\x80\x80 \xf5\x80\x80\x80", b"\xc1\x81A\xc2",
     b"\xe3\x80\x80\xe3\x80 \xe3\x80\x80", b"Stra\xc3\x9fe \xc3\x9f\xc3", b"STRASSE ss\xff", b"strasse SS\xfe", b"caf\xe9", b"caf\xef\xbf\xbd",
@@ -51,10 +56,17 @@ def text():
     return b"\n".join(lines) + b"\n"
 
 
+ESCAPES = {b"\\\\": 0x5C, b"\\t": 0x09, b"\\n": 0x0A}
+
+
 def chars(s):
-    """the code points of any bytes: a byte at which no character starts reads as U+FFFD"""
+    """the code points of an escaped field, or of any bytes: a byte at which no character starts reads as U+FFFD"""
     out, i = [], 0
     while i < len(s):
+        if s[i:i + 2] in ESCAPES:
+            out.append((ESCAPES[s[i:i + 2]], s[i:i + 2]))
+            i += 2
+            continue
         for n in (1, 2, 3, 4):
             try:
                 c = s[i:i + n].decode("utf-8")
@@ -76,27 +88,38 @@ def outer_trimmed(cs):
 
 
 def single_blanks(cs):
-    return [x for i, x in enumerate(cs) if not (x[0] == 32 and (i == 0 or cs[i - 1][0] == 32))]
+    return [x for i, x in enumerate(cs) if not (x[0] == 32 and i > 0 and cs[i - 1][0] == 32)]
 
 
 def size(cs):
     return sum(len(b) for _, b in cs)
 
 
+def name_place(cs):
+    """where the path before a name ends, and where the name starts; without a path both are 0"""
+    name = "".join(chr(c) for c, _ in cs)
+    if not name.startswith(("./", "../", ".\\", "..\\")) or name[-1] in "/\\":
+        return 0, 0
+    last = max(i for i, c in enumerate(name) if c in "/\\")
+    return size(cs[:last]), size(cs[:last + 1])
+
+
 def printed(s):
-    lines, before, out = s.split(b"\n"), [], ""
+    lines, before, whole, out = s.split(b"\n"), [], [], ""
     if lines[-1] == b"":
         lines.pop()
     for line in lines:
         cs = chars(line)
         points = [c for c, _ in cs]
-        folded = [x for c in points for x in FOLD.get(c, [c])]
+        kept = [c for c, _ in single_blanks(cs)]
+        folded = [x for c in kept for x in FOLD.get(c, [c])]
         total = 0
         for x in folded:
             total = (total * 31 + x) % 2 ** 32
         row = [len(points)] + [sum(c in k for c in points) for k in (IS_WHITE, IS_ALPHA, IS_ALNUM)]
-        row += [len(folded), total, size(outer_trimmed(cs)), size(single_blanks(outer_trimmed(cs))), int(folded == before)]
-        before = folded
+        row += [int(any(c in IS_ALNUM for c in points)), len(folded), total, size(outer_trimmed(cs)), size(single_blanks(outer_trimmed(cs)))]
+        row += [*name_place(cs), int(folded == before), int(kept == whole)]
+        before, whole = folded, kept
         out += "\t".join(map(str, row)) + "\n"
     return out.encode("ascii")
 

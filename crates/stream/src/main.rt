@@ -1,6 +1,8 @@
-// Reads up to 65,536 bytes of text and writes for each line: how many code points it has, how many of them are
-// White_Space, Alphabetic and alphanumeric; how many its folding has, and a checksum of it; how many bytes the line
-// has when its ends are trimmed, and when it is trimmed altogether; and 1 if it has the same name as the line before.
+// Reads up to 65,536 bytes of lines, each of them a field as it stands escaped in a sheet, and writes for each: how many
+// code points it has, how many of them are White_Space, Alphabetic and alphanumeric, and 1 if any is alphanumeric; how
+// many its folding has, blanks collapsed, and a checksum of it; how many bytes the line has when its ends are trimmed,
+// and when it is trimmed altogether; where a path before its name ends and where the name starts; and 1 if it has the
+// same name as the line before, and 1 if it has the same content.
 use libc::STDIN_FILENO;
 use libc::STDOUT_FILENO;
 use text::Step;
@@ -43,7 +45,7 @@ fn count(t: &[u32], s: &[u8]) -> Counts
     let mut alphanumeric: u64 = 0;
     let mut at = 0;
     while at < s.len() {
-        let c = utf8::char_at(s, at);
+        let c = content::char_in(s, at);
         points += 1;
         white += one(unicode::is_white_space(t, c.code));
         alphabetic += one(unicode::is_alphabetic(t, c.code));
@@ -96,19 +98,48 @@ fn show_counts(n: Counts) {
     put(n.alphanumeric, b"\t");
 }
 
-fn show_line(t: &[u32], before: &[u8], line: &[u8], work: &mut [u8])
+fn show_place(line: &[u8]) {
+    let p = content::name_place(line);
+    put(wide(p.end), b"\t");
+    put(wide(p.start), b"\t");
+}
+
+fn show_same(t: &[u32], before: &[u8], line: &[u8])
+    requires { ⌜ now t ≡ unicodeTables ⌝ }
+{
+    let same = text::same_name(t, before, line);
+    put(one(same), b"\t");
+    let equal = content::same_parts(before, line);
+    put(one(equal), b"\n");
+}
+
+fn show_read(t: &[u32], line: &[u8])
     requires { ⌜ now t ≡ unicodeTables ⌝ }
 {
     show_counts(count(t, line));
+    let any = text::has_alphanumeric(t, line);
+    put(one(any), b"\t");
     let f = folded(t, line);
     put(f.count, b"\t");
     put(f.total, b"\t");
+}
+
+fn show_trimmed(t: &[u32], line: &[u8], work: &mut [u8])
+    requires { ⌜ now t ≡ unicodeTables ⌝ }
+{
     let r = text::text_outer_trimmed(t, line);
     put(wide(r.len()), b"\t");
     let n = text::put_text_trimmed(t, work, 0, line);
     put(wide(n), b"\t");
-    let same = text::same_name(t, before, line);
-    put(one(same), b"\n");
+}
+
+fn show_line(t: &[u32], before: &[u8], line: &[u8], work: &mut [u8])
+    requires { ⌜ now t ≡ unicodeTables ⌝ }
+{
+    show_read(t, line);
+    show_trimmed(t, line, work);
+    show_place(line);
+    show_same(t, before, line);
 }
 
 // The place of the first line feed from a place on, or the end.

@@ -1,5 +1,3 @@
-pub mod Ends
 pub mod Trims
-pub mod Walks
-pub mod Retains
+pub mod Writes
 pub mod Names

@@ -5,16 +5,16 @@ use mathlib.Core.Bool.{true, false}
 use mathlib.Core.List.{List, _++_}
 use native.Mathlib.Omega.{arith}
 use borrow.Author.Tests.{eq-eqb, ne-eqb}
-use lib.ListN.{length, drop, drop-of-length-le}
+use lib.ListN.{length, drop}
 use Rattle.rules.specs.Basic.{eqList}
 use Rattle.rules.specs.Unicode.{fold, foldName, sameName}
-use Rattle.rules.specs.Utf8.{charsFrom, chars}
+use Rattle.content.specs.Contents.{keptIn}
+use Rattle.content.specs.Kept.{KeptStep}
+use Rattle.content.proofs.Kept.{kept-none}
 use Rattle.unicode.specs.declared.Folded.{Folded}
 use Rattle.unicode.specs.declared.Folded.the-variants as folded
 use Rattle.unicode.specs.Folded.{foldedOf}
 use Rattle.utf8.specs.declared.Char.{Char}
-use Rattle.utf8.specs.Reading.{charOf}
-use Rattle.utf8.proofs.Steps.{char-step}
 use Rattle.text.specs.declared.Pending.the-variants.{Nothing, One, Two}
 use Rattle.text.specs.declared.Cursor.{Cursor}
 use Rattle.text.specs.declared.Step.{Step}
@@ -22,7 +22,7 @@ use Rattle.text.specs.declared.Step.the-variants.{Code, End}
 use Rattle.text.specs.Names.{pendingOf, foldFrom, rest, told, startCursor, stepOf}
 
 -- the cursor at the front has the whole folding yet to give
-pub rest-start : (s : List ℕ) → rest s startCursor ≡ foldName (chars s)
+pub rest-start : (s : List ℕ) → rest s startCursor ≡ foldName (keptIn s)
 unfolding rest pendingOf foldFrom
 rest-start s = refl
 
@@ -46,17 +46,12 @@ module _ (f : Folded) (at : ℕ) where
   emit-3 a b c e = rw e
 
 pub fresh-end : (s : List ℕ) (at : ℕ) → length s ≤ at → told s End ≡ foldFrom s at
-unfolding told foldFrom foldName chars charsFrom
-fresh-end s at h = rw (drop-of-length-le s h)
+unfolding told foldFrom foldName
+fresh-end s at h = rw (kept-none s at h)
 
-module _ (s : List ℕ) (at : ℕ) (ch : Char) (h : at < length s) (e : ch ≡ charOf (drop at s)) where
-  pub fresh-most : at + ch .size ≤ length s
-  fresh-most = char-step s at ch h e .most
-
-  pub fresh-on : (f : Folded) → foldedOf f ≡ fold (ch .code) → (r : Step) → r ≡ stepOf f (at + ch .size) → told s r ≡ foldFrom s at
-  unfolding foldFrom foldName
-  fresh-on f ef r er =
-      ap (told s) er ∙ told-step s f (at + ch .size) ∙ rw (ef) (sym (ap foldName (char-step s at ch h e .reads)))
+pub fresh-on : {s : List ℕ} {at : ℕ} {ch : Char} → KeptStep s at ch → (f : Folded) → foldedOf f ≡ fold (ch .code) → (r : Step) → r ≡ stepOf f (at + ch .size) → told s r ≡ foldFrom s at
+unfolding foldFrom foldName
+fresh-on {s} {at} {ch} k f ef r er = ap (told s) er ∙ told-step s f (at + ch .size) ∙ rw (ef) (sym (ap foldName (k .reads)))
 
 module _ (s : List ℕ) (c : Cursor) where
   pub next-0 : c .pending ≡ Nothing → (r : Step) → told s r ≡ foldFrom s (c .at) → told s r ≡ rest s c
@@ -71,33 +66,33 @@ module _ (s : List ℕ) (c : Cursor) where
   unfolding told rest pendingOf
   next-2 x y e = rw e
 
-pub same-start : (a b : List ℕ) (i j : Cursor) → i ≡ startCursor → j ≡ startCursor → eqList (rest a i) (rest b j) ≡ sameName (chars a) (chars b)
+pub same-start : (a b : List ℕ) (i j : Cursor) → i ≡ startCursor → j ≡ startCursor → eqList (rest a i) (rest b j) ≡ sameName (keptIn a) (keptIn b)
 unfolding sameName
 same-start a b i j ei ej = rw (ei, ej, rest-start a, rest-start b)
 
 module _ (a b : List ℕ) (i j : Cursor) (p q : Step) (ep : told a p ≡ rest a i) (eq : told b q ≡ rest b j) where
-  module _ (inv : eqList (rest a i) (rest b j) ≡ sameName (chars a) (chars b)) where
-    base : eqList (told a p) (told b q) ≡ sameName (chars a) (chars b)
+  module _ (inv : eqList (rest a i) (rest b j) ≡ sameName (keptIn a) (keptIn b)) where
+    base : eqList (told a p) (told b q) ≡ sameName (keptIn a) (keptIn b)
     base = rw (ep, eq) inv
 
-    pub both-end : p ≡ End → q ≡ End → true ≡ sameName (chars a) (chars b)
+    pub both-end : p ≡ End → q ≡ End → true ≡ sameName (keptIn a) (keptIn b)
     unfolding told eqList
     both-end hp hq = rw (hp, hq) at base
 
-    pub left-end : p ≡ End → (y : ℕ) (l : Cursor) → q ≡ Code y l → false ≡ sameName (chars a) (chars b)
+    pub left-end : p ≡ End → (y : ℕ) (l : Cursor) → q ≡ Code y l → false ≡ sameName (keptIn a) (keptIn b)
     unfolding told eqList
     left-end hp y l hq = rw (hp, hq) at base
 
-    pub right-end : (x : ℕ) (k : Cursor) → p ≡ Code x k → q ≡ End → false ≡ sameName (chars a) (chars b)
+    pub right-end : (x : ℕ) (k : Cursor) → p ≡ Code x k → q ≡ End → false ≡ sameName (keptIn a) (keptIn b)
     unfolding told eqList
     right-end x k hp hq = rw (hp, hq) at base
 
     module _ (x y : ℕ) (k l : Cursor) (hp : p ≡ Code x k) (hq : q ≡ Code y l) where
-      pub differ : (x ≡ y → ⊥) → false ≡ sameName (chars a) (chars b)
+      pub differ : (x ≡ y → ⊥) → false ≡ sameName (keptIn a) (keptIn b)
       unfolding told eqList
       differ n = rw (hp, hq, ne-eqb x y n) at base
 
-      pub agree : x ≡ y → eqList (rest a k) (rest b l) ≡ sameName (chars a) (chars b)
+      pub agree : x ≡ y → eqList (rest a k) (rest b l) ≡ sameName (keptIn a) (keptIn b)
       unfolding told eqList
       agree n = rw (hp, hq, eq-eqb x y n) at base
 

@@ -1,134 +1,194 @@
--- What is trimmed of bytes is trimmed of their code points.
-use Prim.Native.Nat.{ℕ, zero, suc, pred}
+-- Trimming, one character at a time.
+use Prim.Native.Nat.{ℕ, zero, suc, _≤_, _<_, _+_, _-_}
 use mathlib.Core.Path.{_≡_, refl, sym, ap, _∙_}
-use mathlib.Core.Bool.{Bool, true, false}
-use mathlib.Core.List.{List, [], _∷_, _++_}
-use mathlib.Core.Option.{Option, none, some}
-use lib.ListN.{take, drop}
-use Rattle.rules.specs.Basic.{pick, all, isSome}
-use Rattle.rules.specs.Text.{trimStart, trimEnd}
-use Rattle.rules.specs.Utf8.{sizeOf, firstOf, charOr, followers, charsFrom, chars, isUtf8}
-use Rattle.rules.proofs.Basics.{no-some}
-use Rattle.rules.proofs.Begins.{Begins, one, two, three, four, begins, begins-more, first-some, size-2, size-3, size-4}
-use Rattle.rules.proofs.Chars.{wellFrom, well-utf8, starts}
-use Rattle.text.specs.Trims.{bytesStart, bytesEnd}
-use Rattle.text.proofs.Ends.{all-gone, first-stays}
+use mathlib.Core.Bool.{Bool, true, false, _||_, not}
+use mathlib.Core.List.{List, [], _∷_, _++_, append-assoc, append-nil}
+use native.Mathlib.Omega.{arith}
+use borrow.Author.Tests.{not-true, not-false}
+use lib.ListN.{length, drop, take, length-drop, length-append, take-append-drop}
+use lib.Seq.{take-all}
+use Rattle.rules.specs.Basic.{pick, any}
+use Rattle.rules.specs.Text.{trimStart, trimOnto, trimEnd, trimMatches, textOuterTrimmed, unitTrimmed, isNotAlphabetic}
+use Rattle.rules.specs.Unicode.{isWhiteSpace, isAlphabetic}
+use Rattle.utf8.specs.declared.Char.{Char}
+use Rattle.content.specs.Contents.{contentIn}
+use Rattle.content.specs.Readings.{charIn}
+use Rattle.content.specs.Parts.{Field, Cut, CutAt}
+use Rattle.content.proofs.Chars.{content-step, content-none, no-content}
+use Rattle.content.proofs.Cuts.{cut-none, cut-seq, cut-start, cut-step}
+use Rattle.text.specs.declared.Dropped.{Dropped}
+use Rattle.text.specs.declared.Dropped.the-variants.{White, NotAlphabetic}
+use Rattle.text.specs.Trims.{dropsOf, StartAt, EndAt, TrimmedBy, TrimmedTo, UnitTrimmedTo}
 
--- a character is its own bytes, whatever follows them
-begins-take : {a : ℕ} {s : List ℕ} {c : ℕ} (t : List ℕ) → Begins a s c → Begins a (take (pred (sizeOf a)) s ++ t) c
-begins-take t (one {a} h) = one h
-begins-take t (two {a} h g q) = rw (size-2 a h g) (two h g q)
-begins-take t (three {a} h g q l) = rw (size-3 a h g) (three h g q l)
-begins-take t (four {a} h g q l m) = rw (size-4 a h g) (four h g q l m)
+-- the tests
+pub dropped-white : (d : Dropped) (c : ℕ) (r : Bool) → d ≡ White → r ≡ isWhiteSpace c → r ≡ dropsOf d c
+unfolding dropsOf
+dropped-white d c r e f = rw e f
 
-begins-follow : {a : ℕ} {s : List ℕ} {c : ℕ} → Begins a s c → followers a (firstOf a s) ≡ pred (sizeOf a)
-unfolding followers
-begins-follow g = rw (first-some g)
+pub dropped-other : (d : Dropped) (c : ℕ) (r : Bool) → d ≡ NotAlphabetic → r ≡ isAlphabetic c → not r ≡ dropsOf d c
+unfolding dropsOf isNotAlphabetic
+dropped-other d c r e f = rw (e, f)
+
+-- ---- lists
 
 module _ (drops : ℕ → Bool) where
-  -- ---- the front
-  start-from : (k : ℕ) (s : List ℕ) → charsFrom 0 (bytesStart drops k s) ≡ trimStart drops (charsFrom k s)
-  unfolding bytesStart charsFrom trimStart
-  start-from zero [] = refl
-  start-from (suc k) [] = refl
-  start-from (suc k) (a ∷ s) = start-from k s
-  start-from zero (a ∷ s) = go (start-from (followers a (firstOf a s)) s) (drops (charOr (firstOf a s)))
-    where
-      go : charsFrom 0 (bytesStart drops (followers a (firstOf a s)) s) ≡ trimStart drops (charsFrom (followers a (firstOf a s)) s) → (b : Bool)
-          → charsFrom 0 (pick b (bytesStart drops (followers a (firstOf a s)) s) (a ∷ s))
-          ≡ pick b (trimStart drops (charsFrom (followers a (firstOf a s)) s)) (charsFrom 0 (a ∷ s))
-      go ih true = ih
-      go ih false = refl
+  onto-last : (x : ℕ) (xs : List ℕ) (c : ℕ) → trimOnto drops x (xs ++ (c ∷ [])) ≡ x ∷ (xs ++ (c ∷ []))
+  unfolding trimOnto
+  onto-last x [] c = refl
+  onto-last x (y ∷ xs) c = refl
 
-  start-well : (k : ℕ) (s : List ℕ) → wellFrom k s ≡ true → wellFrom 0 (bytesStart drops k s) ≡ true
-  unfolding bytesStart wellFrom
-  start-well zero [] w = refl
-  start-well (suc k) [] w = refl
-  start-well (suc k) (a ∷ s) w = start-well k s w
-  start-well zero (a ∷ s) w =
-      let g = starts a s w in
-      go (start-well (followers a (firstOf a s)) s (rw (begins-follow (g .is)) (g .rest))) (drops (charOr (firstOf a s)))
-    where
-      go : wellFrom 0 (bytesStart drops (followers a (firstOf a s)) s) ≡ true → (b : Bool)
-          → wellFrom 0 (pick b (bytesStart drops (followers a (firstOf a s)) s) (a ∷ s)) ≡ true
-      go ih true = ih
-      go ih false = w
+  end-dropped : (xs : List ℕ) (c : ℕ) → drops c ≡ true → trimEnd drops (xs ++ (c ∷ [])) ≡ trimEnd drops xs
+  unfolding trimEnd trimOnto
+  end-dropped [] c e = rw e
+  end-dropped (x ∷ xs) c e = rw (end-dropped xs c e)
 
-  -- ---- the end
-  pub skip-end : (k : ℕ) (s : List ℕ) → bytesEnd drops k s ≡ take k s ++ bytesEnd drops 0 (drop k s)
-  unfolding bytesEnd
-  skip-end zero s = refl
-  skip-end (suc k) [] = refl
-  skip-end (suc k) (a ∷ s) = ap (λ (l : List ℕ). a ∷ l) (skip-end k s)
+  end-kept : (xs : List ℕ) (c : ℕ) → drops c ≡ false → trimEnd drops (xs ++ (c ∷ [])) ≡ xs ++ (c ∷ [])
+  unfolding trimEnd
+  end-kept [] c e = unfold trimOnto in rw e
+  end-kept (x ∷ xs) c e = rw (end-kept xs c e) (onto-last x xs c)
 
-  record Front (p s : List ℕ) : Type 0 where
-    back : List ℕ
-    is : p ++ back ≡ s
+  -- ---- the turns of `start_of`
 
-  end-front : (k : ℕ) (s : List ℕ) → Front (bytesEnd drops k s) s
-  unfolding bytesEnd
-  end-front k [] = record { back = []; is = refl }
-  end-front (suc k) (a ∷ s) = let f = end-front k s in record { back = f .back; is = ap (λ (l : List ℕ). a ∷ l) (f .is) }
-  end-front zero (a ∷ s) = go (end-front (followers a (firstOf a s)) s) (all drops (chars (a ∷ s)))
-    where
-      go : Front (bytesEnd drops (followers a (firstOf a s)) s) s → (b : Bool) → Front (pick b [] (a ∷ bytesEnd drops (followers a (firstOf a s)) s)) (a ∷ s)
-      go f true = record { back = a ∷ s; is = refl }
-      go f false = record { back = f .back; is = ap (λ (l : List ℕ). a ∷ l) (f .is) }
+  pub record Starting (s : List ℕ) (at : ℕ) : Type 0 where
+    pub most : at ≤ length s
+    pub cut : CutAt s at
+    pub is : trimStart drops (contentIn (drop at s)) ≡ trimStart drops (contentIn s)
 
-  -- the first character is the same where the end is trimmed
-  first-end : (a : ℕ) (s : List ℕ) → firstOf a (bytesEnd drops (followers a (firstOf a s)) s) ≡ firstOf a s
-  first-end a s = go (firstOf a s) refl
-    where
-      none-more : firstOf a s ≡ none → (o : Option ℕ) → firstOf a (bytesEnd drops 0 s) ≡ o → o ≡ none
-      none-more e none f = refl
-      none-more e (some c) f =
-          let r = end-front 0 s in
-          no-some (sym e ∙ first-some (rw (r .is) at (begins-more (r .back) (begins a (bytesEnd drops 0 s) c f))))
+  pub starting : (s : List ℕ) → Starting s 0
+  starting s = record { most = omega arith; cut = cut-start s; is = refl }
 
-      go : (o : Option ℕ) → firstOf a s ≡ o → firstOf a (bytesEnd drops (followers a o) s) ≡ o
-      go none e = unfold followers in none-more e (firstOf a (bytesEnd drops 0 s)) refl
-      go (some c) e = unfold followers in
-          (rw (skip-end (pred (sizeOf a)) s) (first-some (begins-take (bytesEnd drops 0 (drop (pred (sizeOf a)) s)) (begins a s c e))))
+  module _ {s : List ℕ} {at : ℕ} (v : Starting s at) where
+    pub start-end : length s ≤ at → StartAt drops s at
+    unfolding trimStart
+    start-end h = record { most = v .most; cut = v .cut; is = content-none s at h ∙ (rw (content-none s at h) at (v .is)) }
 
-  end-from : (k : ℕ) (s : List ℕ) → charsFrom k (bytesEnd drops k s) ≡ trimEnd drops (charsFrom k s)
-  unfolding bytesEnd charsFrom
-  end-from zero [] = unfold trimEnd in refl
-  end-from (suc k) [] = unfold trimEnd in refl
-  end-from (suc k) (a ∷ s) = end-from k s
-  end-from zero (a ∷ s) = go (end-from (followers a (firstOf a s)) s) (all drops (chars (a ∷ s))) refl
-    where
-      go : charsFrom (followers a (firstOf a s)) (bytesEnd drops (followers a (firstOf a s)) s) ≡ trimEnd drops (charsFrom (followers a (firstOf a s)) s)
-          → (b : Bool) → all drops (chars (a ∷ s)) ≡ b
-          → charsFrom 0 (pick b [] (a ∷ bytesEnd drops (followers a (firstOf a s)) s)) ≡ trimEnd drops (charsFrom 0 (a ∷ s))
-      go ih true e = unfold chars charsFrom in sym (all-gone drops (chars (a ∷ s)) e)
-      go ih false e = unfold chars charsFrom in
-          (rw (first-end a s, ih) (sym (first-stays drops (charOr (firstOf a s)) (charsFrom (followers a (firstOf a s)) s) e)))
+    module _ (ch : Char) (h : at < length s) (e : ch ≡ charIn (drop at s)) {r : Bool} (p : r ≡ drops (ch .code)) where
+      pub start-here : not r ≡ true → StartAt drops s at
+      unfolding trimStart
+      start-here t =
+          let z = content-step s at ch h e in
+          let n : drops (ch .code) ≡ false = sym p ∙ not-true r t in
+          let k : contentIn (drop at s) ≡ trimStart drops (contentIn (drop at s)) = rw (z .reads, n) in
+          record { most = v .most; cut = v .cut; is = k ∙ v .is }
 
-  end-well : (k : ℕ) (s : List ℕ) → wellFrom k s ≡ true → wellFrom k (bytesEnd drops k s) ≡ true
-  unfolding bytesEnd wellFrom
-  end-well zero [] w = refl
-  end-well (suc k) [] w = refl
-  end-well (suc k) (a ∷ s) w = end-well k s w
-  end-well zero (a ∷ s) w =
-      let g = starts a s w in
-      go (first-some (g .is)) (begins-follow (g .is)) (end-well (pred (sizeOf a)) s (g .rest)) (all drops (chars (a ∷ s)))
-    where
-      go : {c : ℕ} → firstOf a s ≡ some c → followers a (firstOf a s) ≡ pred (sizeOf a) → wellFrom (pred (sizeOf a)) (bytesEnd drops (pred (sizeOf a)) s) ≡ true
-          → (b : Bool) → wellFrom 0 (pick b [] (a ∷ bytesEnd drops (followers a (firstOf a s)) s)) ≡ true
-      go h q ih true = unfold wellFrom in refl
-      go h q ih false = unfold wellFrom isSome in rw (first-end a s, h, ← h, q) ih
+      pub start-on : not r ≡ false → Starting s (at + ch .size)
+      unfolding trimStart
+      start-on t =
+          let z = content-step s at ch h e in
+          let n : drops (ch .code) ≡ true = sym p ∙ not-false r t in
+          let k : trimStart drops (contentIn (drop at s)) ≡ trimStart drops (contentIn (drop (at + ch .size) s)) = rw (z .reads, n) in
+          record { most = z .most; cut = cut-step s at ch h e (v .cut) .cut; is = sym k ∙ v .is }
 
-  -- ---- both
-  pub start-chars : (s : List ℕ) → chars (bytesStart drops 0 s) ≡ trimStart drops (chars s)
-  unfolding chars
-  start-chars s = start-from 0 s
+  -- ---- the turns of `end_of`
 
-  pub end-chars : (s : List ℕ) → chars (bytesEnd drops 0 s) ≡ trimEnd drops (chars s)
-  unfolding chars
-  end-chars s = end-from 0 s
+  pub record Ending (s : List ℕ) (end at : ℕ) : Type 0 where
+    pub order : end ≤ at
+    pub most : at ≤ length s
+    pub cut : CutAt s at
+    pub endCut : CutAt s end
+    pub is : trimEnd drops (contentIn (take at s)) ≡ contentIn (take end s)
 
-  pub start-utf8 : (s : List ℕ) → isUtf8 s ≡ true → isUtf8 (bytesStart drops 0 s) ≡ true
-  start-utf8 s w = rw (well-utf8 (bytesStart drops 0 s)) (start-well 0 s (rw (well-utf8 s) at w))
+  pub ending : (s : List ℕ) → Ending s 0 0
+  unfolding trimEnd
+  ending s = record { order = omega arith; most = omega arith; cut = cut-start s; endCut = cut-start s; is = rw no-content }
 
-  pub end-utf8 : (s : List ℕ) → isUtf8 s ≡ true → isUtf8 (bytesEnd drops 0 s) ≡ true
-  end-utf8 s w = rw (well-utf8 (bytesEnd drops 0 s)) (end-well 0 s (rw (well-utf8 s) at w))
+  module _ {s : List ℕ} {end at : ℕ} (v : Ending s end at) where
+    pub end-here : length s ≤ at → EndAt drops s end
+    end-here h = record { most = omega (arith, v .order, v .most); cut = v .endCut; is = sym (rw (take-all at s h) at (v .is)) }
+
+    module _ (ch : Char) (h : at < length s) (e : ch ≡ charIn (drop at s)) {r : Bool} (p : r ≡ drops (ch .code)) where
+      pub end-on : not r ≡ false → Ending s end (at + ch .size)
+      end-on t =
+          let z = content-step s at ch h e in
+          let k = cut-step s at ch h e (v .cut) in
+          record {
+            order = omega (arith, v .order);
+            most = z .most;
+            cut = k .cut;
+            endCut = v .endCut;
+            is = ap (trimEnd drops) (k .passed) ∙ end-dropped (contentIn (take at s)) (ch .code) (sym p ∙ not-false r t) ∙ v .is;
+          }
+
+      pub end-moves : not r ≡ true → Ending s (at + ch .size) (at + ch .size)
+      end-moves t =
+          let z = content-step s at ch h e in
+          let k = cut-step s at ch h e (v .cut) in
+          record {
+            order = omega arith;
+            most = z .most;
+            cut = k .cut;
+            endCut = k .cut;
+            is = ap (trimEnd drops) (k .passed) ∙ end-kept (contentIn (take at s)) (ch .code) (sym p ∙ not-true r t) ∙ sym (k .passed);
+          }
+
+  -- ---- both ends
+
+  pub trimmed-front : {s : List ℕ} {e : ℕ} → EndAt drops s e → TrimmedBy (trimEnd drops) s (take e s)
+  trimmed-front {s} {e} v =
+      record {
+        is = v .is;
+        front = [];
+        back = drop e s;
+        part = sym (take-append-drop e s);
+        cut = cut-none;
+        cutBack = v .cut;
+        field = λ h. v .cut .front (rw take-append-drop h);
+      }
+
+  trimmed-behind : {s : List ℕ} {a : ℕ} {r : List ℕ} → StartAt drops s a → TrimmedBy (trimEnd drops) (drop a s) r → TrimmedBy (trimMatches drops) s r
+  unfolding trimMatches
+  trimmed-behind {s} {a} {r} v x =
+      let k : Cut (take a s) (x .front ++ (r ++ x .back)) = rw (x .part) at (v .cut) in
+      record {
+        is = x .is ∙ ap (trimEnd drops) (v .is);
+        front = take a s ++ x .front;
+        back = x .back;
+        part = sym (append-assoc (take a s) (x .front) (r ++ x .back) ∙ ap (λ (t : List ℕ). take a s ++ t) (sym (x .part)) ∙ take-append-drop a s);
+        cut = cut-seq k (x .cut);
+        cutBack = x .cutBack;
+        field = λ h. x .field (v .cut .back (rw take-append-drop h));
+      }
+
+  -- the rest from a place on, as the checker hands it out
+  pub trimmed-both : {s : List ℕ} {a : ℕ} {r : List ℕ} → StartAt drops s a → TrimmedBy (trimEnd drops) (take (length s - a) (drop a s)) r → TrimmedBy (trimMatches drops) s r
+  trimmed-both {s} {a} {r} v w =
+      let l : length (drop a s) ≤ length s - a = omega (arith, length-drop a s) in
+      trimmed-behind v (rw (take-all (length s - a) (drop a s) l) at w)
+
+pub trimmed-white : {s r : List ℕ} → TrimmedBy (trimMatches (dropsOf White)) s r → TrimmedTo s r
+unfolding dropsOf textOuterTrimmed
+trimmed-white d = record { is = d .is; front = d .front; back = d .back; part = d .part; cut = d .cut; cutBack = d .cutBack; field = d .field }
+
+pub trimmed-unit : {s r : List ℕ} → TrimmedBy (trimMatches (dropsOf NotAlphabetic)) s r → UnitTrimmedTo s r
+unfolding dropsOf unitTrimmed
+trimmed-unit d = record { is = d .is; front = d .front; back = d .back; part = d .part; cut = d .cut; cutBack = d .cutBack; field = d .field }
+
+-- a trimmed text is no longer than the text
+pub trimmed-short : {trim : List ℕ → List ℕ} {s r : List ℕ} → TrimmedBy trim s r → length r ≤ length s
+trimmed-short {trim} {s} {r} d = omega (arith, ap length (d .part), length-append (d .front) (r ++ d .back), length-append r (d .back))
+
+-- ---- whether a field has a letter or a number
+
+module _ (test : ℕ → Bool) where
+  pub record Seeking (s : List ℕ) (at : ℕ) : Type 0 where
+    pub most : at ≤ length s
+    pub is : any test (contentIn (drop at s)) ≡ any test (contentIn s)
+
+  pub seeking : (s : List ℕ) → Seeking s 0
+  seeking s = record { most = omega arith; is = refl }
+
+  module _ {s : List ℕ} {at : ℕ} (v : Seeking s at) where
+    pub seek-end : length s ≤ at → false ≡ any test (contentIn s)
+    unfolding any
+    seek-end h = rw (content-none s at h) at (v .is)
+
+    module _ (ch : Char) (h : at < length s) (e : ch ≡ charIn (drop at s)) {r : Bool} (p : r ≡ test (ch .code)) where
+      pub seek-found : r ≡ true → true ≡ any test (contentIn s)
+      unfolding any
+      seek-found t = rw (content-step s at ch h e .reads, sym p ∙ t) at (v .is)
+
+      pub seek-on : r ≡ false → Seeking s (at + ch .size)
+      unfolding any
+      seek-on t =
+          let z = content-step s at ch h e in
+          record { most = z .most; is = rw (z .reads, sym p ∙ t) at (v .is) }

@@ -3,7 +3,7 @@ use Prim.Native.Nat.{ℕ}
 use mathlib.Core.List.{List, [], _∷_, _++_}
 use lib.ListN.{drop}
 use Rattle.rules.specs.Unicode.{foldName}
-use Rattle.rules.specs.Utf8.{chars}
+use Rattle.content.specs.Contents.{keptIn}
 use Rattle.unicode.specs.declared.Folded.{Folded}
 use Rattle.unicode.specs.declared.Folded.the-variants as folded
 use Rattle.text.specs.declared.Pending.{Pending}
@@ -17,9 +17,9 @@ pendingOf Nothing = []
 pendingOf (One a) = a ∷ []
 pendingOf (Two a b) = a ∷ b ∷ []
 
--- the folding of a text from a place on
+-- the folding of a field from a place on, its blanks collapsed
 unfoldable pub foldFrom : List ℕ → ℕ → List ℕ
-foldFrom s at = foldName (chars (drop at s))
+foldFrom s at = foldName (keptIn (drop at s))
 
 -- what a cursor has yet to give
 unfoldable pub rest : List ℕ → Cursor → List ℕ

@@ -1,14 +1,14 @@
--- Trimming over bytes, and what the trimmings give.
-use Prim.Native.Nat.{ℕ, zero, suc, _≤_}
+-- What the trimmings of fields give.
+use Prim.Native.Nat.{ℕ, _≤_}
 use mathlib.Core.Path.{_≡_}
-use mathlib.Core.Bool.{Bool, true}
-use mathlib.Core.List.{List, [], _∷_, _++_}
-use lib.ListN.{length}
-use Rattle.rules.specs.Basic.{pick, all}
-use Rattle.rules.specs.Text.{textOuterTrimmed, textTrimmed, unitTrimmed, isNotAlphabetic}
+use mathlib.Core.Bool.{Bool}
+use mathlib.Core.List.{List, _++_}
+use lib.ListN.{length, take, drop}
+use Rattle.rules.specs.Text.{trimStart, trimEnd, textOuterTrimmed, retain, textTrimmed, unitTrimmed, isNotAlphabetic}
 use Rattle.rules.specs.Unicode.{isWhiteSpace}
-use Rattle.rules.specs.Utf8.{firstOf, charOr, followers, chars, isUtf8}
 use Rattle.output.specs.Put.{Put}
+use Rattle.content.specs.Contents.{contentIn, spell}
+use Rattle.content.specs.Parts.{Field, Cut, CutAt}
 use Rattle.text.specs.declared.Dropped.{Dropped}
 use Rattle.text.specs.declared.Dropped.the-variants.{White, NotAlphabetic}
 
@@ -17,27 +17,26 @@ unfoldable pub dropsOf : Dropped → ℕ → Bool
 dropsOf White = isWhiteSpace
 dropsOf NotAlphabetic = isNotAlphabetic
 
--- in both of these k bytes are left of the character before
-module _ (drops : ℕ → Bool) where
-  -- the bytes from the first character on that stays
-  unfoldable pub bytesStart : ℕ → List ℕ → List ℕ
-  bytesStart k [] = []
-  bytesStart (suc k) (a ∷ s) = bytesStart k s
-  bytesStart zero (a ∷ s) = pick (drops (charOr (firstOf a s))) (bytesStart (followers a (firstOf a s)) s) (a ∷ s)
+-- what is left from a place on, and up to a place
+pub record StartAt (drops : ℕ → Bool) (s : List ℕ) (r : ℕ) : Type 0 where
+  pub most : r ≤ length s
+  pub cut : CutAt s r
+  pub is : contentIn (drop r s) ≡ trimStart drops (contentIn s)
 
-  -- the bytes up to where every character is dropped
-  unfoldable pub bytesEnd : ℕ → List ℕ → List ℕ
-  bytesEnd k [] = []
-  bytesEnd (suc k) (a ∷ s) = a ∷ bytesEnd k s
-  bytesEnd zero (a ∷ s) = pick (all drops (chars (a ∷ s))) [] (a ∷ bytesEnd (followers a (firstOf a s)) s)
+pub record EndAt (drops : ℕ → Bool) (s : List ℕ) (r : ℕ) : Type 0 where
+  pub most : r ≤ length s
+  pub cut : CutAt s r
+  pub is : contentIn (take r s) ≡ trimEnd drops (contentIn s)
 
--- r is the part of s that a trimming of code points leaves
+-- r is the part of the field s that a trimming of its content leaves
 pub record TrimmedBy (trim : List ℕ → List ℕ) (s r : List ℕ) : Type 0 where
-  pub is : chars r ≡ trim (chars s)
+  pub is : contentIn r ≡ trim (contentIn s)
   pub front : List ℕ
   pub back : List ℕ
   pub part : s ≡ front ++ (r ++ back)
-  pub utf8 : isUtf8 s ≡ true → isUtf8 r ≡ true
+  pub cut : Cut front (r ++ back)
+  pub cutBack : Cut r back
+  pub field : Field s → Field r
 
 abbrev pub TrimmedTo : List ℕ → List ℕ → Type 0
 TrimmedTo s r = TrimmedBy textOuterTrimmed s r
@@ -45,10 +44,9 @@ TrimmedTo s r = TrimmedBy textOuterTrimmed s r
 abbrev pub UnitTrimmedTo : List ℕ → List ℕ → Type 0
 UnitTrimmedTo s r = TrimmedBy unitTrimmed s r
 
--- the text s, trimmed, was written at a position of a buffer
+-- the field s, trimmed, was written at a position of a buffer, as its content is spelled
 pub record PutTrimmed (s o₀ : List ℕ) (at : ℕ) (o : List ℕ) (r : ℕ) : Type 0 where
-  pub written : List ℕ
-  pub put : Put written o₀ at o r
-  pub is : chars written ≡ textTrimmed (chars s)
-  pub utf8 : isUtf8 s ≡ true → isUtf8 written ≡ true
-  pub short : length written ≤ length s
+  pub part : List ℕ
+  pub trimmed : TrimmedTo s part
+  pub put : Put (retain 0 part) o₀ at o r
+  pub is : Field s → retain 0 part ≡ spell (textTrimmed (contentIn s))

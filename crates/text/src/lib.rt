@@ -1,17 +1,16 @@
-// Texts in UTF-8, or any bytes: trimming, and names that are folded as they are read. The Unicode tables are lent.
+// The contents of fields as they stand in a sheet, escaped, or of any bytes: trimming, and names that are folded as they
+// are read. The Unicode tables are lent.
 use unicode::Folded;
 ghost use mathlib.Core.Path.{_≡_};
 ghost use mathlib.Core.Bool.{_&&_};
-ghost use Prim.Native.Nat.{_≤_, _-_};
 ghost use lib.Dec.{eqb};
-ghost use lib.ListN.{length, drop, take};
-ghost use Rattle.rules.specs.Basic.{blank};
-ghost use Rattle.rules.specs.Text.{retain, trimMatches};
-ghost use Rattle.rules.specs.Unicode.{sameName};
-ghost use Rattle.rules.specs.Utf8.{chars};
+ghost use Rattle.rules.specs.Basic.{blank, any};
+ghost use Rattle.rules.specs.Text.{retain, trimEnd, trimMatches};
+ghost use Rattle.rules.specs.Unicode.{isAlphanumeric, sameName};
+ghost use Rattle.content.specs.Contents.{contentIn, keptIn};
 ghost use Rattle.unicode.specs.Tables.{unicodeTables};
 ghost use Rattle.output.specs.Put.{Put};
-ghost use Rattle.text.specs.Trims.{dropsOf, bytesStart, bytesEnd, TrimmedBy, TrimmedTo, UnitTrimmedTo, PutTrimmed};
+ghost use Rattle.text.specs.Trims.{dropsOf, StartAt, EndAt, TrimmedBy, TrimmedTo, UnitTrimmedTo, PutTrimmed};
 ghost use Rattle.text.specs.Names.{startCursor, stepOf, foldFrom, rest, told};
 
 // Which characters a trimming drops at both ends.
@@ -33,11 +32,11 @@ fn is_dropped(t: &[u32], d: Dropped, c: u32) -> bool
 // The place of the first character that stays.
 fn start_of(t: &[u32], s: &[u8], d: Dropped) -> usize
     requires { ⌜ now t ≡ unicodeTables ⌝ }
-    ensures { λ r. ⌜ (r ≤ length (now (s .entry))) × (drop r (now (s .entry)) ≡ bytesStart (dropsOf d) 0 (now (s .entry))) ⌝ }
+    ensures { λ r. ⌜ StartAt (dropsOf d) (now (s .entry)) r ⌝ }
 {
     let mut at = 0;
     while at < s.len() {
-        let c = utf8::char_at(s, at);
+        let c = content::char_in(s, at);
         if !is_dropped(t, d, c.code) {
             return at;
         }
@@ -46,15 +45,15 @@ fn start_of(t: &[u32], s: &[u8], d: Dropped) -> usize
     at
 }
 
-// The place after the last character that stays, from a place on.
-fn end_of(t: &[u32], s: &[u8], start: usize, d: Dropped) -> usize
-    requires { ⌜ (now t ≡ unicodeTables) × (start ≤ length (now s)) ⌝ }
-    ensures { λ r. ⌜ (start ≤ r) × (r ≤ length (now (s .entry))) × (take (r - start) (drop start (now (s .entry))) ≡ bytesEnd (dropsOf d) 0 (drop start (now (s .entry)))) ⌝ }
+// The place after the last character that stays.
+fn end_of(t: &[u32], s: &[u8], d: Dropped) -> usize
+    requires { ⌜ now t ≡ unicodeTables ⌝ }
+    ensures { λ r. ⌜ EndAt (dropsOf d) (now (s .entry)) r ⌝ }
 {
-    let mut end = start;
-    let mut at = start;
+    let mut end = 0;
+    let mut at = 0;
     while at < s.len() {
-        let c = utf8::char_at(s, at);
+        let c = content::char_in(s, at);
         at += c.size;
         if !is_dropped(t, d, c.code) {
             end = at;
@@ -63,17 +62,24 @@ fn end_of(t: &[u32], s: &[u8], start: usize, d: Dropped) -> usize
     end
 }
 
-// The text without what is dropped at its ends.
+fn trimmed_end<'a>(t: &[u32], s: &'a [u8], d: Dropped) -> &'a [u8]
+    requires { ⌜ now t ≡ unicodeTables ⌝ }
+    ensures { λ r. ⌜ TrimmedBy (trimEnd (dropsOf d)) (now (s .entry)) (now r) ⌝ }
+{
+    let e = end_of(t, s, d);
+    &s[..e]
+}
+
+// The field without what is dropped at its ends.
 fn trimmed<'a>(t: &[u32], s: &'a [u8], d: Dropped) -> &'a [u8]
     requires { ⌜ now t ≡ unicodeTables ⌝ }
     ensures { λ r. ⌜ TrimmedBy (trimMatches (dropsOf d)) (now (s .entry)) (now r) ⌝ }
 {
     let a = start_of(t, s, d);
-    let e = end_of(t, s, a, d);
-    &s[a..e]
+    trimmed_end(t, &s[a..], d)
 }
 
-// The text without White_Space at its ends.
+// The field without White_Space at its ends.
 pub fn text_outer_trimmed<'a>(t: &[u32], s: &'a [u8]) -> &'a [u8]
     requires { ⌜ now t ≡ unicodeTables ⌝ }
     ensures { λ r. ⌜ TrimmedTo (now (s .entry)) (now r) ⌝ }
@@ -81,7 +87,7 @@ pub fn text_outer_trimmed<'a>(t: &[u32], s: &'a [u8]) -> &'a [u8]
     trimmed(t, s, Dropped::White)
 }
 
-// The text without what is not Alphabetic at its ends.
+// The field without what is not Alphabetic at its ends.
 pub fn unit_trimmed<'a>(t: &[u32], s: &'a [u8]) -> &'a [u8]
     requires { ⌜ now t ≡ unicodeTables ⌝ }
     ensures { λ r. ⌜ UnitTrimmedTo (now (s .entry)) (now r) ⌝ }
@@ -99,13 +105,14 @@ fn goes(b: u8, prev: u8) -> bool
     false
 }
 
-// The bytes w, and of blanks that follow one another only the first; at the front none.
-fn put_retained(out: &mut [u8], at: usize, w: &[u8]) -> usize
-    ensures { λ r. ⌜ Put (retain blank (now (w .entry))) (now (out .entry)) at (now (out .exit)) r ⌝ }
+// The bytes w, and of blanks that follow one another only the first: what spells the content of a field with its blanks
+// collapsed.
+pub fn put_kept(out: &mut [u8], at: usize, w: &[u8]) -> usize
+    ensures { λ r. ⌜ Put (retain 0 (now (w .entry))) (now (out .entry)) at (now (out .exit)) r ⌝ }
 {
     let mut n = at;
     let mut i = 0;
-    let mut prev = 32;
+    let mut prev = 0;
     while i < w.len() {
         let b = w[i];
         let gone = goes(b, prev);
@@ -118,13 +125,29 @@ fn put_retained(out: &mut [u8], at: usize, w: &[u8]) -> usize
     if n <= out.len() { n } else { out.len() + 1 }
 }
 
-// The text trimmed at its ends and with single blanks.
+// The field trimmed at its ends and with single blanks.
 pub fn put_text_trimmed(t: &[u32], out: &mut [u8], at: usize, s: &[u8]) -> usize
     requires { ⌜ now t ≡ unicodeTables ⌝ }
     ensures { λ r. ⌜ PutTrimmed (now (s .entry)) (now (out .entry)) at (now (out .exit)) r ⌝ }
 {
     let w = text_outer_trimmed(t, s);
-    put_retained(out, at, w)
+    put_kept(out, at, w)
+}
+
+// Whether a field has a letter or a number.
+pub fn has_alphanumeric(t: &[u32], s: &[u8]) -> bool
+    requires { ⌜ now t ≡ unicodeTables ⌝ }
+    ensures { λ r. ⌜ r ≡ any isAlphanumeric (contentIn (now (s .entry))) ⌝ }
+{
+    let mut at = 0;
+    while at < s.len() {
+        let c = content::char_in(s, at);
+        if unicode::is_alphanumeric(t, c.code) {
+            return true;
+        }
+        at += c.size;
+    }
+    false
 }
 
 // Folded code points that were not given yet.
@@ -134,7 +157,7 @@ pub enum Pending {
     Two(u32, u32),
 }
 
-// A place in a text that is folded as it is read.
+// A place in a field that is folded as it is read, its blanks collapsed.
 pub struct Cursor {
     pub at: usize,
     pub pending: Pending,
@@ -192,7 +215,7 @@ fn fresh(t: &[u32], s: &[u8], at: usize) -> Step
     if s.len() <= at {
         return Step::End;
     }
-    let c = utf8::char_at(s, at);
+    let c = content::kept_char(s, at);
     emit(unicode::fold(t, c.code), at + c.size)
 }
 
@@ -222,10 +245,10 @@ pub fn next_folded(t: &[u32], s: &[u8], c: Cursor) -> Step
     }
 }
 
-// Whether two texts have the same folding.
+// Whether two fields have the same folding, their blanks collapsed.
 pub fn same_name(t: &[u32], a: &[u8], b: &[u8]) -> bool
     requires { ⌜ now t ≡ unicodeTables ⌝ }
-    ensures { λ r. ⌜ r ≡ sameName (chars (now (a .entry))) (chars (now (b .entry))) ⌝ }
+    ensures { λ r. ⌜ r ≡ sameName (keptIn (now (a .entry))) (keptIn (now (b .entry))) ⌝ }
 {
     let mut i = start();
     let mut j = start();

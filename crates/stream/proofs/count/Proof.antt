@@ -2,7 +2,7 @@ use borrow.Author.Needs.{needs}
 use native.Mathlib.Omega.{arith}
 use Prim.Native.Nat.{_-_, _≤_}
 use lib.ListN.{length}
-use Rattle.utf8.proofs.Steps.{char-step}
+use Rattle.content.proofs.Chars.{content-step}
 use Rattle.stream.proofs.count.Statement.{statement}
 use Rattle.stream.proofs.count.Tie as tie
 use Rattle.stream.proofs.count.Reads as reads
@@ -11,7 +11,7 @@ use Rattle.stream.proofs.one.Reads as one-reads
 use Rattle.unicode.proofs.is_alphabetic.Reads as is-alphabetic-reads
 use Rattle.unicode.proofs.is_alphanumeric.Reads as is-alphanumeric-reads
 use Rattle.unicode.proofs.is_white_space.Reads as is-white-space-reads
-use Rattle.utf8.proofs.char_at.Reads as char-at-reads
+use Rattle.content.proofs.char_in.Reads as char-in-reads
 
 abbrev Inv-loop : tie.InvT-loop
 Inv-loop t s points₀ white₀ alphabetic₀ alphanumeric₀ at₀ points white alphabetic alphanumeric at =
@@ -25,8 +25,8 @@ loop-holds : tie.Need-loop-holds Inv-loop μ-loop
 loop-holds c = search needs
 
 -- src/main.rt:45:13
-char-at-requires : tie.Need-char-at-requires Inv-loop μ-loop
-char-at-requires c κs = search needs
+char-in-requires : tie.Need-char-in-requires Inv-loop μ-loop
+char-in-requires c κs = search needs
 
 -- src/main.rt:46:9
 add-points : tie.Need-add-points Inv-loop μ-loop
@@ -70,16 +70,16 @@ add-alphanumeric c = search needs
 
 -- src/main.rt:50:9
 add-at : tie.Need-add-at Inv-loop μ-loop
-add-at c = omega (arith, char-step _ _ _ (c .before .before .before .before .before .before .before .before .loop-test .taken) (c .before .before .before .before .before .before .before .char-at .ensures) .most)
+add-at c = omega (arith, content-step _ _ _ (c .before .before .before .before .before .before .before .before .loop-test .taken) (c .before .before .before .before .before .before .before .char-in .ensures) .most)
 
 -- src/main.rt:44:5
 loop-less : tie.Need-loop-less Inv-loop μ-loop
-loop-less c = omega (arith, char-step _ _ _ (c .before .before .before .before .before .before .before .before .loop-test .taken) (c .before .before .before .before .before .before .before .char-at .ensures) .least)
+loop-less c = omega (arith, content-step _ _ _ (c .before .before .before .before .before .before .before .before .loop-test .taken) (c .before .before .before .before .before .before .before .char-in .ensures) .least)
 
 -- src/main.rt:44:5
 loop-again : tie.Need-loop-again Inv-loop μ-loop
 loop-again c =
-    let d = char-step _ _ _ (c .before .before .before .before .before .before .before .before .loop-test .taken) (c .before .before .before .before .before .before .before .char-at .ensures) in
+    let d = content-step _ _ _ (c .before .before .before .before .before .before .before .before .loop-test .taken) (c .before .before .before .before .before .before .before .char-in .ensures) in
     let l = d .least in
     let m = d .most in
     let i = c .before .before .before .before .before .before .before .before .before .loop .inv in
@@ -96,7 +96,7 @@ count-spec =
     Inv-loop
     μ-loop
     loop-holds
-    char-at-requires
+    char-in-requires
     add-points
     is-white-space-requires
     one-requires

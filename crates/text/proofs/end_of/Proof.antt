@@ -2,56 +2,61 @@ use borrow.Author.Needs.{needs}
 use native.Mathlib.Omega.{arith}
 use Prim.Native.Nat.{_-_}
 use lib.ListN.{length}
+use Rattle.content.proofs.Chars.{content-step}
 use Rattle.text.specs.Trims.{dropsOf}
-use Rattle.text.proofs.Walks.{Ends, ends-none, ends-done, ends-dropped, ends-kept, within, least}
+use Rattle.text.proofs.Trims.{Ending, ending, end-here, end-on, end-moves}
 use Rattle.text.proofs.end_of.Statement.{statement}
 use Rattle.text.proofs.end_of.Tie as tie
 use Rattle.text.proofs.end_of.Reads as reads
 use Rattle.text.proofs.end_of.Lts as lts
+use Rattle.content.proofs.char_in.Reads as char-in-reads
 use Rattle.text.proofs.is_dropped.Reads as is-dropped-reads
-use Rattle.utf8.proofs.char_at.Reads as char-at-reads
 
 abbrev Inv-loop : tie.InvT-loop
-Inv-loop t s start d end₀ at₀ end at = Ends (dropsOf d) s start end at
+Inv-loop t s d end₀ at₀ end at = Ending (dropsOf d) s end at
 
 abbrev μ-loop : tie.MeasureT-loop
-μ-loop t s start d end₀ at₀ end at = length s - at
+μ-loop t s d end₀ at₀ end at = length s - at
 
--- src/lib.rt:56:5
+-- src/lib.rt:55:5
 loop-holds : tie.Need-loop-holds Inv-loop μ-loop
-loop-holds c = ends-none _ _ _ (c .before .before .pre .1)
+loop-holds c = ending _ _
 
--- src/lib.rt:57:13
-char-at-requires : tie.Need-char-at-requires Inv-loop μ-loop
-char-at-requires c κs = search needs
+-- src/lib.rt:56:13
+char-in-requires : tie.Need-char-in-requires Inv-loop μ-loop
+char-in-requires c κs = search needs
 
--- src/lib.rt:58:9
+-- src/lib.rt:57:9
 add-at : tie.Need-add-at Inv-loop μ-loop
-add-at c = omega (arith, within (dropsOf (c .before .before .before .before .before .before .args .d)) _ _ _ (c .before .before .loop-test .taken) (c .before .char-at .ensures))
+add-at c = omega (arith, content-step _ _ _ (c .before .before .loop-test .taken) (c .before .char-in .ensures) .most)
 
--- src/lib.rt:59:13
+-- src/lib.rt:58:13
 is-dropped-requires : tie.Need-is-dropped-requires Inv-loop μ-loop
 is-dropped-requires c κs = search needs
 
--- src/lib.rt:56:5
+-- src/lib.rt:55:5
 loop-less : tie.Need-loop-less Inv-loop μ-loop
-loop-less c = omega (arith, least (dropsOf (c .before .before .before .before .before .before .before .before .args .d)) _ _ _ (c .before .before .before .before .loop-test .taken) (c .before .before .before .char-at .ensures))
+loop-less c =
+    let k = content-step _ _ _ (c .before .before .before .before .loop-test .taken) (c .before .before .before .char-in .ensures) in
+    omega (arith, k .most, k .least)
 
--- src/lib.rt:56:5
+-- src/lib.rt:55:5
 loop-again : tie.Need-loop-again Inv-loop μ-loop
-loop-again c = ends-kept _ _ _ _ (c .before .before .before .before .loop-test .taken) (c .before .before .before .char-at .ensures) _ (c .before .is-dropped .ensures) (c .before .before .before .before .before .loop .inv) (c .if1 .taken)
+loop-again c = end-moves _ (c .before .before .before .before .before .loop .inv) _ (c .before .before .before .before .loop-test .taken) (c .before .before .before .char-in .ensures) (c .before .is-dropped .ensures) (c .if1 .taken)
 
--- src/lib.rt:56:5
+-- src/lib.rt:55:5
 loop-less-2 : tie.Need-loop-less-2 Inv-loop μ-loop
-loop-less-2 c = omega (arith, least (dropsOf (c .before .before .before .before .before .before .before .before .args .d)) _ _ _ (c .before .before .before .before .loop-test .taken) (c .before .before .before .char-at .ensures))
+loop-less-2 c =
+    let k = content-step _ _ _ (c .before .before .before .before .loop-test .taken) (c .before .before .before .char-in .ensures) in
+    omega (arith, k .most, k .least)
 
--- src/lib.rt:56:5
+-- src/lib.rt:55:5
 loop-again-2 : tie.Need-loop-again-2 Inv-loop μ-loop
-loop-again-2 c = ends-dropped _ _ _ _ (c .before .before .before .before .loop-test .taken) (c .before .before .before .char-at .ensures) _ (c .before .is-dropped .ensures) (c .before .before .before .before .before .loop .inv) (c .if1 .left)
+loop-again-2 c = end-on _ (c .before .before .before .before .before .loop .inv) _ (c .before .before .before .before .loop-test .taken) (c .before .before .before .char-in .ensures) (c .before .is-dropped .ensures) (c .if1 .left)
 
--- src/lib.rt:50:1
+-- src/lib.rt:49:1
 returns : tie.Need-returns Inv-loop μ-loop
-returns c = (omega arith, omega arith, ends-done _ (c .before .loop .inv) (c .loop-test .left))
+returns c = end-here _ (c .before .loop .inv) (c .loop-test .left)
 
 pub end-of-spec : {M : Type 1} → statement M
 end-of-spec =
@@ -60,7 +65,7 @@ end-of-spec =
     Inv-loop
     μ-loop
     loop-holds
-    char-at-requires
+    char-in-requires
     add-at
     is-dropped-requires
     loop-less

@@ -1,4 +1,4 @@
-use Rattle.text.proofs.Retains.{goes-blank, goes-other}
+use Rattle.text.proofs.Writes.{goes-blank, goes-other}
 use Rattle.text.proofs.goes.Statement.{statement}
 use Rattle.text.proofs.goes.Tie as tie
 use Rattle.text.proofs.goes.Reads as reads

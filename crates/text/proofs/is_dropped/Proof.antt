@@ -1,5 +1,5 @@
 use borrow.Author.Needs.{needs}
-use Rattle.text.proofs.Walks.{dropped-white, dropped-other}
+use Rattle.text.proofs.Trims.{dropped-white, dropped-other}
 use Rattle.text.proofs.is_dropped.Statement.{statement}
 use Rattle.text.proofs.is_dropped.Tie as tie
 use Rattle.text.proofs.is_dropped.Reads as reads

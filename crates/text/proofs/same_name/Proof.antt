@@ -3,7 +3,7 @@ use mathlib.Core.Path.{_≡_}
 use lib.ListN.{length}
 use Rattle.rules.specs.Basic.{eqList}
 use Rattle.rules.specs.Unicode.{sameName}
-use Rattle.rules.specs.Utf8.{chars}
+use Rattle.content.specs.Contents.{keptIn}
 use Rattle.text.specs.Names.{rest}
 use Rattle.text.proofs.Names.{same-start, both-end, left-end, right-end, differ, fewer, agree}
 use Rattle.text.proofs.same_name.Statement.{statement}
@@ -14,7 +14,7 @@ use Rattle.text.proofs.next_folded.Reads as next-folded-reads
 use Rattle.text.proofs.start.Reads as start-reads
 
 abbrev Inv-loop : tie.InvT-loop
-Inv-loop t a b i₀ j₀ i j = eqList (rest a i) (rest b j) ≡ sameName (chars a) (chars b)
+Inv-loop t a b i₀ j₀ i j = eqList (rest a i) (rest b j) ≡ sameName (keptIn a) (keptIn b)
 
 abbrev μ-loop : tie.MeasureT-loop
 μ-loop t a b i₀ j₀ i j = length (rest a i)

@@ -1,5 +1,5 @@
 use borrow.Author.Needs.{needs}
-use Rattle.text.proofs.Walks.{trimmed-white}
+use Rattle.text.proofs.Trims.{trimmed-white}
 use Rattle.text.proofs.text_outer_trimmed.Statement.{statement}
 use Rattle.text.proofs.text_outer_trimmed.Tie as tie
 use Rattle.text.proofs.text_outer_trimmed.Reads as reads

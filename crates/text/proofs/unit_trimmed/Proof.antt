@@ -1,5 +1,5 @@
 use borrow.Author.Needs.{needs}
-use Rattle.text.proofs.Walks.{trimmed-unit}
+use Rattle.text.proofs.Trims.{trimmed-unit}
 use Rattle.text.proofs.unit_trimmed.Statement.{statement}
 use Rattle.text.proofs.unit_trimmed.Tie as tie
 use Rattle.text.proofs.unit_trimmed.Reads as reads

@@ -3,17 +3,17 @@ use Prim.Native.Nat.{_-_}
 use lib.ListN.{length, drop}
 use Rattle.rules.specs.Text.{retain}
 use Rattle.output.proofs.Puts.{Leads, starts, turn, step, ends-in, ends-out}
-use Rattle.text.proofs.Retains.{retain-goes, retain-stays, retain-none}
+use Rattle.text.proofs.Writes.{retain-goes, retain-stays, retain-none}
 use mathlib.Core.Path.{refl}
-use Rattle.text.proofs.put_retained.Statement.{statement}
-use Rattle.text.proofs.put_retained.Tie as tie
-use Rattle.text.proofs.put_retained.Reads as reads
-use Rattle.text.proofs.put_retained.Lts as lts
+use Rattle.text.proofs.put_kept.Statement.{statement}
+use Rattle.text.proofs.put_kept.Tie as tie
+use Rattle.text.proofs.put_kept.Reads as reads
+use Rattle.text.proofs.put_kept.Lts as lts
 use Rattle.output.proofs.put_byte.Reads as put-byte-reads
 use Rattle.text.proofs.goes.Reads as goes-reads
 
 abbrev Inv-loop : tie.InvT-loop
-Inv-loop out₀ at w n₀ i₀ prev₀ out n i prev = Leads (retain 32 w) out₀ at (retain prev (drop i w)) out n
+Inv-loop out₀ at w n₀ i₀ prev₀ out n i prev = Leads (retain 0 w) out₀ at (retain prev (drop i w)) out n
 
 abbrev μ-loop : tie.MeasureT-loop
 μ-loop out₀ at w n₀ i₀ prev₀ out n i prev = length w - i
@@ -74,8 +74,8 @@ same-length-2 c = search needs
 returns-2 : tie.Need-returns-2 Inv-loop μ-loop
 returns-2 c = ends-out (turn (retain-none _ _ _ (c .before .loop-test .left)) (c .before .before .loop .inv)) (c .if2 .left)
 
-pub put-retained-spec : {M : Type 1} → statement M
-put-retained-spec =
+pub put-kept-spec : {M : Type 1} → statement M
+put-kept-spec =
     tie.close
     (tie.spec
     Inv-loop

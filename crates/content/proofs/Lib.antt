@@ -1,0 +1,10 @@
+pub mod Plains
+pub mod Chars
+pub mod Spells
+pub mod Cuts
+pub mod Kept
+pub mod Compare
+pub mod Words
+pub mod Retains
+pub mod Splits
+pub mod Paths

@@ -1,0 +1,5 @@
+pub mod Contents
+pub mod Parts
+pub mod Readings
+pub mod Kept
+pub mod Names
