@@ -1,0 +1,48 @@
+use borrow.Author.Needs.{needs}
+use native.Mathlib.Omega.{arith}
+use Rattle.memory.proofs.Whole.{cookware-pushed}
+use Rattle.memory.proofs.push_cookware.Statement.{statement}
+use Rattle.memory.proofs.push_cookware.Tie as tie
+use Rattle.memory.proofs.push_cookware.Reads as reads
+use Rattle.memory.proofs.push_cookware.Lts as lts
+use Rattle.model.proofs.put_row.Reads as put-row-reads
+
+-- src/lib.rt:52:20
+sub-put-row : tie.Need-sub-put-row
+sub-put-row c = search needs
+
+-- src/lib.rt:52:20
+part-put-row-start : tie.Need-part-put-row-start
+part-put-row-start c = search needs
+
+-- src/lib.rt:52:20
+part-put-row-end : tie.Need-part-put-row-end
+part-put-row-end c = search needs
+
+-- src/lib.rt:52:5
+put-row-requires : tie.Need-put-row-requires
+put-row-requires c κs = search needs
+
+-- src/lib.rt:53:16
+add-more : tie.Need-add-more
+add-more c = search needs
+
+-- src/lib.rt:47:1
+same-length : tie.Need-same-length
+same-length c = search needs
+
+-- src/lib.rt:47:1
+returns : tie.Need-returns
+returns c = cookware-pushed (c .before .before .before .before .before .before .pre .0) (c .before .before .before .before .before .before .args .row) (c .before .before .before .before .before .before .pre .1) _ (c .before .before .before .put-row .ensures)
+
+pub push-cookware-spec : {M : Type 1} → statement M
+push-cookware-spec =
+    tie.close
+    (tie.spec
+    sub-put-row
+    part-put-row-start
+    part-put-row-end
+    put-row-requires
+    add-more
+    same-length
+    returns)

@@ -1,0 +1,5 @@
+pub mod Blank
+pub mod Rows
+pub mod Memory
+pub mod Small
+pub mod Contracts
