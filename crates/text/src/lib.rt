@@ -14,7 +14,7 @@ ghost use Rattle.text.specs.Trims.{dropsOf, StartAt, EndAt, TrimmedBy, T
 ghost use Rattle.text.specs.Names.{startCursor, stepOf, foldFrom, rest, told};
 
 // Which characters a trimming drops at both ends.
-enum Dropped {
+pub enum Dropped {
     White,
     NotAlphabetic,
 }
@@ -30,7 +30,7 @@ fn is_dropped(t: &[u32], d: Dropped, c: u32) -> bool
 }
 
 // The place of the first character that stays.
-fn start_of(t: &[u32], s: &[u8], d: Dropped) -> usize
+pub fn start_of(t: &[u32], s: &[u8], d: Dropped) -> usize
     requires { ⌜ now t ≡ unicodeTables ⌝ }
     ensures { λ r. ⌜ StartAt (dropsOf d) (now (s .entry)) r ⌝ }
 {
@@ -46,7 +46,7 @@ fn start_of(t: &[u32], s: &[u8], d: Dropped) -> usize
 }
 
 // The place after the last character that stays.
-fn end_of(t: &[u32], s: &[u8], d: Dropped) -> usize
+pub fn end_of(t: &[u32], s: &[u8], d: Dropped) -> usize
     requires { ⌜ now t ≡ unicodeTables ⌝ }
     ensures { λ r. ⌜ EndAt (dropsOf d) (now (s .entry)) r ⌝ }
 {
