@@ -26,7 +26,7 @@ shared-slice-read-if1 c = search needs
 
 -- src/lib.rt:61:9
 returns : tie.Need-returns
-returns c = fits-reference _ _ _ _ _ _ (c .if1 .taken)
+returns c = fits-reference _ (c .before .before .before .before .before .before .args .rows .now) (c .before .before .before .before .before .before .args .i) _ _ _ (c .if1 .taken)
 
 -- src/lib.rt:63:20
 add-opt : tie.Need-add-opt
@@ -46,7 +46,7 @@ agrees-requires c κs = search needs
 
 -- src/lib.rt:65:9
 returns-2 : tie.Need-returns-2
-returns-2 c = fits-opt _ _ _ _ _ _ (c .before .before .before .if1 .left) _ (c .before .agrees .ensures) (c .if2 .taken)
+returns-2 c = fits-opt _ (c .before .before .before .before .before .before .before .before .before .args .rows .now) (c .before .before .before .before .before .before .before .before .before .args .i) _ _ _ (c .before .before .before .if1 .left) _ (c .before .agrees .ensures) (c .if2 .taken)
 
 -- src/lib.rt:67:26
 add-named : tie.Need-add-named
@@ -74,11 +74,11 @@ shared-slice-read-named-2 c = search needs
 
 -- src/lib.rt:67:5
 named-requires : tie.Need-named-requires
-named-requires c κs = (c .before .before .before .before .before .before .before .before .before .before .before .pre .0, name-order _ _ _ (c .before .before .before .before .before .before .before .before .before .before .before .pre .3), name-most _ _ _ (c .before .before .before .before .before .before .before .before .before .before .before .pre .3))
+named-requires c κs = let p = c .before .before .before .before .before .before .before .before .before .before .before .pre in (p .0, name-order _ (c .before .before .before .before .before .before .before .before .before .before .before .args .rows .now) (c .before .before .before .before .before .before .before .before .before .before .before .args .i) (p .3), name-most _ (c .before .before .before .before .before .before .before .before .before .before .before .args .rows .now) (c .before .before .before .before .before .before .before .before .before .before .before .args .i) (p .3))
 
 -- src/lib.rt:55:1
 returns-3 : tie.Need-returns-3
-returns-3 c = fits-name _ _ _ _ _ _ (c .before .before .before .before .before .before .if1 .left) _ (c .before .before .before .before .agrees .ensures) (c .before .before .before .if2 .left) _ (c .named .ensures)
+returns-3 c = fits-name _ (c .before .before .before .before .before .before .before .before .before .before .before .before .args .rows .now) (c .before .before .before .before .before .before .before .before .before .before .before .before .args .i) _ _ _ (c .before .before .before .before .before .before .if1 .left) _ (c .before .before .before .before .agrees .ensures) (c .before .before .before .if2 .left) _ (c .named .ensures)
 
 pub row-fits-spec : {M : Type 1} → statement M
 row-fits-spec =
