@@ -5,28 +5,29 @@ use mathlib.Core.List.{List, [], _∷_}
 use mathlib.Core.Bool.{Bool, true, false, _&&_, _||_, not}
 use mathlib.Core.Option.{Option, none, some}
 use native.Mathlib.Omega.{arith}
-use borrow.Author.Tests.{eq-eqb, ne-eqb, not-true, not-false}
+use borrow.Author.Tests.{eq-eqb, ne-eqb, eqb-true, eqb-false, not-true, not-false}
 use lib.Dec.{eqb}
 use lib.ListN.{length, getD, take, drop}
-use lib.Seq.{slice, take-nil}
+use lib.Seq.{slice, sets, take-nil}
 use Rattle.rules.specs.Basic.{pick, eqList, onSome}
 use Rattle.rules.specs.Unicode.{foldName, sameName}
 use Rattle.rules.specs.Model.{Kind, ingredient, cookware, Entry, setRelation, setModifiers}
 use Rattle.rules.specs.Reference.{Earlier, eqBool, fits, sameNameIn, sameNameOf}
 use Rattle.rules.specs.State.{tableOf}
 use Rattle.rules.proofs.Basics.{no-some, some-inj}
-use Rattle.content.specs.Contents.{keptIn}
-use Rattle.model.specs.Rows.{rowAt, rowOf, modifiersIn, entryAs, entryIn, entriesIn}
-use Rattle.model.specs.Memory.{windowsOf, stateIn, stateOf, Room, Sound}
+use Rattle.content.specs.Contents.{contentIn, keptIn}
+use Rattle.model.specs.Rows.{rowAt, rowOf, rowWords, componentOfLine, modifiersIn, entryAs, entryIn, entriesIn}
+use Rattle.model.specs.Memory.{windowsOf, stateIn, stateOf, firstHeld, Room, Sound}
 use Rattle.model.specs.declared.Row.{Row}
 use Rattle.model.specs.declared.Held.{Held}
 use Rattle.model.proofs.Stores.{getD-mid}
-use Rattle.model.proofs.Tables.{entries-length}
+use Rattle.model.proofs.Tables.{entries-length, row-stored, row-other}
 use Rattle.memory.proofs.Whole.{long-ingredients, long-cookware}
 use Rattle.memory.specs.Pushes.{countOf, pairsOf}
 use Rattle.lookup.specs.declared.Same.{Same}
 use Rattle.lookup.specs.declared.Same.the-variants.{At, Nothing}
-use Rattle.lookup.specs.Names.{namePart, NameInside, NameHolds, NamesInside, NamesHold, rowFits, sameRow, sameOf, rowsIn, pairsIn, earlierIn, earlierAt, SameFound}
+use Rattle.lookup.specs.declared.NamePart.{NamePart}
+use Rattle.lookup.specs.Names.{namePart, NameInside, NameHolds, NamesInside, NamesHold, rowFits, sameRow, sameOf, rowsIn, pairsIn, Named, earlierIn, earlierAt, SameFound, NewName}
 
 -- ---- fewer rows; bounds alone
 
@@ -233,3 +234,36 @@ module _ (sheet w : List ℕ) (h : Held) (name : List ℕ) (anyOpt isOpt : Bool)
 
 pub names-none : (k : Kind) (sheet rows : List ℕ) → NamesHold k sheet rows 0
 names-none k sheet rows = record { at = λ i l. absurd (omega arith) }
+
+-- they hold for other words where the rows are the same
+pub names-same : {k : Kind} {sheet rows : List ℕ} {n : ℕ} (other : List ℕ) → ((i : ℕ) → i < n → rowAt 12 other i ≡ rowAt 12 rows i) → NamesHold k sheet rows n → NamesHold k sheet other n
+names-same other e z = record { at = λ i l. rw (e i l) (z .at i l) }
+
+-- and after one row more
+pub names-more : (k : Kind) (sheet rows : List ℕ) (n : ℕ) (r : Row) → n * 12 + 12 ≤ length rows → NamesHold k sheet rows n → NameHolds k sheet r → NamesHold k sheet (sets rows (n * 12) (rowWords r)) (suc n)
+names-more k sheet rows n r h z y = record { at = λ i l. by i (eqb i n) refl l }
+  where
+    by : (i : ℕ) (t : Bool) → eqb i n ≡ t → i < suc n → NameHolds k sheet (rowOf (rowAt 12 (sets rows (n * 12) (rowWords r)) i))
+    by i true e l = let q : i ≡ n = eqb-true i n e in rw q (rw (row-stored rows n r h) y)
+    by i false e l = let q : (i ≡ n → ⊥) = eqb-false i n e in let s : i < n = omega arith in rw (row-other rows n i r s) (z .at i s)
+
+-- a row whose name is what `new_name` gives for its line
+pub name-new : {k : Kind} {sheet : List ℕ} {from to : ℕ} {p : NamePart} (r : Row) → NewName k sheet from to p → to ≤ length sheet → r .«name_at» ≡ p .at → r .«name_end» ≡ p .end
+    → componentOfLine k (slice (r .«line_at») (r .«line_end») sheet) .name .content ≡ contentIn (slice from to sheet) → NameHolds k sheet r
+unfolding entryAs setRelation setModifiers
+name-new {k} {sheet} r z h ea ee e =
+    record {
+      inside = record { order = omega (arith, z .order); most = omega (arith, z .most) };
+      is = rw (ea, ee) (z .is true (componentOfLine k (slice (r .«line_at») (r .«line_end») sheet)) e);
+    }
+
+-- ---- both kinds in work memory
+
+pub named-first : (sheet w : List ℕ) → Named sheet w firstHeld
+unfolding firstHeld
+named-first sheet w = record { ingredients = names-none ingredient sheet _; cookware = names-none cookware sheet _ }
+
+-- other windows and counts do not matter
+pub named-kept : {sheet w₀ : List ℕ} {h₀ : Held} (w : List ℕ) (h : Held) → windowsOf w .ingredients ≡ windowsOf w₀ .ingredients → windowsOf w .cookware ≡ windowsOf w₀ .cookware
+    → h .counts .ingredients ≡ h₀ .counts .ingredients → h .counts .cookware ≡ h₀ .counts .cookware → Named sheet w₀ h₀ → Named sheet w h
+named-kept w h a b c d z = record { ingredients = rw (a, c) (z .ingredients); cookware = rw (b, d) (z .cookware) }

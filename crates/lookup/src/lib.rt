@@ -52,7 +52,15 @@ fn named(t: &[u32], sheet: &[u8], from: u32, to: u32, name: &[u8]) -> bool
 }
 
 // Whether a row has the name and fits: REF and OPT are asked before the name.
-fn row_fits(t: &[u32], sheet: &[u8], rows: &[u32], i: usize, name: &[u8], any_opt: bool, is_opt: bool) -> bool
+fn row_fits(
+    t: &[u32],
+    sheet: &[u8],
+    rows: &[u32],
+    i: usize,
+    name: &[u8],
+    any_opt: bool,
+    is_opt: bool,
+) -> bool
     requires { ⌜ (now t ≡ unicodeTables) × (i < 513) × (i * 12 + 12 ≤ length (now rows)) × NameInside (now sheet) (rowOf (rowAt 12 (now rows) i)) ⌝ }
     ensures { λ r. ⌜ r ≡ rowFits (now (sheet .entry)) (foldName (keptIn (now (name .entry)))) «any_opt» «is_opt» (rowOf (rowAt 12 (now (rows .entry)) i)) ⌝ }
 {
@@ -68,7 +76,15 @@ fn row_fits(t: &[u32], sheet: &[u8], rows: &[u32], i: usize, name: &[u8], any_op
 }
 
 // The last of the first rows that has the name, without REF, and with OPT as asked.
-pub fn same_name_before(t: &[u32], sheet: &[u8], rows: &[u32], count: usize, name: &[u8], any_opt: bool, is_opt: bool) -> Same
+pub fn same_name_before(
+    t: &[u32],
+    sheet: &[u8],
+    rows: &[u32],
+    count: usize,
+    name: &[u8],
+    any_opt: bool,
+    is_opt: bool,
+) -> Same
     requires { ⌜ (now t ≡ unicodeTables) × (count ≤ 513) × (count * 12 ≤ length (now rows)) × NamesInside (now sheet) (now rows) count ⌝ }
     ensures { λ r. ⌜ sameOf r ≡ sameRow (now (sheet .entry)) (foldName (keptIn (now (name .entry)))) «any_opt» «is_opt» (now (rows .entry)) count ⌝ }
 {
@@ -83,7 +99,15 @@ pub fn same_name_before(t: &[u32], sheet: &[u8], rows: &[u32], count: usize, nam
     Same::Nothing
 }
 
-pub fn same_ingredient(t: &[u32], sheet: &[u8], words: &[u32], h: Held, name: &[u8], any_opt: bool, is_opt: bool) -> Same
+pub fn same_ingredient(
+    t: &[u32],
+    sheet: &[u8],
+    words: &[u32],
+    h: Held,
+    name: &[u8],
+    any_opt: bool,
+    is_opt: bool,
+) -> Same
     requires { ⌜ (now t ≡ unicodeTables) × Sound (now words) h × NamesHold ingredient (now sheet) (windowsOf (now words) .ingredients) (h .counts .ingredients) ⌝ }
     ensures { λ r. ⌜ SameFound ingredient (now (sheet .entry)) (now (words .entry)) h (now (name .entry)) «any_opt» «is_opt» r ⌝ }
 {
@@ -91,7 +115,15 @@ pub fn same_ingredient(t: &[u32], sheet: &[u8], words: &[u32], h: Held, name: &[
     same_name_before(t, sheet, &words[0..6156], n, name, any_opt, is_opt)
 }
 
-pub fn same_cookware(t: &[u32], sheet: &[u8], words: &[u32], h: Held, name: &[u8], any_opt: bool, is_opt: bool) -> Same
+pub fn same_cookware(
+    t: &[u32],
+    sheet: &[u8],
+    words: &[u32],
+    h: Held,
+    name: &[u8],
+    any_opt: bool,
+    is_opt: bool,
+) -> Same
     requires { ⌜ (now t ≡ unicodeTables) × Sound (now words) h × NamesHold cookware (now sheet) (windowsOf (now words) .cookware) (h .counts .cookware) ⌝ }
     ensures { λ r. ⌜ SameFound cookware (now (sheet .entry)) (now (words .entry)) h (now (name .entry)) «any_opt» «is_opt» r ⌝ }
 {
@@ -164,7 +196,12 @@ pub fn is_found(s: Same) -> bool
     }
 }
 
-pub fn treat_as_reference(define: Define, duplicate: Duplicate, reference: bool, found: bool) -> bool
+pub fn treat_as_reference(
+    define: Define,
+    duplicate: Duplicate,
+    reference: bool,
+    found: bool,
+) -> bool
     ensures { λ r. ⌜ TreatedAs define duplicate reference found r ⌝ }
 {
     if reference {
@@ -180,7 +217,13 @@ pub fn treat_as_reference(define: Define, duplicate: Duplicate, reference: bool,
 }
 
 // What a new component refers to, where the search found `same`.
-pub fn refers_to(define: Define, duplicate: Duplicate, reference: bool, new: bool, same: Same) -> Same
+pub fn refers_to(
+    define: Define,
+    duplicate: Duplicate,
+    reference: bool,
+    new: bool,
+    same: Same,
+) -> Same
     ensures { λ r. ⌜ Refers define duplicate reference new same r ⌝ }
 {
     if new {
