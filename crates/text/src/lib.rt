@@ -15,7 +15,7 @@ ghost use Rattle.text.specs.Paths.{isBack, pathBytes};
 ghost use Rattle.text.specs.Names.{startCursor, stepOf, foldFrom, rest, told};
 
 // Which characters a trimming drops at both ends.
-enum Dropped {
+pub enum Dropped {
     White,
     NotAlphabetic,
 }
@@ -31,7 +31,7 @@ fn is_dropped(t: &[u32], d: Dropped, c: u32) -> bool
 }
 
 // The place of the first character that stays.
-fn start_of(t: &[u32], s: &[u8], d: Dropped) -> usize
+pub fn start_of(t: &[u32], s: &[u8], d: Dropped) -> usize
     requires { ⌜ now t ≡ unicodeTables ⌝ }
     ensures { λ r. ⌜ StartAt (dropsOf d) (now (s .entry)) r ⌝ }
 {
@@ -47,7 +47,7 @@ fn start_of(t: &[u32], s: &[u8], d: Dropped) -> usize
 }
 
 // The place after the last character that stays.
-fn end_of(t: &[u32], s: &[u8], d: Dropped) -> usize
+pub fn end_of(t: &[u32], s: &[u8], d: Dropped) -> usize
     requires { ⌜ now t ≡ unicodeTables ⌝ }
     ensures { λ r. ⌜ EndAt (dropsOf d) (now (s .entry)) r ⌝ }
 {
