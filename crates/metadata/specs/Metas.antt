@@ -6,12 +6,13 @@ use mathlib.Core.Option.{Option}
 use Rattle.rules.specs.Words.{DefineMode, DuplicateMode}
 use Rattle.rules.specs.Event as rules
 use Rattle.rules.specs.Modes.{unknownConfig, ordinary}
-use Rattle.rules.specs.Metadata.{onDefine, onDuplicate, onKey}
+use Rattle.rules.specs.Metadata.{onDefine, onDuplicate, onKey, onMetadata}
 use Rattle.sheet.specs.Words.{defineAs, duplicateAs}
 use Rattle.sheet.specs.declared.DefineWord.{DefineWord}
 use Rattle.sheet.specs.declared.DuplicateWord.{DuplicateWord}
-use Rattle.parts.specs.Views.{spanIn}
+use Rattle.parts.specs.Views.{spanIn, textIn}
 use Rattle.parts.specs.declared.Span.{Span}
+use Rattle.parts.specs.declared.TextView.{TextView}
 use Rattle.model.specs.declared.Held.{Held}
 use Rattle.blocks.specs.Lined.{Told, Went}
 
@@ -30,3 +31,7 @@ pub record UnknownNoted (key : Span) (w₀ : List ℕ) (h₀ : Held) (w : List �
 -- any other line
 pub record OrdinaryCounted (h₀ h : Held) : Type 0 where
   pub by : (k v : rules.Text) → Told (onKey ordinary k v) h₀ h
+
+-- a `meta` line
+pub record MetaDone (flags : ℕ) (line : List ℕ) (key value : TextView) (w₀ : List ℕ) (h₀ : Held) (w : List ℕ) (h : Held) : Type 0 where
+  pub went : Went (onMetadata flags (textIn line key) (textIn line value)) w₀ h₀ w h
