@@ -1,0 +1,194 @@
+-- Searching a unit by its content, and comparing two.
+use Prim.Native.Nat.{ℕ, _≤_}
+use mathlib.Core.Path.{_≡_, refl, ap, sym, _∙_}
+use mathlib.Core.Bool.{Bool, true, false}
+use mathlib.Core.Option.{Option, none, some}
+use mathlib.Core.List.{List, []}
+use native.Mathlib.Omega.{arith}
+use borrow.Author.Tests.{eq-eqb, ne-eqb}
+use lib.Dec.{eqb}
+use lib.ListN.{length}
+use Rattle.rules.specs.Basic.{pick, eqList, isSome, onSome}
+use Rattle.rules.specs.Utf8.{chars}
+use Rattle.rules.specs.Units.{NamedUnit, PhysicalQuantity, volume, mass, len, temperature, time, physicalNumber, samePhysical, readUnits, findUnit}
+use Rattle.rules.specs.Answer.{unitsOr}
+use Rattle.rules.specs.Model.{trimmedText}
+use Rattle.rules.specs.Checks.{knownUnits, compatibleUnit}
+use Rattle.rules.proofs.SameChars.{eq-true, eq-itself}
+use Rattle.content.specs.Contents.{keptIn}
+use Rattle.content.specs.Contents as content
+use Rattle.content.proofs.Plains as plains
+use Rattle.content.proofs.Retains.{kept-trimmed}
+use Rattle.text.specs.Trims.{TrimmedTo}
+use Rattle.units.specs.declared.Physical.{Physical}
+use Rattle.units.specs.declared.Physical.the-variants.{Unknown}
+use Rattle.units.specs.declared.UnitAt.{UnitAt}
+use Rattle.units.specs.declared.UnitAt.the-variants.{End}
+use Rattle.units.specs.Quantities.{physicalAs}
+use Rattle.units.specs.Lists.{isListFrom, unitsFrom, part, namedAs, UnitTurn, UnitHere}
+use Rattle.units.proofs.Turns.{units-end}
+use Rattle.units.proofs.Walks.{units-start}
+use Rattle.parts.specs.declared.OptText.{OptText}
+use Rattle.parts.specs.declared.OptText.the-variants.{Absent, Present}
+use Rattle.parts.specs.declared.TextView.{TextView}
+use Rattle.parts.specs.Views.{partOf, contentIn, textIn, optTextIn, TextWithin, OptTextWithin}
+use Rattle.parts.proofs.Contents.{content-of}
+use Rattle.compatible.specs.Fitting.{codeOf, knownOf, unitIn}
+
+-- ---- a walk over the list for a content n
+
+pub record Seeking (s n : List ℕ) (at : ℕ) : Type 0 where
+  pub left : isListFrom s at ≡ true
+  pub is : findUnit n (unitsFrom s at) ≡ findUnit n (unitsFrom s 0)
+
+module _ {s n : List ℕ} {at : ℕ} (i : Seeking s n at) where
+  seek-none : unitsFrom s at ≡ [] → Unknown ≡ physicalAs (findUnit n (unitsFrom s 0))
+  unfolding physicalAs findUnit
+  seek-none e = rw (← i .is, e)
+
+  pub seek-end : length s ≤ at → Unknown ≡ physicalAs (findUnit n (unitsFrom s 0))
+  seek-end h = seek-none (units-end s at h)
+
+  pub seek-out : {r : UnitAt} → UnitHere s at r → r ≡ End → Unknown ≡ physicalAs (findUnit n (unitsFrom s 0))
+  seek-out h e = seek-none (h .none-left e)
+
+  module _ {e k : ℕ} {p : Physical} {b : Bool} (t : UnitTurn s at e k p) (q : b ≡ eqList n (chars (part s at e))) where
+    turn-finds : findUnit n (unitsFrom s 0) ≡ pick b (some (t .quantity)) (findUnit n (unitsFrom s k))
+    unfolding findUnit namedAs
+    turn-finds = rw (← i .is, t .is, ← q)
+
+    pub seek-hit : b ≡ true → p ≡ physicalAs (findUnit n (unitsFrom s 0))
+    seek-hit h = t .said ∙ ap physicalAs (sym (turn-finds ∙ rw h))
+
+    pub seek-on : b ≡ false → Seeking s n k
+    seek-on h = record { left = t .rest; is = sym (turn-finds ∙ rw h) }
+
+-- ---- numbers of physical quantities
+
+code-some : (p : PhysicalQuantity) → codeOf (physicalAs (some p)) ≡ physicalNumber p
+unfolding codeOf physicalAs physicalNumber
+code-some volume = refl
+code-some mass = refl
+code-some len = refl
+code-some temperature = refl
+code-some time = refl
+
+number-small : (p : PhysicalQuantity) → physicalNumber p ≡ 5 → ⊥
+unfolding physicalNumber
+number-small volume e = omega arith
+number-small mass e = omega arith
+number-small len e = omega arith
+number-small temperature e = omega arith
+number-small time e = omega arith
+
+code-none : codeOf (physicalAs none) ≡ 5
+unfolding codeOf physicalAs
+code-none = refl
+
+code-five : (o : Option PhysicalQuantity) → codeOf (physicalAs o) ≡ 5 → o ≡ none
+code-five none e = refl
+code-five (some p) e = absurd (number-small p (sym (code-some p) ∙ e))
+
+-- ---- two units
+
+twice : (us : List NamedUnit) (a : List ℕ) (o : Option PhysicalQuantity) → knownUnits us a a o o ≡ 0
+unfolding knownUnits samePhysical
+twice us a none = rw (eq-itself a)
+twice us a (some p) = rw (eq-eqb (physicalNumber p) (physicalNumber p) refl)
+
+module _ (us : List NamedUnit) (a b : List ℕ) where
+  left-none : (o : Option PhysicalQuantity) → eqList a b ≡ false → knownUnits us a b none o ≡ 17
+  unfolding knownUnits
+  left-none none e = rw e
+  left-none (some q) e = rw e
+
+  right-none : (o : Option PhysicalQuantity) → eqList a b ≡ false → knownUnits us a b o none ≡ 17
+  unfolding knownUnits
+  right-none none e = rw e
+  right-none (some p) e = rw e
+
+  both-same : (o u : Option PhysicalQuantity) → (codeOf (physicalAs o) ≡ 5 → ⊥) → codeOf (physicalAs o) ≡ codeOf (physicalAs u) → knownUnits us a b o u ≡ 0
+  both-same none u n e = absurd (n code-none)
+  both-same (some p) none n e = absurd (n (e ∙ code-none))
+  both-same (some p) (some q) n e = unfold knownUnits samePhysical in rw (eq-eqb (physicalNumber p) (physicalNumber q) (sym (code-some p) ∙ e ∙ code-some q))
+
+  both-other : (o u : Option PhysicalQuantity) → (codeOf (physicalAs o) ≡ 5 → ⊥) → (codeOf (physicalAs u) ≡ 5 → ⊥)
+      → (codeOf (physicalAs o) ≡ codeOf (physicalAs u) → ⊥) → knownUnits us a b o u ≡ 16
+  both-other none u n m e = absurd (n code-none)
+  both-other (some p) none n m e = absurd (m code-none)
+  both-other (some p) (some q) n m e =
+      unfold knownUnits samePhysical in rw (ne-eqb (physicalNumber p) (physicalNumber q) (λ z. e (code-some p ∙ z ∙ sym (code-some q))))
+
+module _ (us : List NamedUnit) (a b : List ℕ) {t : Bool} (s : t ≡ eqList a b) where
+  pub units-same : t ≡ true → 0 ≡ knownOf us a b
+  unfolding knownOf
+  units-same h = rw (eq-true a b (sym s ∙ h)) (sym (twice us b (findUnit b us)))
+
+  module _ {p : Physical} {m : ℕ} (x : p ≡ physicalAs (findUnit a us)) (y : m ≡ codeOf p) where
+    first : m ≡ codeOf (physicalAs (findUnit a us))
+    first = y ∙ ap codeOf x
+
+    pub units-first : t ≡ false → m ≡ 5 → 17 ≡ knownOf us a b
+    unfolding knownOf
+    units-first h e = rw (code-five (findUnit a us) (sym first ∙ e)) (sym (left-none us a b (findUnit b us) (sym s ∙ h)))
+
+    module _ {q : Physical} {n : ℕ} (z : q ≡ physicalAs (findUnit b us)) (w : n ≡ codeOf q) where
+      second : n ≡ codeOf (physicalAs (findUnit b us))
+      second = w ∙ ap codeOf z
+
+      pub units-second : t ≡ false → n ≡ 5 → 17 ≡ knownOf us a b
+      unfolding knownOf
+      units-second h e = rw (code-five (findUnit b us) (sym second ∙ e)) (sym (right-none us a b (findUnit a us) (sym s ∙ h)))
+
+      pub units-fit : (m ≡ 5 → ⊥) → m ≡ n → 0 ≡ knownOf us a b
+      unfolding knownOf
+      units-fit g e = sym (both-same us a b (findUnit a us) (findUnit b us) (λ k. g (first ∙ k)) (sym first ∙ e ∙ second))
+
+      pub units-differ : (m ≡ 5 → ⊥) → (n ≡ 5 → ⊥) → (m ≡ n → ⊥) → 16 ≡ knownOf us a b
+      unfolding knownOf
+      units-differ g h e =
+          sym (both-other us a b (findUnit a us) (findUnit b us) (λ k. g (first ∙ k)) (λ k. h (second ∙ k)) (λ k. e (first ∙ k ∙ sym second)))
+
+-- ---- the units of two quantities
+
+-- a text that was read, trimmed
+pub text-kept : (line : List ℕ) (v : TextView) (r : List ℕ) → TextWithin line v → TrimmedTo (partOf line (v .content)) r → keptIn r ≡ trimmedText (textIn line v)
+unfolding trimmedText textIn
+text-kept line v r w t =
+    let c = plains.content-of (partOf line (v .content)) (content-of line (v .content) (w .content)) in
+    rw c at (kept-trimmed (partOf line (v .content)) r (t .is))
+
+pub within-present : (line : List ℕ) (o : OptText) (v : TextView) → OptTextWithin line o → o ≡ Present v → TextWithin line v
+unfolding OptTextWithin
+within-present line o v w e = rw e at w
+
+module _ (us : List NamedUnit) (f g : List ℕ) {a b : OptText} where
+  pub both-absent : a ≡ Absent → b ≡ Absent → 0 ≡ compatibleUnit us (unitIn f a) (unitIn g b)
+  unfolding compatibleUnit unitIn optTextIn onSome
+  both-absent p q = rw (p, q)
+
+  pub left-absent : {v : TextView} → a ≡ Absent → b ≡ Present v → 15 ≡ compatibleUnit us (unitIn f a) (unitIn g b)
+  unfolding compatibleUnit unitIn optTextIn onSome
+  left-absent p q = rw (p, q)
+
+  pub right-absent : {v : TextView} → a ≡ Present v → b ≡ Absent → 15 ≡ compatibleUnit us (unitIn f a) (unitIn g b)
+  unfolding compatibleUnit unitIn optTextIn onSome
+  right-absent p q = rw (p, q)
+
+  present : {u v : TextView} → a ≡ Present u → b ≡ Present v → compatibleUnit us (unitIn f a) (unitIn g b) ≡ knownOf us (trimmedText (textIn f u)) (trimmedText (textIn g v))
+  unfolding compatibleUnit unitIn optTextIn onSome knownOf
+  present p q = rw (p, q)
+
+  pub both-present : {u v : TextView} {x y : List ℕ} {r : ℕ} → OptTextWithin f a → OptTextWithin g b → a ≡ Present u → b ≡ Present v
+      → TrimmedTo (partOf f (u .content)) x → TrimmedTo (partOf g (v .content)) y → r ≡ knownOf us (keptIn x) (keptIn y)
+      → r ≡ compatibleUnit us (unitIn f a) (unitIn g b)
+  both-present {u} {v} {x} {y} i j p q k l e =
+      rw (text-kept f u x (within-present f a u i p) k, text-kept g v y (within-present g b v j q) l) at e ∙ sym (present p q)
+
+-- the units of a list that was read
+pub list-read : (s a b : List ℕ) {r : ℕ} → isSome (readUnits s) ≡ true → r ≡ knownOf (unitsFrom s 0) a b → r ≡ knownOf (unitsOr (readUnits s)) a b
+list-read s a b h e = rw (units-start s h) at e
+
+-- the trimming of the part that was taken
+pub trims : {s f r : List ℕ} → f ≡ s → TrimmedTo f r → TrimmedTo s r
+trims e t = rw e at t
