@@ -209,7 +209,17 @@ pub fn unit_pair(
 }
 
 // The checks of notes and quantities, in this order.
-pub fn reference_checks(words: &mut [u32], h: Held, implicit: bool, in_step: bool, note: OptText, a: OptQuantity, span: Span, old: OptText, b: OptQuantity) -> Held
+pub fn reference_checks(
+    words: &mut [u32],
+    h: Held,
+    implicit: bool,
+    in_step: bool,
+    note: OptText,
+    a: OptQuantity,
+    span: Span,
+    old: OptText,
+    b: OptQuantity,
+) -> Held
     requires { ⌜ Sound (now words) h × (h .counts .findings + 2 < 1544) × NoteWithin note ⌝ }
     ensures { λ r. ⌜ ReferenceChecked implicit in_step note a span old b (now (words .entry)) h (now (words .exit)) r ⌝ }
 {
