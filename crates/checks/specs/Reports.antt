@@ -8,7 +8,7 @@ use Rattle.rules.specs.Basic.{onSome}
 use Rattle.rules.specs.Units.{NamedUnit}
 use Rattle.rules.specs.Finding.{Finding}
 use Rattle.rules.specs.Model.{Source, Entry, amountOf}
-use Rattle.rules.specs.Checks.{noteCheck, quantityCheck, isDefinedInStep, unitPair}
+use Rattle.rules.specs.Checks.{noteCheck, quantityCheck, referenceChecks, isDefinedInStep, unitPair}
 use Rattle.parts.specs.declared.Span.{Span}
 use Rattle.parts.specs.declared.OptText.{OptText}
 use Rattle.parts.specs.declared.OptText.the-variants as text
@@ -56,3 +56,9 @@ placeOf q = placeWith (q .span) (q .unit)
 pub record UnitsChecked (us : List NamedUnit) (f : List ℕ) (a : OptQuantity) (g : List ℕ) (b : OptQuantity) (w₀ : List ℕ) (h₀ : Held) (w : List ℕ) (h : Held) : Type 0 where
   pub is : (i j : Bool) (new old : Entry) → new .source .quantity ≡ optQuantityIn f a → old .source .quantity ≡ optQuantityIn g b
       → Reported (unitPair us new (onSome (amountOf i) (optQuantityIn f a)) (onSome (amountOf j) (optQuantityIn g b)) old) w₀ h₀ w h
+
+-- 18 to 20, of the new entry and its definition
+pub record ReferenceChecked (implicit inStep : Bool) (note : OptText) (a : OptQuantity) (s : Span) (old : OptText) (b : OptQuantity) (w₀ : List ℕ) (h₀ : Held) (w : List ℕ) (h : Held) : Type 0 where
+  pub is : (line other : List ℕ) (i j : Bool) (new d : Entry) → new .source .note ≡ optTextIn line note → new .source .quantity ≡ optQuantityIn line a
+      → new .quantity ≡ onSome (amountOf i) (optQuantityIn line a) → isDefinedInStep (d .relation) ≡ inStep → d .source .span ≡ spanIn s → d .source .note ≡ optTextIn other old
+      → d .source .quantity ≡ optQuantityIn other b → d .quantity ≡ onSome (amountOf j) (optQuantityIn other b) → Reported (referenceChecks implicit new d) w₀ h₀ w h

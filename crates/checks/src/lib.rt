@@ -19,7 +19,7 @@ ghost use Rattle.rules.specs.Checks.{textCheck, widened};
 ghost use Rattle.unicode.specs.Tables.{unicodeTables};
 ghost use Rattle.parts.specs.Views.{spanIn, kindIn, SpanWithin, OptQuantityWithin};
 ghost use Rattle.model.specs.Memory.{Sound};
-ghost use Rattle.checks.specs.Reports.{Reported, placeOf, NoteWithin, NoteChecked, PairChecked, QuantityChecked, UnitsChecked};
+ghost use Rattle.checks.specs.Reports.{Reported, placeOf, NoteWithin, NoteChecked, PairChecked, QuantityChecked, UnitsChecked, ReferenceChecked};
 
 // A finding with two spans.
 fn push_two(words: &mut [u32], h: Held, code: u32, s: Span, t: Span, implicit: bool) -> Held
@@ -206,4 +206,23 @@ pub fn unit_pair(
             }
         },
     }
+}
+
+// The checks of notes and quantities, in this order.
+pub fn reference_checks(
+    words: &mut [u32],
+    h: Held,
+    implicit: bool,
+    in_step: bool,
+    note: OptText,
+    a: OptQuantity,
+    span: Span,
+    old: OptText,
+    b: OptQuantity,
+) -> Held
+    requires { ⌜ Sound (now words) h × (h .counts .findings + 2 < 1544) × NoteWithin note ⌝ }
+    ensures { λ r. ⌜ ReferenceChecked implicit in_step note a span old b (now (words .entry)) h (now (words .exit)) r ⌝ }
+{
+    let k = note_check(words, h, implicit, note, span, old);
+    quantity_check(words, k, implicit, in_step, a, span, b)
 }

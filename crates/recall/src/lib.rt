@@ -1,0 +1,69 @@
+// The component of a line that was read before, read again.
+use components::ComponentView;
+use components::Modifiers;
+ghost use mathlib.Core.Path.{_≡_};
+ghost use Rattle.recall.specs.Recalls.{blankView, viewOf, viewInside, viewIn, Recalled};
+
+// A view of nothing.
+fn blank_view() -> ComponentView
+    ensures { λ r. ⌜ r ≡ blankView ⌝ }
+{
+    ComponentView {
+        span: parts::Span { start: 0, end: 0 },
+        name: parts::TextView {
+            span: parts::Span { start: 0, end: 0 },
+            content: parts::Part { from: 0, to: 0 },
+        },
+        alias: parts::OptText::Absent,
+        quantity: parts::OptQuantity::Absent,
+        note: parts::OptText::Absent,
+        modifiers: Modifiers {
+            recipe: false,
+            reference: false,
+            hidden: false,
+            opt: false,
+            new: false,
+        },
+        modifiers_span: parts::Span { start: 0, end: 0 },
+    }
+}
+
+fn of_component(c: events::ComponentEvent) -> ComponentView
+    ensures { λ r. ⌜ r ≡ viewOf c ⌝ }
+{
+    match c {
+        events::ComponentEvent::Ingredient(v, i) => v,
+        events::ComponentEvent::Cookware(v) => v,
+        events::ComponentEvent::Timer(s, n, q) => blank_view(),
+    }
+}
+
+fn of_inside(i: events::Inside) -> ComponentView
+    ensures { λ r. ⌜ r ≡ viewInside i ⌝ }
+{
+    match i {
+        events::Inside::End(k) => blank_view(),
+        events::Inside::Text(t) => blank_view(),
+        events::Inside::Component(c) => of_component(c),
+    }
+}
+
+fn of_event(e: events::EventView) -> ComponentView
+    ensures { λ r. ⌜ r ≡ viewIn e ⌝ }
+{
+    match e {
+        events::EventView::Between(b) => blank_view(),
+        events::EventView::Inside(i) => of_inside(i),
+        events::EventView::Finding(s, n) => blank_view(),
+    }
+}
+
+// The ingredient or the piece of cookware of a line that is one.
+pub fn component_in(line: &[u8]) -> ComponentView
+    ensures { λ r. ⌜ Recalled (now (line .entry)) r ⌝ }
+{
+    let reading::ReadEvent::Event(e) = reading::event_in(line) else {
+        return blank_view();
+    };
+    of_event(e)
+}
