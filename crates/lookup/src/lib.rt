@@ -167,7 +167,7 @@ pub fn new_name(t: &[u32], sheet: &[u8], from: usize, to: usize, is_ingredient: 
 
 // ---- what it refers to
 
-fn is_steps(d: Define) -> bool
+pub fn is_steps(d: Define) -> bool
     ensures { λ r. ⌜ r ≡ isSteps (defineOf d) ⌝ }
 {
     match d {
@@ -178,7 +178,7 @@ fn is_steps(d: Define) -> bool
     }
 }
 
-fn is_reference(d: Duplicate) -> bool
+pub fn is_reference(d: Duplicate) -> bool
     ensures { λ r. ⌜ r ≡ isReference (duplicateOf d) ⌝ }
 {
     match d {
