@@ -283,7 +283,7 @@ close-dropped : (st : State) → isComponents (st .modes .define) ≡ true → c
 unfolding closeStep
 close-dropped st e = rw e
 
-components-of : (sheet w : List ℕ) (h : Held) {b t : Bool} → b ≡ isComponents (defineOf (h .define)) → b ≡ t → isComponents (stateIn sheet w h .modes .define) ≡ t
+pub components-of : (sheet w : List ℕ) (h : Held) {b t : Bool} → b ≡ isComponents (defineOf (h .define)) → b ≡ t → isComponents (stateIn sheet w h .modes .define) ≡ t
 components-of sheet w h e t = ap isComponents (define-of sheet w h) ∙ (sym e ∙ t)
 
 step-block : (n : ℕ) → blankBlock (stepBlock n []) ≡ blockOf 1
