@@ -9,9 +9,10 @@ use lib.ListN.{length, take, drop, replicate}
 use Rattle.rules.specs.Basic.{pick, when}
 use Rattle.rules.specs.Event as rules
 use Rattle.rules.specs.Finding.{found}
-use Rattle.rules.specs.Model.{ingredient, definition}
+use Rattle.rules.specs.Model.{ingredient, definition, Entry}
 use Rattle.rules.specs.Checks.{stepIndices, sectionIndices, candidates, resolveIntermediateRef, intermediateModifiers, intermediateFindings, intermediateTarget, intermediateRelation}
-use Rattle.rules.specs.Components.{intermediateFault}
+use Rattle.rules.specs.Units.{NamedUnit}
+use Rattle.rules.specs.Components.{intermediateFault, lockFindings, madeIntermediate}
 use Rattle.parts.specs.Views.{spanIn}
 use Rattle.parts.specs.declared.Span.{Span}
 use Rattle.components.specs.Views.{modifiersIn, signedIn, targetIn, intermediateIn, optIntermediateIn}
@@ -30,6 +31,7 @@ use Rattle.model.specs.declared.Target.the-variants as model
 use Rattle.model.specs.declared.Relation.the-variants.{Definition, Reference}
 use Rattle.model.specs.declared.Held.{Held}
 use Rattle.checks.specs.Reports.{Reported}
+use Rattle.checks.proofs.Reports.{reported-seq}
 use Rattle.checks.proofs.Laws.{none-found, said}
 use Rattle.intermediate.specs.Intermediates.{Faulted, ModifiersReported, Resolved, Related}
 
@@ -117,3 +119,11 @@ module _ (i : Intermediate) (inStep : Bool) {f : Found} where
   pub related-section : {j : ℕ} → f ≡ At j → i .target ≡ target.Section → Related i inStep f (record { relation = Reference model.Section; «in_step» = inStep; index = j })
   unfolding relationIn relationAs intermediateRelation intermediateTarget intermediateIn targetIn
   related-section e t = record { is = rw (e, t) }
+
+-- ---- 6, then 7, then 8 or 9: all that is found
+
+pub intermediate-reported : (units : List NamedUnit) (flags : ℕ) (c : rules.Component) (new : Entry) (i : Intermediate) (f : Found) {m : Modifiers} {at : Span} {w₀ w₁ w₂ w : List ℕ} {h₀ h₁ h₂ h : Held}
+    → c .modifiers ≡ modifiersIn m → c .modifiersSpan ≡ spanIn at → Reported (lockFindings (c .quantity)) w₀ h₀ w₁ h₁ → ModifiersReported m at w₁ h₁ w₂ h₂
+    → Reported (intermediateFindings (intermediateIn i) (foundOf f)) w₂ h₂ w h → Reported (madeIntermediate units flags c new (intermediateIn i) (foundOf f) .findings) w₀ h₀ w h
+unfolding madeIntermediate
+intermediate-reported units flags c new i f em ea l k r = reported-seq (reported-seq l (k .is c em ea)) r
