@@ -68,34 +68,34 @@ module _ {sheet text units : List ℕ} {flags : ℕ} {a : Checked} (p : a ≡ ch
 
 -- ---- 1 to 3
 module _ {sheet text units : List ℕ} {flags words bytes : ℕ} where
-  pub words-short : words < 24157 → InputsChecked sheet text units flags words bytes (Refused 1 0)
+  pub words-short : words < 45661 → InputsChecked sheet text units flags words bytes (Refused 1 0)
   unfolding inputsFault isShort wordsNeeded refused inputsAs
-  words-short h = record { is = rw (lt-ltb words 24157 h) }
+  words-short h = record { is = rw (lt-ltb words 45661 h) }
 
-  module _ (w : 24157 ≤ words) where
+  module _ (w : 45661 ≤ words) where
     pub bytes-short : bytes < 65536 → InputsChecked sheet text units flags words bytes (Refused 1 0)
     unfolding inputsFault isShort wordsNeeded bytesNeeded refused inputsAs
-    bytes-short h = record { is = rw (le-ltb words 24157 w, lt-ltb bytes 65536 h) }
+    bytes-short h = record { is = rw (le-ltb words 45661 w, lt-ltb bytes 65536 h) }
 
     module _ (b : 65536 ≤ bytes) where
       pub sheet-long : 65536 < length sheet → InputsChecked sheet text units flags words bytes (Refused 1 0)
       unfolding inputsFault isShort wordsNeeded bytesNeeded refused inputsAs
-      sheet-long h = record { is = rw (le-ltb words 24157 w, le-ltb bytes 65536 b, lt-ltb 65536 (length sheet) h) }
+      sheet-long h = record { is = rw (le-ltb words 45661 w, le-ltb bytes 65536 b, lt-ltb 65536 (length sheet) h) }
 
       module _ (s : length sheet ≤ 65536) where
         pub text-long : 65535 < length text → InputsChecked sheet text units flags words bytes (Refused 2 0)
         unfolding inputsFault isShort wordsNeeded bytesNeeded refused inputsAs
         text-long h =
-            record { is = rw (le-ltb words 24157 w, le-ltb bytes 65536 b, le-ltb 65536 (length sheet) s, lt-ltb 65535 (length text) h) }
+            record { is = rw (le-ltb words 45661 w, le-ltb bytes 65536 b, le-ltb 65536 (length sheet) s, lt-ltb 65535 (length text) h) }
 
         module _ (t : length text ≤ 65535) where
           pub units-long : 16384 < length units → InputsChecked sheet text units flags words bytes (Refused 3 0)
           unfolding inputsFault isShort wordsNeeded bytesNeeded refused inputsAs
           units-long h =
-              record { is = rw (le-ltb words 24157 w, le-ltb bytes 65536 b, le-ltb 65536 (length sheet) s, le-ltb 65535 (length text) t, lt-ltb 16384 (length units) h) }
+              record { is = rw (le-ltb words 45661 w, le-ltb bytes 65536 b, le-ltb 65536 (length sheet) s, le-ltb 65535 (length text) t, lt-ltb 16384 (length units) h) }
 
           pub lengths-good : length units ≤ 16384 → {r : Inputs} → ContentsChecked sheet text units flags r
               → InputsChecked sheet text units flags words bytes r
           unfolding inputsFault isShort wordsNeeded bytesNeeded
           lengths-good u c =
-              record { is = rw (le-ltb words 24157 w, le-ltb bytes 65536 b, le-ltb 65536 (length sheet) s, le-ltb 65535 (length text) t, le-ltb 16384 (length units) u) (c .is) }
+              record { is = rw (le-ltb words 45661 w, le-ltb bytes 65536 b, le-ltb 65536 (length sheet) s, le-ltb 65535 (length text) t, le-ltb 16384 (length units) u) (c .is) }

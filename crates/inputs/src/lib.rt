@@ -4,7 +4,7 @@ ghost use Rattle.rules.specs.Answer.{flagsOf};
 ghost use Rattle.inputs.specs.Inputs.{InputsChecked, ContentsChecked, SheetFlagsChecked};
 
 // How much work memory has to be lent (docs/MEMORY.md).
-pub const WORDS: usize = 24157;
+pub const WORDS: usize = 45661;
 
 pub const BYTES: usize = 65536;
 

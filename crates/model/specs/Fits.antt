@@ -6,11 +6,12 @@ use mathlib.Core.Bool.{Bool, true, false}
 use mathlib.Core.Option.{Option, none, some}
 use lib.ListN.{length}
 use lib.Seq.{slice}
-use Rattle.rules.specs.Basic.{onSome}
+use Rattle.rules.specs.Basic.{onSome, lf}
 use Rattle.rules.specs.Text.{retain}
 use Rattle.rules.specs.Event.{Event, inside, between, parserEvent, Inside, componentEvent, textEvent, endEvent, ComponentEvent, ingredientEvent, cookwareEvent, timerEvent}
 use Rattle.rules.specs.Read.{contentOf, parseLine}
 use Rattle.rules.specs.Model.{Kind, ingredient, cookware}
+use Rattle.rules.proofs.Fields.{Without}
 use Rattle.model.specs.Rows.{rowAt, rowOf, entryAs}
 use Rattle.model.specs.Memory.{windowsOf}
 use Rattle.model.specs.declared.Row.{Row}
@@ -45,6 +46,7 @@ pub record Fits (k : Kind) (sheet : List ℕ) (r : Row) : Type 0 where
   pub line : r .«line_at» ≤ r .«line_end»
   pub lineEnd : r .«line_end» ≤ length sheet
   pub isLine : isOfKind k (parseLine (slice (r .«line_at») (r .«line_end») sheet)) ≡ true
+  pub noLf : Without lf (slice (r .«line_at») (r .«line_end») sheet)
   pub name : r .«name_at» ≤ r .«name_end»
   pub nameEnd : r .«name_end» ≤ length sheet
   pub isName : onSome (retain 0) (contentOf (slice (r .«name_at») (r .«name_end») sheet)) ≡ some (entryAs k sheet r [] .name)

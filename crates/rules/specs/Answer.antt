@@ -79,7 +79,7 @@ pub record Lent : Type 0 where
 
 -- "work memory shorter than the sizes in docs/, which the limits alone fix" (docs/MEMORY.md)
 unfoldable pub wordsNeeded : ℕ
-wordsNeeded = 24157
+wordsNeeded = 45661
 
 unfoldable pub bytesNeeded : ℕ
 bytesNeeded = 65536
