@@ -109,7 +109,7 @@ module _ (line : List ℕ) where
   component-event-fields (component.Ingredient c i) w r = component-fields c (w .0) r
   component-event-fields (component.Cookware c) w r = component-fields c w r
   component-event-fields (component.Timer s n q) w r =
-      (opt-text-field n (w .1 .0) (left-ready (rawOptText line n) (rawOptQuantity line q) r), opt-quantity-fields q (w .1 .1) (right-ready (rawOptText line n) (rawOptQuantity line q) r))
+      (opt-text-field n (w .1) (left-ready (rawOptText line n) (rawOptQuantity line q) r), opt-quantity-fields q (w .2) (right-ready (rawOptText line n) (rawOptQuantity line q) r))
 
   inside-fields : (i : Inside) → InsideWithin line i → AllReady (rawInside line i) → InsideFields line i
   unfolding InsideWithin InsideFields
