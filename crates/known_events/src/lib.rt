@@ -7,7 +7,7 @@ ghost use Rattle.rules.specs.Read.{parseLine};
 ghost use Rattle.rules.proofs.Fields.{Without};
 ghost use Rattle.known_events.specs.Known.{KnownEvent};
 
-// The event of a line that is known to be well formed.
+// Whether the line is UTF-8 is not tested again.
 pub fn event_of(line: &[u8]) -> EventView
     requires { ⌜ (isSome (parseLine (now line)) ≡ true) × Without lf (now line) ⌝ }
     ensures { λ r. ⌜ KnownEvent (now (line .entry)) r ⌝ }
