@@ -34,6 +34,7 @@ use Rattle.inline.specs.declared.Inline.{Inline}
 use Rattle.inline.specs.declared.Inline.the-variants.{Found, Nothing}
 use Rattle.inline.proofs.Items.{Counting, counting-start, counting-end, counting-more, counting-less, counting-to, pieces-none, pieces-found, text-piece, text-none, text-quantities}
 use Rattle.parts.specs.Views as views
+use Rattle.parts.specs.declared.Part.{Part}
 use Rattle.parts.specs.declared.TextView.{TextView}
 use Rattle.known_events.specs.Fields.{TextField}
 use Rattle.step_lines.specs.declared.ItemKind.the-variants as kind
@@ -182,18 +183,17 @@ field-content line v h = go (unescape (views.partOf line (v .content))) refl (h 
     go none e q = unfold isSome in no-truth q
     go (some u) e q = ap chars (plains.plain-unescape (views.partOf line (v .content)) e ∙ rw e (unfold views.orEmpty in refl))
 
-pub field-length : (line : List ℕ) (v : TextView) → length (views.partOf line (v .content)) ≤ length line
+pub part-length : (line : List ℕ) (p : Part) → length (views.partOf line p) ≤ length line
 unfolding views.partOf
-field-length line v =
-    let p = v .content in
+part-length line p =
     omega (arith, length-take (p .to - p .from) (drop (p .from) line), length-drop (p .from) line)
 
 pub view-field : {f : List ℕ} (line : List ℕ) (v : TextView) → f ≡ views.partOf line (v .content) → TextField line v → Field f
 unfolding TextField
 view-field line v e h = rw e h
 
-pub view-room : {f : List ℕ} (first : ℕ) (line : List ℕ) (v : TextView) → f ≡ views.partOf line (v .content) → first + length line < 2 ^ 32 → first + length f < 2 ^ 32
-view-room first line v e h = rw e (omega (arith, field-length line v))
+pub view-room : {f : List ℕ} (first : ℕ) (line : List ℕ) (p : Part) → f ≡ views.partOf line p → first + length line < 2 ^ 32 → first + length f < 2 ^ 32
+view-room first line p e h = rw e (omega (arith, part-length line p))
 
 -- ---- with flag 2, or without
 
@@ -203,6 +203,10 @@ is-content line v e h = ap content.contentIn e ∙ field-content line v h
 -- a text as it stands in its line
 pub view-put : {f o₀ o : List ℕ} {at r : ℕ} (line : List ℕ) (v : TextView) → f ≡ views.partOf line (v .content) → TextField line v → Put f o₀ at o r → Put (content.spell (views.textIn line v .content)) o₀ at o r
 view-put line v e h p = text-is _ (ap content.spell (sym (is-content line v e h)) ∙ field-spell (view-field line v e h)) p
+
+whole-text : (n : ℕ) (t : List ℕ) → itemText n (textPiece t ∷ []) ≡ itemLine 0 (textItem t)
+unfolding itemText itemsOf linesFrom
+whole-text n t = append-nil (itemLine 0 (textItem t))
 
 module _ (us : List NamedUnit) (flags : ℕ) (line : List ℕ) (v : TextView) {f : List ℕ} {first : ℕ} {o₀ o : List ℕ} (e : f ≡ views.partOf line (v .content)) (h : TextField line v) where
   pub lines-split : {text : ℕ → List Piece → List ℕ} {r : TextItems} → flags / 2 % 2 ≡ 1 → TextLines text (inlinePieces us (content.contentIn f)) first o₀ o r → TextLines text (pieces us flags (views.textIn line v .content)) first o₀ o r
@@ -214,7 +218,7 @@ module _ (us : List NamedUnit) (flags : ℕ) (line : List ℕ) (v : TextView) {f
   lines-whole n p =
       rw (ne-eqb (flags / 2 % 2) 1 n, ← is-content line v e h)
       record {
-        lines = text-is _ (unfold itemText itemsOf linesFrom in append-nil (itemLine 0 (textItem (content.contentIn f)))) p;
+        lines = text-is _ (whole-text first (content.contentIn f)) p;
         quantities = unfold quantitiesOf in refl;
       }
 
