@@ -2,20 +2,24 @@
 use Prim.Native.Nat.{ℕ, suc, _+_, _≤_}
 use mathlib.Core.Path.{_≡_, refl, sym, ap, _∙_}
 use mathlib.Core.List.{List, [], _∷_, _++_, reverse, reverseAux, reverse-cons, append-assoc, append-nil}
-use mathlib.Core.Option.{some}
+use mathlib.Core.Option.{Option, none, some}
+use mathlib.Core.Bool.{false}
 use native.Mathlib.Omega.{arith}
 use lib.ListN.{length}
-use Rattle.rules.specs.Basic.{codes, tab, lf, decimal, concat}
+use Rattle.rules.specs.Basic.{codes, tab, lf, minus, decimal, concat, joinBy, each, onSome}
 use Rattle.rules.specs.Utf8.{encode}
 use Rattle.rules.specs.Sheet.{escapeChar, escape, lineOf}
-use Rattle.rules.specs.Model.{Item, textItem, ingredientItem, cookwareItem, timerItem, inlineItem, textBlock, stepBlock}
-use Rattle.rules.specs.Page.{linesOnto, tableLines, optional, itemFields, itemLine, inlineLine, blockLines}
+use Rattle.rules.specs.Event as rules
+use Rattle.rules.specs.Components.{timerOf}
+use Rattle.rules.specs.Model.{Item, textItem, ingredientItem, cookwareItem, timerItem, inlineItem, textBlock, stepBlock, Section, trimmedText, amountOf}
+use Rattle.rules.specs.Page.{tableLines, optional, amountFields, itemFields, itemLine, timerLine, inlineLine, blockLines, sectionLines}
 use Rattle.output.specs.Put.{Put, tabbed}
 use Rattle.output.proofs.Puts.{put-seq}
 use Rattle.output.proofs.Texts.{text-is, line-tabbed, tabbed-both, tabbed-one, tabbed-number, put-fields, put-line}
 use Rattle.content.specs.Contents.{contentIn, spell}
 use Rattle.content.specs.Parts.{Field}
 use Rattle.content.proofs.Spells.{spell-append, field-spell}
+use Rattle.page_fields.proofs.Tables.{lines-more}
 use Rattle.step_lines.specs.declared.ItemKind.{ItemKind}
 use Rattle.step_lines.specs.declared.ItemKind.the-variants.{Ingredient, Cookware, Timer, Inline}
 use Rattle.step_lines.specs.Lines.{linesFrom, itemAs, kindWord, quantityAs}
@@ -23,26 +27,13 @@ use Rattle.step_lines.specs.Lines.{linesFrom, itemAs, kindWord, quantity
 -- ---- tables
 
 module _ {A : Type 0} (line : ℕ → A → List ℕ) where
-  lines-before : (table : List A) (rest : List ℕ) → linesOnto line table rest ≡ linesOnto line table [] ++ rest
-  unfolding linesOnto
-  lines-before [] rest = refl
-  lines-before (a ∷ table) rest =
-      lines-before table (line (length table) a ++ rest)
-      ∙ (sym (append-assoc (linesOnto line table []) (line (length table) a) rest)
-      ∙ ap (λ (l : List ℕ). l ++ rest) (sym (lines-before table (line (length table) a)) ∙ ap (linesOnto line table) (sym (append-nil (line (length table) a)))))
-
-  -- one entry more
-  pub table-one : (a : A) (table : List A) → tableLines line (a ∷ table) ≡ tableLines line table ++ line (length table) a
-  unfolding tableLines linesOnto
-  table-one a table = ap (linesOnto line table) (append-nil (line (length table) a)) ∙ lines-before table (line (length table) a)
-
   -- some more, in order
   pub table-more : (new table : List A) → tableLines line (reverseAux new table) ≡ tableLines line table ++ linesFrom line (length table) new
   unfolding linesFrom
   table-more [] table = sym (append-nil (tableLines line table))
   table-more (a ∷ new) table =
       table-more new (a ∷ table)
-      ∙ (ap (λ (l : List ℕ). l ++ linesFrom line (suc (length table)) new) (table-one a table)
+      ∙ (ap (λ (l : List ℕ). l ++ linesFrom line (suc (length table)) new) (lines-more line a table)
       ∙ append-assoc (tableLines line table) (line (length table) a) (linesFrom line (suc (length table)) new))
 
 -- ---- items
@@ -62,7 +53,7 @@ pub items-more : (new is : List Item) → tableLines itemLine (reverseAux new is
 items-more new is = table-more itemLine new is ∙ ap (λ (l : List ℕ). tableLines itemLine is ++ l) (any-items (length is) 0 new)
 
 pub item-more : (i : Item) (is : List Item) → tableLines itemLine (i ∷ is) ≡ tableLines itemLine is ++ itemLine 0 i
-item-more i is = table-one itemLine i is ∙ ap (λ (l : List ℕ). tableLines itemLine is ++ l) (any-item (length is) i)
+item-more i is = lines-more itemLine i is ∙ ap (λ (l : List ℕ). tableLines itemLine is ++ l) (any-item (length is) i)
 
 kind-bytes : (k : ItemKind) → tabbed (kindWord k ∷ []) ≡ tab ∷ kindWord k
 unfolding tabbed kindWord escape escapeChar
@@ -114,7 +105,29 @@ module _ {a u : List ℕ} {o₀ o₁ o₂ o₃ o₄ o₅ o₆ o₇ : List ℕ} {
       (put-fields (decimal i ∷ []) (encode (contentIn a) ∷ optional (some (contentIn u)) ∷ []) p₂ (put-fields (encode (contentIn a) ∷ []) (optional (some (contentIn u)) ∷ []) q s))
       p₇
 
--- ---- blocks
+-- ---- timers
+
+module _ {o₀ o₁ o₂ o₃ o₄ o₅ : List ℕ} {at m₁ m₂ m₃ m₄ r : ℕ} where
+  pub timer-put : (i : ℕ) (name : Option rules.Text) (q : Option rules.Quantity) → Put (codes "timer") o₀ at o₁ m₁ → Put (tabbed (decimal i ∷ [])) o₁ m₁ o₂ m₂ → Put (tabbed (optional (onSome trimmedText name) ∷ [])) o₂ m₂ o₃ m₃ → Put (tabbed (amountFields (onSome (amountOf false) q))) o₃ m₃ o₄ m₄ → Put (lf ∷ []) o₄ m₄ o₅ r → Put (timerLine i (timerOf name q)) o₀ at o₅ r
+  unfolding timerLine timerOf escape escapeChar
+  timer-put i name q p₁ p₂ p₃ p₄ p₅ =
+      let n : List ℕ = optional (onSome trimmedText name) in
+      let a : List (List ℕ) = amountFields (onSome (amountOf false) q) in
+      put-line (codes "timer") (decimal i ∷ n ∷ a) p₁ (put-fields (decimal i ∷ []) (n ∷ a) p₂ (put-fields (n ∷ []) a p₃ p₄)) p₅
+
+-- ---- sections and blocks
+
+pub section-put : (f : List ℕ) {o₀ o₁ o₂ o₃ : List ℕ} {at m k r : ℕ} → Put (codes "section") o₀ at o₁ m → Put (tabbed (f ∷ [])) o₁ m o₂ k → Put (lf ∷ []) o₂ k o₃ r → Put (lineOf (codes "section" ∷ f ∷ [])) o₀ at o₃ r
+unfolding escape escapeChar
+section-put f p q e = put-line (codes "section") (f ∷ []) p q e
+
+pub unnamed-put : {o₀ o : List ℕ} {at r : ℕ} → Put (codes "section" ++ (tab ∷ minus ∷ lf ∷ [])) o₀ at o r → Put (lineOf (codes "section" ∷ optional none ∷ [])) o₀ at o r
+unfolding optional lineOf joinBy each escape escapeChar
+unnamed-put p = p
+
+pub section-is : (k : ℕ) (s : Section) → sectionLines k s ≡ lineOf (codes "section" ∷ optional (s .name) ∷ []) ++ tableLines blockLines (s .content)
+unfolding sectionLines
+section-is k s = refl
 
 pub step-put : (n : ℕ) {o₀ o₁ o₂ o₃ : List ℕ} {at m k r : ℕ} → Put (codes "step") o₀ at o₁ m → Put (tabbed (decimal n ∷ [])) o₁ m o₂ k → Put (lf ∷ []) o₂ k o₃ r → Put (lineOf (codes "step" ∷ decimal n ∷ [])) o₀ at o₃ r
 unfolding escape escapeChar

@@ -1,31 +1,24 @@
 -- The text of a step, from quantity to quantity.
 use Prim.Native.Nat.{ℕ, suc, _+_, _-_, _^_, _≤_, _<_}
 use mathlib.Core.Path.{_≡_, refl, sym, ap, _∙_}
-use mathlib.Core.Bool.{true}
-use mathlib.Core.Option.{Option, none, some}
 use mathlib.Core.List.{List, [], _∷_, _++_, append-nil, append-assoc}
 use native.Mathlib.Nat.{add-zero}
 use native.Mathlib.Omega.{arith}
 use borrow.Author.Tests.{eq-eqb, ne-eqb}
 use Prim.Native.Nat.{_/_, _%_}
 use lib.ListN.{length, take, drop, length-take, length-drop}
-use Rattle.rules.specs.Basic.{isSome}
-use Rattle.rules.specs.Sheet.{unescape}
-use Rattle.rules.specs.Utf8.{chars}
 use Rattle.rules.specs.Units.{NamedUnit}
 use Rattle.rules.specs.Inline.{Piece, textPiece, quantityPiece, textIfAny, inlinePieces}
 use Rattle.rules.specs.Model.{Item, textItem, inlineItem}
 use Rattle.rules.specs.Modes.{hasInline}
 use Rattle.rules.specs.Pass.{itemsOf, quantitiesOf, pieces}
 use Rattle.rules.specs.Page.{itemLine, inlineLine}
-use Rattle.rules.proofs.Basics.{by-order, no-truth}
+use Rattle.rules.proofs.Basics.{by-order}
 use Rattle.output.specs.Put.{Put}
 use Rattle.output.proofs.Puts.{Leads, starts, turn, step, ends-in, ends-out, put-most, put-seq, keeps}
 use Rattle.output.proofs.Texts.{text-is}
 use Rattle.content.specs.Contents as content
 use Rattle.content.specs.Parts.{Field}
-use Rattle.content.proofs.Plains as plains
-use Rattle.content.proofs.Chars.{no-content}
 use Rattle.content.proofs.Spells.{field-spell}
 use Rattle.utf8.proofs.Firsts.{part-rest}
 use Rattle.inline.specs.Scans.{part}
@@ -37,6 +30,7 @@ use Rattle.parts.specs.Views as views
 use Rattle.parts.specs.declared.Part.{Part}
 use Rattle.parts.specs.declared.TextView.{TextView}
 use Rattle.known_events.specs.Fields.{TextField}
+use Rattle.page_fields.proofs.Contents.{part-content}
 use Rattle.step_lines.specs.declared.ItemKind.the-variants as kind
 use Rattle.step_lines.specs.declared.TextItems.{TextItems}
 use Rattle.step_lines.specs.Lines.{linesFrom, itemAs, quantityAs, itemText, inlineText, textText, TextLines}
@@ -175,13 +169,9 @@ module _ {us : List NamedUnit} {s : List ℕ} {at : ℕ} {f : Inline} {a b u v e
 -- ---- the text of a view
 
 -- the content of a whole field of a line
-pub field-content : (line : List ℕ) (v : TextView) → TextField line v → content.contentIn (views.partOf line (v .content)) ≡ views.textIn line v .content
-unfolding TextField views.textIn views.contentIn views.bytesIn content.contentIn
-field-content line v h = go (unescape (views.partOf line (v .content))) refl (h .well)
-  where
-    go : (o : Option (List ℕ)) → unescape (views.partOf line (v .content)) ≡ o → isSome o ≡ true → chars (content.plainOf (views.partOf line (v .content))) ≡ chars (views.orEmpty (unescape (views.partOf line (v .content))))
-    go none e q = unfold isSome in no-truth q
-    go (some u) e q = ap chars (plains.plain-unescape (views.partOf line (v .content)) e ∙ rw e (unfold views.orEmpty in refl))
+field-content : (line : List ℕ) (v : TextView) → TextField line v → content.contentIn (views.partOf line (v .content)) ≡ views.textIn line v .content
+unfolding TextField views.textIn
+field-content line v h = sym (part-content line (v .content) h)
 
 pub part-length : (line : List ℕ) (p : Part) → length (views.partOf line p) ≤ length line
 unfolding views.partOf

@@ -1,26 +1,30 @@
-// Lines of the page: items of steps, inline quantities, steps and texts. A line's writer gets the output from the cursor on
+// Lines of the page: sections, steps and their items, texts, timers, inline quantities. A line's writer gets the output from the cursor on
 // and returns how many bytes it wrote, or one more than there is room for.
 ghost use mathlib.Core.Path.{_≡_};
 ghost use mathlib.Core.Bool.{true};
 ghost use mathlib.Core.List.{[], _∷_, _++_};
+ghost use mathlib.Core.Option.{none};
 ghost use Prim.Native.Nat.{_+_, _^_, _<_};
 ghost use lib.ListN.{length};
-ghost use Rattle.rules.specs.Basic.{codes, tab, lf, decimal, isSome};
+ghost use Rattle.rules.specs.Basic.{codes, tab, lf, decimal, isSome, onSome};
 ghost use Rattle.rules.specs.Utf8.{isUtf8};
 ghost use Rattle.rules.specs.Sheet.{lineOf};
 ghost use Rattle.rules.specs.Units.{readUnits};
 ghost use Rattle.rules.specs.Answer.{unitsOr, isGoodSpan};
 ghost use Rattle.rules.specs.Inline.{inlinePieces};
-ghost use Rattle.rules.specs.Model.{textItem};
+ghost use Rattle.rules.specs.Model.{textItem, trimmedText};
+ghost use Rattle.rules.specs.Components.{timerOf};
 ghost use Rattle.rules.specs.Pass.{pieces, sourceText};
-ghost use Rattle.rules.specs.Page.{itemLine, inlineLine};
+ghost use Rattle.rules.specs.Page.{optional, itemLine, timerLine, inlineLine};
 ghost use Rattle.unicode.specs.Tables.{unicodeTables};
 ghost use Rattle.output.specs.Put.{Put, tabbed};
 ghost use Rattle.content.specs.Contents.{contentIn, spell};
 ghost use Rattle.content.specs.Parts.{Field};
-ghost use Rattle.parts.specs.Views.{textIn, spanIn};
-ghost use Rattle.known_events.specs.Fields.{TextField};
+ghost use Rattle.parts.specs.Views.{textIn, spanIn, optTextIn, optQuantityIn};
+ghost use Rattle.known_events.specs.Fields.{TextField, OptTextField, OptQuantityFields};
 ghost use Rattle.step_lines.specs.Lines.{kindWord, itemAs, PutItem, quantityAs, TextLines, itemText, inlineText, textText};
+use parts::OptQuantity;
+use parts::OptText;
 use parts::Span;
 use parts::TextView;
 
@@ -234,6 +238,40 @@ pub fn inline_lines(
         count: 0,
         inline: 0,
     }
+}
+
+// The first line of a section with an optional name.
+pub fn section_line(t: &[u32], rest: &mut [u8], line: &[u8], name: OptText) -> usize
+    requires { ⌜ (now t ≡ unicodeTables) × OptTextField (now line) name ⌝ }
+    ensures { λ r. ⌜ Put (lineOf (codes "section" ∷ optional (onSome trimmedText (optTextIn (now (line .entry)) name)) ∷ [])) (now (rest .entry)) 0 (now (rest .exit)) r ⌝ }
+{
+    let a = output::put_bytes(rest, 0, b"section");
+    let b = page_fields::put_optional(t, rest, a, line, name);
+    output::put_byte(rest, b, b'\n')
+}
+
+pub fn unnamed_section_line(rest: &mut [u8]) -> usize
+    ensures { λ r. ⌜ Put (lineOf (codes "section" ∷ optional none ∷ [])) (now (rest .entry)) 0 (now (rest .exit)) r ⌝ }
+{
+    output::put_bytes(rest, 0, b"section\t-\n")
+}
+
+pub fn timer_line(
+    t: &[u32],
+    rest: &mut [u8],
+    line: &[u8],
+    index: u32,
+    name: OptText,
+    quantity: OptQuantity,
+) -> usize
+    requires { ⌜ (now t ≡ unicodeTables) × OptTextField (now line) name × OptQuantityFields (now line) quantity ⌝ }
+    ensures { λ r. ⌜ Put (timerLine index (timerOf (optTextIn (now (line .entry)) name) (optQuantityIn (now (line .entry)) quantity))) (now (rest .entry)) 0 (now (rest .exit)) r ⌝ }
+{
+    let a = output::put_bytes(rest, 0, b"timer");
+    let b = output::put_number(rest, a, index);
+    let c = page_fields::put_optional(t, rest, b, line, name);
+    let d = page_fields::put_amount(t, rest, c, line, quantity, false);
+    output::put_byte(rest, d, b'\n')
 }
 
 // The first line of a step.
