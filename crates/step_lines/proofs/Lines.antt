@@ -1,28 +1,29 @@
 -- The lines as their writers write them, piece by piece.
-use Prim.Native.Nat.{ℕ, suc, _+_, _≤_}
+use Prim.Native.Nat.{ℕ, suc}
 use mathlib.Core.Path.{_≡_, refl, sym, ap, _∙_}
 use mathlib.Core.List.{List, [], _∷_, _++_, reverse, reverseAux, reverse-cons, append-assoc, append-nil}
 use mathlib.Core.Option.{Option, none, some}
 use mathlib.Core.Bool.{false}
-use native.Mathlib.Omega.{arith}
 use lib.ListN.{length}
 use Rattle.rules.specs.Basic.{codes, tab, lf, minus, decimal, concat, joinBy, each, onSome}
 use Rattle.rules.specs.Utf8.{encode}
 use Rattle.rules.specs.Sheet.{escapeChar, escape, lineOf}
 use Rattle.rules.specs.Event as rules
 use Rattle.rules.specs.Components.{timerOf}
-use Rattle.rules.specs.Model.{Item, textItem, ingredientItem, cookwareItem, timerItem, inlineItem, textBlock, stepBlock, Section, trimmedText, amountOf}
+use Rattle.rules.specs.Inline.{Piece}
+use Rattle.rules.specs.Pass.{itemsOf, quantitiesOf}
+use Rattle.rules.specs.Model.{Item, InlineQuantity, textItem, ingredientItem, cookwareItem, timerItem, inlineItem, textBlock, stepBlock, Section, trimmedText, amountOf}
 use Rattle.rules.specs.Page.{tableLines, optional, amountFields, itemFields, itemLine, timerLine, inlineLine, blockLines, sectionLines}
 use Rattle.output.specs.Put.{Put, tabbed}
 use Rattle.output.proofs.Puts.{put-seq}
-use Rattle.output.proofs.Texts.{text-is, line-tabbed, tabbed-both, tabbed-one, tabbed-number, put-fields, put-line}
+use Rattle.output.proofs.Texts.{text-is, line-tabbed, tabbed-one, put-fields, put-line}
 use Rattle.content.specs.Contents.{contentIn, spell}
 use Rattle.content.specs.Parts.{Field}
 use Rattle.content.proofs.Spells.{spell-append, field-spell}
 use Rattle.page_fields.proofs.Tables.{lines-more}
 use Rattle.step_lines.specs.declared.ItemKind.{ItemKind}
 use Rattle.step_lines.specs.declared.ItemKind.the-variants.{Ingredient, Cookware, Timer, Inline}
-use Rattle.step_lines.specs.Lines.{linesFrom, itemAs, kindWord, quantityAs}
+use Rattle.step_lines.specs.Lines.{linesFrom, itemAs, kindWord, quantityAs, itemText, inlineText}
 
 -- ---- tables
 
@@ -54,6 +55,15 @@ items-more new is = table-more itemLine new is ∙ ap (λ (l : List ℕ). tableL
 
 pub item-more : (i : Item) (is : List Item) → tableLines itemLine (i ∷ is) ≡ tableLines itemLine is ++ itemLine 0 i
 item-more i is = lines-more itemLine i is ∙ ap (λ (l : List ℕ). tableLines itemLine is ++ l) (any-item (length is) i)
+
+-- the items of some pieces of text, and their quantities, after those that were there
+pub text-items-more : (n : ℕ) (ps : List Piece) (is : List Item) → tableLines itemLine (reverseAux (itemsOf n ps) is) ≡ tableLines itemLine is ++ itemText n ps
+unfolding itemText
+text-items-more n ps is = items-more (itemsOf n ps) is
+
+pub quantities-more : (ps : List Piece) (table : List InlineQuantity) → tableLines inlineLine (reverseAux (quantitiesOf ps) table) ≡ tableLines inlineLine table ++ inlineText (length table) ps
+unfolding inlineText
+quantities-more ps table = table-more inlineLine (quantitiesOf ps) table
 
 kind-bytes : (k : ItemKind) → tabbed (kindWord k ∷ []) ≡ tab ∷ kindWord k
 unfolding tabbed kindWord escape escapeChar

@@ -42,7 +42,7 @@ part-put-text-start c = omega (arith, split-at (c .before .before .before .befor
 
 -- src/lib.rt:108:47
 part-put-text-end : tie.Need-part-put-text-end Inv-loop μ-loop
-part-put-text-end c = search needs
+part-put-text-end c = omega (arith, split-at (c .before .before .before .before .loop .inv))
 
 -- src/lib.rt:108:21
 put-text-requires : tie.Need-put-text-requires Inv-loop μ-loop
