@@ -12,7 +12,7 @@ use Rattle.rules.specs.Event as rules
 use Rattle.rules.specs.Components.{timerOf}
 use Rattle.rules.specs.Inline.{Piece}
 use Rattle.rules.specs.Pass.{itemsOf, quantitiesOf}
-use Rattle.rules.specs.Model.{Item, InlineQuantity, textItem, ingredientItem, cookwareItem, timerItem, inlineItem, textBlock, stepBlock, Section, trimmedText, amountOf}
+use Rattle.rules.specs.Model.{Item, InlineQuantity, textItem, textBlock, stepBlock, Section, trimmedText, amountOf}
 use Rattle.rules.specs.Page.{tableLines, optional, amountFields, itemFields, itemLine, timerLine, inlineLine, blockLines, sectionLines}
 use Rattle.output.specs.Put.{Put, tabbed}
 use Rattle.output.proofs.Puts.{put-seq}

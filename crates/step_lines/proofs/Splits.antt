@@ -1,15 +1,14 @@
 -- The text of a step, from quantity to quantity.
-use Prim.Native.Nat.{ℕ, suc, _+_, _-_, _^_, _≤_, _<_}
+use Prim.Native.Nat.{ℕ, suc, _+_, _-_, _^_, _≤_, _<_, _/_, _%_}
 use mathlib.Core.Path.{_≡_, refl, sym, ap, _∙_}
 use mathlib.Core.List.{List, [], _∷_, _++_, append-nil, append-assoc}
 use native.Mathlib.Nat.{add-zero}
 use native.Mathlib.Omega.{arith}
 use borrow.Author.Tests.{eq-eqb, ne-eqb}
-use Prim.Native.Nat.{_/_, _%_}
-use lib.ListN.{length, take, drop, length-take, length-drop}
+use lib.ListN.{length, drop, length-take, length-drop}
 use Rattle.rules.specs.Units.{NamedUnit}
 use Rattle.rules.specs.Inline.{Piece, textPiece, quantityPiece, textIfAny, inlinePieces}
-use Rattle.rules.specs.Model.{Item, textItem, inlineItem}
+use Rattle.rules.specs.Model.{Item, textItem}
 use Rattle.rules.specs.Modes.{hasInline}
 use Rattle.rules.specs.Pass.{itemsOf, quantitiesOf, pieces}
 use Rattle.rules.specs.Page.{itemLine, inlineLine}
@@ -34,7 +33,7 @@ use Rattle.page_fields.proofs.Contents.{part-content}
 use Rattle.step_lines.specs.declared.ItemKind.the-variants as kind
 use Rattle.step_lines.specs.declared.TextItems.{TextItems}
 use Rattle.step_lines.specs.Lines.{linesFrom, itemAs, quantityAs, itemText, inlineText, textText, TextLines}
-use Rattle.step_lines.proofs.Lines.{any-items, any-item}
+use Rattle.step_lines.proofs.Lines.{any-items}
 
 -- ---- the lines of pieces
 

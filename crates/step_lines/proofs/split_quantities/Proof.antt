@@ -5,7 +5,7 @@ use lib.ListN.{length}
 use Rattle.rules.specs.Units.{readUnits}
 use Rattle.rules.specs.Answer.{unitsOr}
 use Rattle.step_lines.specs.Lines.{inlineText}
-use Rattle.step_lines.proofs.Splits.{Splitting, split-start, split-at, split-left, split-few, split-less, split-to, found-at, found-room, quantities-next, quantities-end}
+use Rattle.step_lines.proofs.Splits.{Splitting, split-start, split-at, split-left, split-few, split-less, split-to, found-at, quantities-next, quantities-end}
 use Rattle.step_lines.proofs.split_quantities.Statement.{statement}
 use Rattle.step_lines.proofs.split_quantities.Tie as tie
 use Rattle.step_lines.proofs.split_quantities.Reads as reads
