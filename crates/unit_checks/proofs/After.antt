@@ -82,7 +82,7 @@ and-none : (x : Bool) (fs : List Finding) → pick (x && false) fs [] ≡ []
 and-none true fs = refl
 and-none false fs = refl
 
-module _ {us : List NamedUnit} {flags : ℕ} {b : Bool} {sheet line : List ℕ} {a : OptQuantity} {d : ℕ} {w₀ : List ℕ} {h₀ : Held} where
+module _ (b : Bool) {us : List NamedUnit} {flags : ℕ} {sheet line : List ℕ} {a : OptQuantity} {d : ℕ} {w₀ : List ℕ} {h₀ : Held} where
   pub after-cookware : not b ≡ true → UnitsAfter us flags (kindOf b) sheet line a d w₀ h₀ w₀ h₀
   after-cookware t = rw (not-true b t) (record { is = λ new n. none-found (unfold isIngredient in refl) })
 
@@ -96,8 +96,8 @@ module _ {us : List NamedUnit} {flags : ℕ} {b : Bool} {sheet line : List ℕ} 
       let e : hasAdvancedUnits flags ≡ true = (unfold hasAdvancedUnits in eq-eqb (flags / 4 % 2) 1 u) in
       rw (not-false b t) (record { is = λ new n. said (rw e (unfold isIngredient in refl)) (c .is new (n .isSource) (unfold isIngredient in n .isAmount)) })
 
-pub below-ingredient : {b : Bool} {d : ℕ} {h : Held} → not b ≡ false → d < countOf (kindOf b) h → d < h .counts .ingredients
-below-ingredient {b} t l = rw (not-false b t) at l
+pub below-ingredient : (b : Bool) (d : ℕ) (h : Held) → not b ≡ false → d < countOf (kindOf b) h → d < h .counts .ingredients
+below-ingredient b d h t l = rw (not-false b t) at l
 
 -- ---- how many findings it makes
 
@@ -115,34 +115,32 @@ relation-few k Definition inStep index by = unfold relationAs referrers in omega
 relation-few k (Reference t) inStep index by = rw (referrers-none k t inStep index by) (omega arith)
 
 against-all : (us : List NamedUnit) (new : Entry) (table : List Entry) (is : List ℕ) → length (unitsAgainst us new table is) ≤ length is
-against-all us new table [] = unfold unitsAgainst in omega arith
+unfolding unitsAgainst
+against-all us new table [] = omega arith
 against-all us new table (i ∷ is) =
-    unfold unitsAgainst in
     omega (arith, length-append (unitAgainst us new (entryAt i table)) (unitsAgainst us new table is), against-few us new (entryAt i table), against-all us new table is)
 
-check-few : (us : List NamedUnit) (new : Entry) (table : List Entry) (sheet w : List ℕ) (h : Held) (d : ℕ)
-    → length (unitCheck us new table (earlierAt ingredient sheet w h d)) ≤ h .counts .«ingredient_pairs» + 1
-check-few us new table sheet w h d =
-    let n : length (referrers (earlierAt ingredient sheet w h d .entry .relation)) ≤ h .counts .«ingredient_pairs» = few in
-    unfold unitCheck in
-    omega (arith, against-all us new table (d ∷ referrers (earlierAt ingredient sheet w h d .entry .relation)))
-  where
-    abbrev row : Row
-    row = rowOf (rowAt 12 (windowsOf w .ingredients) d)
+module _ (sheet w : List ℕ) (h : Held) (d : ℕ) where
+  abbrev row : Row
+  row = rowOf (rowAt 12 (windowsOf w .ingredients) d)
 
-    abbrev by : List ℕ
-    by = referrersIn (windowsOf w .ingredientPairs) d (h .counts .«ingredient_pairs»)
+  abbrev its : List ℕ
+  its = referrersIn (windowsOf w .ingredientPairs) d (h .counts .«ingredient_pairs»)
 
-    is : earlierAt ingredient sheet w h d .entry .relation ≡ relationAs ingredient (row .relation .relation) (row .relation .«in_step») (row .relation .index) by
-    is = ap (λ (x : Entry). x .relation) (earlier-row ingredient sheet w h d refl) ∙ entry-relation ingredient sheet row by ∙ (unfold relationIn in refl)
+  relation-is : earlierAt ingredient sheet w h d .entry .relation ≡ relationAs ingredient (row .relation .relation) (row .relation .«in_step») (row .relation .index) its
+  relation-is = ap (λ (x : Entry). x .relation) (earlier-row ingredient sheet w h d refl) ∙ entry-relation ingredient sheet row its ∙ (unfold relationIn in refl)
 
-    few : length (referrers (earlierAt ingredient sheet w h d .entry .relation)) ≤ h .counts .«ingredient_pairs»
-    few = rw is (omega (arith, relation-few ingredient (row .relation .relation) (row .relation .«in_step») (row .relation .index) by, referrers-few (windowsOf w .ingredientPairs) d (h .counts .«ingredient_pairs»)))
+  earlier-few : length (referrers (earlierAt ingredient sheet w h d .entry .relation)) ≤ h .counts .«ingredient_pairs»
+  earlier-few = rw relation-is (omega (arith, relation-few ingredient (row .relation .relation) (row .relation .«in_step») (row .relation .index) its, referrers-few (windowsOf w .ingredientPairs) d (h .counts .«ingredient_pairs»)))
+
+  check-few : (us : List NamedUnit) (new : Entry) (table : List Entry) → length (unitCheck us new table (earlierAt ingredient sheet w h d)) ≤ h .counts .«ingredient_pairs» + 1
+  unfolding unitCheck
+  check-few us new table = omega (arith, earlier-few, against-all us new table (earlierAt ingredient sheet w h d .index ∷ referrers (earlierAt ingredient sheet w h d .entry .relation)))
 
 after-most : (us : List NamedUnit) (x : Bool) (k : Kind) (new : Entry) (table : List Entry) (sheet w : List ℕ) (h : Held) (d : ℕ)
     → length (pick (isIngredient k && x) (unitCheck us new table (earlierAt k sheet w h d)) []) ≤ h .counts .«ingredient_pairs» + 1
 unfolding isIngredient
-after-most us true ingredient new table sheet w h d = check-few us new table sheet w h d
+after-most us true ingredient new table sheet w h d = check-few sheet w h d us new table
 after-most us false ingredient new table sheet w h d = omega arith
 after-most us x cookware new table sheet w h d = omega arith
 

@@ -46,6 +46,19 @@ use Rattle.unit_checks.proofs.Rows.{entry-past, entry-there, earlier-ro
 
 -- ---- one row
 
+module _ (us : List NamedUnit) (new : Entry) where
+  against-some : (old : Entry) → unitAgainst us new (some old) ≡ unitPair us new (new .quantity) (old .quantity) old
+  unfolding unitAgainst
+  against-some old = refl
+
+  units-more : (table : List Entry) (i : ℕ) (is : List ℕ) → unitsAgainst us new table (i ∷ is) ≡ unitAgainst us new (entryAt i table) ++ unitsAgainst us new table is
+  unfolding unitsAgainst
+  units-more table i is = refl
+
+amount-is : {new : Entry} {line : List ℕ} {a : OptQuantity} → QuantityOf new ingredient line a → new .quantity ≡ onSome (amountOf true) (optQuantityIn line a)
+unfolding isIngredient
+amount-is n = n .isAmount
+
 module _ (w : List ℕ) (i : ℕ) where
   row-window : {r : Row} → r ≡ rowOf (rowAt 12 (take 6156 (drop 0 w)) i) → r ≡ rowOf (rowAt 12 (rowsIn ingredient w) i)
   unfolding windowsOf
@@ -68,29 +81,34 @@ module _ (i : ℕ) {sheet w₀ : List ℕ} {h₀ : Held} {r : Row} {v : Componen
   pub row-within : OptQuantityWithin (take (r .«line_end» - r .«line_at») (drop (r .«line_at») sheet)) (v .quantity)
   row-within = old-within ingredient (window-fits w₀ i f l e) q .quantity
 
-  module _ {us : List NamedUnit} {line : List ℕ} {a : OptQuantity} where
+  row-amount : entryAs ingredient sheet r by .quantity ≡ onSome (amountOf true) (optQuantityIn (take (r .«line_end» - r .«line_at») (drop (r .«line_at») sheet)) (v .quantity))
+  unfolding isIngredient
+  row-amount = old-amount ingredient (window-fits w₀ i f l e) q by
+
+  module _ (us : List NamedUnit) {line : List ℕ} {a : OptQuantity} where
     same : (new : Entry) → QuantityOf new ingredient line a
         → unitAgainst us new (entryAt i (tableOf ingredient (stateIn sheet w₀ h₀)))
         ≡ unitPair us new (onSome (amountOf true) (optQuantityIn line a)) (onSome (amountOf true) (optQuantityIn (take (r .«line_end» - r .«line_at») (drop (r .«line_at») sheet)) (v .quantity))) (entryAs ingredient sheet r by)
     same new n =
         ap (unitAgainst us new) row-entry
-        ∙ (unfold unitAgainst in refl)
-        ∙ ap (λ (x : Option Amount). unitPair us new x (entryAs ingredient sheet r by .quantity) (entryAs ingredient sheet r by)) (unfold isIngredient in n .isAmount)
-        ∙ ap (λ (x : Option Amount). unitPair us new (onSome (amountOf true) (optQuantityIn line a)) x (entryAs ingredient sheet r by)) (unfold isIngredient in old-amount ingredient (window-fits w₀ i f l e) q by)
+        ∙ against-some us new (entryAs ingredient sheet r by)
+        ∙ ap (λ (x : Option Amount). unitPair us new x (entryAs ingredient sheet r by .quantity) (entryAs ingredient sheet r by)) (amount-is n)
+        ∙ ap (λ (x : Option Amount). unitPair us new (onSome (amountOf true) (optQuantityIn line a)) x (entryAs ingredient sheet r by)) row-amount
 
-    pub row-checked : {w : List ℕ} {h : Held} → UnitsChecked us line a (take (r .«line_end» - r .«line_at») (drop (r .«line_at») sheet)) (v .quantity) w₀ h₀ w h → RowChecked us sheet line a i w₀ h₀ w h
-    row-checked u =
-        record {
-          is =
-              λ new n.
-              said (same new n)
-              (u .is true true new (entryAs ingredient sheet r by) (n .isSource) (unfold sourceOf componentIn in ap (λ (s : Source). s .quantity) (old-source ingredient (window-fits w₀ i f l e) q by)));
-        }
+  pub row-checked : {us : List NamedUnit} {line : List ℕ} {a : OptQuantity} {w : List ℕ} {h : Held}
+      → UnitsChecked us line a (take (r .«line_end» - r .«line_at») (drop (r .«line_at») sheet)) (v .quantity) w₀ h₀ w h → RowChecked us sheet line a i w₀ h₀ w h
+  row-checked {us} u =
+      record {
+        is =
+            λ new n.
+            said (same us new n)
+            (u .is true true new (entryAs ingredient sheet r by) (n .isSource) (unfold sourceOf componentIn in ap (λ (s : Source). s .quantity) (old-source ingredient (window-fits w₀ i f l e) q by)));
+      }
 
 -- ---- what it leaves, whatever the entry is
 
 -- some entry with the quantity
-pub sample : Kind → List ℕ → OptQuantity → Entry
+unfoldable pub sample : Kind → List ℕ → OptQuantity → Entry
 sample k line a =
     record {
       name = [];
@@ -104,6 +122,7 @@ sample k line a =
     }
 
 pub sample-of : (k : Kind) (line : List ℕ) (a : OptQuantity) → QuantityOf (sample k line a) k line a
+unfolding sample
 sample-of k line a = record { isSource = refl; isAmount = refl }
 
 finding-few : (n : ℕ) (ps : List rules.Span) → length (unitFinding n ps) ≤ 1
@@ -147,6 +166,10 @@ module _ {us : List NamedUnit} {sheet line : List ℕ} {a : OptQuantity} {i : �
 
 -- ---- the referrers
 
+pairs-long : {w : List ℕ} {h : Held} → Sound w h → length (take 1026 (drop 9240 w)) ≡ 1026
+unfolding windowsOf
+pairs-long z = long-ingredientPairs z
+
 -- what is found from the pair at `from` on makes the whole
 pub record Going (us : List NamedUnit) (sheet line : List ℕ) (a : OptQuantity) (d : ℕ) (w₀ : List ℕ) (h₀ : Held) (w : List ℕ) (h : Held) (from : ℕ) : Type 0 where
   pub sound : Sound w h
@@ -170,8 +193,7 @@ module _ {us : List NamedUnit} {sheet line : List ℕ} {a : OptQuantity} {d : �
 
     pub going-ready : Sound w₀ h₀ → (h₀ .counts .«ingredient_pairs» ≤ 513) × (h₀ .counts .«ingredient_pairs» * 2 ≤ length (take 1026 (drop 9240 w)))
     going-ready z =
-        let l : length (windowsOf w .ingredientPairs) ≡ 1026 = long-ingredientPairs (g .sound) in
-        let n : length (take 1026 (drop 9240 w)) ≡ 1026 = (unfold windowsOf in l) in
+        let n : length (take 1026 (drop 9240 w)) ≡ 1026 = pairs-long (g .sound) in
         (omega (arith, z .room .ingredients, z .room .ingredientPairs), omega (arith, z .room .ingredients, z .room .ingredientPairs))
 
     none-left : referrersFrom (windowsOf w₀ .ingredientPairs) d from (h₀ .counts .«ingredient_pairs» - from) ≡ [] → ReferrersChecked us sheet line a d w₀ h₀ w h
@@ -207,7 +229,7 @@ module _ {us : List NamedUnit} {sheet line : List ℕ} {a : OptQuantity} {d : �
               is =
                   λ new n w₂ h₂ r.
                   g .is new n w₂ h₂
-                  (said (ap (unitsAgainst us new (tableOf ingredient (stateIn sheet w₀ h₀))) (found .2) ∙ (unfold unitsAgainst in refl))
+                  (said (ap (unitsAgainst us new (tableOf ingredient (stateIn sheet w₀ h₀))) (found .2) ∙ units-more us new (tableOf ingredient (stateIn sheet w₀ h₀)) i _)
                   (reported-seq (said (ap (λ (t : List Entry). unitAgainst us new (entryAt i t)) (sym (g .table))) (c .is new n)) r));
             }
 
@@ -233,12 +255,16 @@ module _ {us : List NamedUnit} {sheet line : List ℕ} {a : OptQuantity} {d : �
   quantity-of : (new : Entry) → new .source .quantity ≡ optQuantityIn line a → new .quantity ≡ onSome (amountOf true) (optQuantityIn line a) → QuantityOf new ingredient line a
   quantity-of new p q = record { isSource = p; isAmount = unfold isIngredient in q }
 
+  alone : (new : Entry) → unitAgainst us new (entryAt d (tableOf ingredient (stateIn sheet w₀ h₀))) ++ unitsAgainst us new (tableOf ingredient (stateIn sheet w₀ h₀)) [] ≡ unitAgainst us new (entryAt d (tableOf ingredient (stateIn sheet w₀ h₀)))
+  unfolding unitsAgainst
+  alone new = append-nil (unitAgainst us new (entryAt d (tableOf ingredient (stateIn sheet w₀ h₀))))
+
   pub check-reference : (x : Target) → r .relation .relation ≡ Reference x → UnitChecked us sheet line a d w₀ h₀ w₁ h₁
   check-reference x o =
       record {
         is =
             λ new p q.
-            said (split new [] (ap referrers relation-is ∙ rw o (referrers-none ingredient x _ _ _)) ∙ (unfold unitsAgainst in append-nil (unitAgainst us new (entryAt d (tableOf ingredient (stateIn sheet w₀ h₀))))))
+            said (split new [] (ap referrers relation-is ∙ rw o (referrers-none ingredient x _ _ _)) ∙ alone new)
             (c .is new (quantity-of new p q));
       }
 

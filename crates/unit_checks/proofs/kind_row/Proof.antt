@@ -21,11 +21,11 @@ part-row-at-end c = search needs
 
 -- src/lib.rt:35:9
 row-at-requires : tie.Need-row-at-requires
-row-at-requires c κs = ingredient-room _ _ (c .before .before .before .args .i) (c .before .if1 .taken) (c .before .before .before .pre .0) (c .before .before .before .pre .1)
+row-at-requires c κs = ingredient-room (c .before .before .before .args .words .now) _ (c .before .before .before .args .i) (c .before .if1 .taken) (c .before .before .before .pre .0) (c .before .before .before .pre .1)
 
 -- src/lib.rt:35:9
 returns : tie.Need-returns
-returns c = ingredient-row _ _ _ (c .before .before .if1 .taken) (c .row-at .ensures)
+returns c = ingredient-row (c .before .before .before .before .args .words .now) _ (c .before .before .before .before .args .i) (c .before .before .if1 .taken) (c .row-at .ensures)
 
 -- src/lib.rt:37:19
 sub-row-at-2 : tie.Need-sub-row-at-2
@@ -41,11 +41,11 @@ part-row-at-end-2 c = search needs
 
 -- src/lib.rt:37:5
 row-at-requires-2 : tie.Need-row-at-requires-2
-row-at-requires-2 c κs = cookware-room _ _ (c .before .before .before .args .i) (c .before .if1 .left) (c .before .before .before .pre .0) (c .before .before .before .pre .1)
+row-at-requires-2 c κs = cookware-room (c .before .before .before .args .words .now) _ (c .before .before .before .args .i) (c .before .if1 .left) (c .before .before .before .pre .0) (c .before .before .before .pre .1)
 
 -- src/lib.rt:30:1
 returns-2 : tie.Need-returns-2
-returns-2 c = cookware-row _ _ _ (c .before .before .if1 .left) (c .row-at2 .ensures)
+returns-2 c = cookware-row (c .before .before .before .before .args .words .now) _ (c .before .before .before .before .args .i) (c .before .before .if1 .left) (c .row-at2 .ensures)
 
 pub kind-row-spec : {M : Type 1} → statement M
 kind-row-spec =
