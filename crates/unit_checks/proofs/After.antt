@@ -45,7 +45,7 @@ use Rattle.unit_checks.proofs.Units.{sample, sample-of, against-few, re
 -- ---- notes and quantities
 
 module _ (k : Kind) (d : ℕ) {sheet w₀ : List ℕ} {h₀ : Held} {r : Row} {o : ComponentView} (f : AllFit sheet w₀ h₀) (l : d < countOf k h₀) (e : r ≡ rowOf (rowAt 12 (rowsIn k w₀) d))
-  (q : Recalled (take (r .«line_end» - r .«line_at») (drop (r .«line_at») sheet)) o) where
+    (q : Recalled (take (r .«line_end» - r .«line_at») (drop (r .«line_at») sheet)) o) where
   abbrev by : List ℕ
   by = referrersIn (pairsIn k w₀) d (pairsOf k h₀)
 

@@ -71,7 +71,7 @@ pub row-none : {us : List NamedUnit} {sheet line : List ℕ} {a : OptQuantity} {
 row-none {us} {sheet} {i = i} {w = w} {h = h} l = record { is = λ new q. none-found (ap (unitAgainst us new) (entry-past ingredient sheet w h i l) ∙ (unfold unitAgainst in refl)) }
 
 module _ (i : ℕ) {sheet w₀ : List ℕ} {h₀ : Held} {r : Row} {v : ComponentView} (f : AllFit sheet w₀ h₀) (l : i < h₀ .counts .ingredients) (e : r ≡ rowOf (rowAt 12 (take 6156 (drop 0 w₀)) i))
-  (q : Recalled (take (r .«line_end» - r .«line_at») (drop (r .«line_at») sheet)) v) where
+    (q : Recalled (take (r .«line_end» - r .«line_at») (drop (r .«line_at») sheet)) v) where
   abbrev by : List ℕ
   by = referrersIn (pairsIn ingredient w₀) i (h₀ .counts .«ingredient_pairs»)
 
@@ -242,7 +242,7 @@ referrers-none k Step inStep index by = refl
 referrers-none k Section inStep index by = refl
 
 module _ {us : List NamedUnit} {sheet line : List ℕ} {a : OptQuantity} {d : ℕ} {w₀ w₁ : List ℕ} {h₀ h₁ : Held} {r : Row} (e : r ≡ rowOf (rowAt 12 (take 6156 (drop 0 w₀)) d))
-  (c : RowChecked us sheet line a d w₀ h₀ w₁ h₁) where
+    (c : RowChecked us sheet line a d w₀ h₀ w₁ h₁) where
   relation-is : earlierAt ingredient sheet w₀ h₀ d .entry .relation
       ≡ relationAs ingredient (r .relation .relation) (r .relation .«in_step») (r .relation .index) (referrersIn (windowsOf w₀ .ingredientPairs) d (h₀ .counts .«ingredient_pairs»))
   relation-is = ap (λ (x : Entry). x .relation) (earlier-row ingredient sheet w₀ h₀ d (row-window w₀ d e)) ∙ entry-relation ingredient sheet r _ ∙ (unfold relationIn in refl)

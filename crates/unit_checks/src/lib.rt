@@ -94,9 +94,12 @@ fn referrer_check(
     let mut k = h;
     let mut from = 0;
     while from < n {
-        let model::Next::Referrer(i, next) =
-            model::next_referrer(&words[9240..10266], n, definition, from)
-        else {
+        let model::Next::Referrer(i, next) = model::next_referrer(
+            &words[9240..10266],
+            n,
+            definition,
+            from,
+        ) else {
             return k;
         };
         k = unit_against(t, units, words, k, sheet, line, a, i as usize);

@@ -1,7 +1,7 @@
 use borrow.Author.Needs.{needs}
 use native.Mathlib.Omega.{arith}
 use Rattle.lookup.specs.Names.{kindOf}
-use Rattle.unit_checks.proofs.Rows.{row-fits, row-room}
+use Rattle.unit_checks.proofs.Rows.{row-fits, row-room, line-reads, line-whole}
 use Rattle.unit_checks.proofs.After.{entry-checked, note-within}
 use Rattle.unit_checks.proofs.entry_check.Statement.{statement}
 use Rattle.unit_checks.proofs.entry_check.Tie as tie
@@ -42,7 +42,7 @@ part-component-in-end c = let f = row-fits (c .before .before .before .before .b
 
 -- src/lib.rt:178:9
 component-in-requires : tie.Need-component-in-requires
-component-in-requires c κs = search needs
+component-in-requires c κs = let f = row-fits (c .before .before .before .before .before .before .before .before .before .before .pre .2) (kindOf (c .before .before .before .before .before .before .before .before .before .before .args .is-ingredient)) (c .before .before .before .before .before .before .before .before .before .before .args .d) (c .before .before .before .before .before .before .before .before .before .before .pre .3) (c .before .before .before .before .before .kind-row .ensures) in let reads = line-reads (kindOf (c .before .before .before .before .before .before .before .before .before .before .args .is-ingredient)) f in let whole = line-whole (kindOf (c .before .before .before .before .before .before .before .before .before .before .args .is-ingredient)) f in search needs
 
 -- src/lib.rt:184:5
 reference-checks-requires : tie.Need-reference-checks-requires

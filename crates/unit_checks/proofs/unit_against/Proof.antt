@@ -1,5 +1,7 @@
 use borrow.Author.Needs.{needs}
 use native.Mathlib.Omega.{arith}
+use Rattle.rules.specs.Model.{ingredient}
+use Rattle.unit_checks.proofs.Rows.{line-reads, line-whole}
 use Rattle.unit_checks.proofs.Units.{window-fits, row-none, row-within, row-checked}
 use Rattle.unit_checks.proofs.unit_against.Statement.{statement}
 use Rattle.unit_checks.proofs.unit_against.Tie as tie
@@ -51,7 +53,7 @@ part-component-in-end c = let f = window-fits _ (c .before .before .before .befo
 
 -- src/lib.rt:73:9
 component-in-requires : tie.Need-component-in-requires
-component-in-requires c κs = search needs
+component-in-requires c κs = let f = window-fits _ (c .before .before .before .before .before .before .before .before .before .before .before .before .args .i) (c .before .before .before .before .before .before .before .before .before .before .before .before .pre .4) (c .before .before .before .before .before .before .if1 .left) (c .before .before .before .row-at .ensures) in let reads = line-reads ingredient f in let whole = line-whole ingredient f in search needs
 
 -- src/lib.rt:75:52
 sub-unit-pair : tie.Need-sub-unit-pair
