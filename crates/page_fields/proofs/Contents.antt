@@ -48,7 +48,8 @@ module _ (line : List ℕ) (p : Part) (h : Field (partOf line p)) where
 
 -- ---- optional texts
 
-field-some : (s : List ℕ) → tabbed (optional (some s) ∷ []) ≡ (tab ∷ 61 ∷ []) ++ spell s
+-- a string after its `=`
+pub field-some : (s : List ℕ) → tabbed (optional (some s) ∷ []) ≡ (tab ∷ 61 ∷ []) ++ spell s
 unfolding optional escape escapeChar
 field-some s = tabbed-one (61 ∷ encode s)
 
