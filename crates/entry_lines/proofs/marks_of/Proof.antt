@@ -1,0 +1,13 @@
+use borrow.Author.Needs.{needs}
+use native.Mathlib.Omega.{arith}
+use Rattle.entry_lines.proofs.marks_of.Statement.{statement}
+use Rattle.entry_lines.proofs.marks_of.Tie as tie
+use Rattle.entry_lines.proofs.marks_of.Reads as reads
+use Rattle.entry_lines.proofs.marks_of.Lts as lts
+
+-- src/lib.rt:257:1
+returns : tie.Need-returns
+returns c = search needs
+
+pub marks-of-spec : {M : Type 1} → statement M
+marks-of-spec = tie.close (tie.spec returns)

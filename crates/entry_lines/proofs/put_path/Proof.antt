@@ -1,0 +1,36 @@
+use borrow.Author.Needs.{needs}
+use native.Mathlib.Omega.{arith}
+use Rattle.entry_lines.proofs.put_path.Statement.{statement}
+use Rattle.entry_lines.proofs.put_path.Tie as tie
+use Rattle.entry_lines.proofs.put_path.Reads as reads
+use Rattle.entry_lines.proofs.put_path.Lts as lts
+use Rattle.entry_lines.proofs.put_ingredient_path.Reads as put-ingredient-path-reads
+
+-- src/lib.rt:205:9
+put-ingredient-path-requires : tie.Need-put-ingredient-path-requires
+put-ingredient-path-requires c κs = search needs
+
+-- src/lib.rt:205:9
+same-length : tie.Need-same-length
+same-length c = search needs
+
+-- src/lib.rt:205:9
+returns : tie.Need-returns
+returns c = search needs
+
+-- src/lib.rt:207:38
+add-result : tie.Need-add-result
+add-result c = search needs
+
+-- src/lib.rt:200:1
+returns-2 : tie.Need-returns-2
+returns-2 c = search needs
+
+-- src/lib.rt:200:1
+returns-3 : tie.Need-returns-3
+returns-3 c = search needs
+
+pub put-path-spec : {M : Type 1} → statement M
+put-path-spec =
+    tie.close
+    (tie.spec put-ingredient-path-requires same-length returns add-result returns-2 returns-3)
