@@ -51,6 +51,12 @@ unfolding referenceIn nameOf pathOf onSome
 placed-cookware w e =
     rw e record { order = omega arith; most = omega arith; nameField = λ h. h; name = refl; pathField = λ h. field-none; path = refl }
 
+pub placed-own : {b : Bool} {w : List ℕ} {p : NamePlace} → b ≡ true → Placed (kindOf b) w p → Placed ingredient w p
+placed-own e z = rw e at z
+
+pub path-most : {k : Kind} {w : List ℕ} {p : NamePlace} → Placed k w p → p .end ≤ length w
+path-most z = omega (arith, z .order, z .most)
+
 -- ---- the fields
 
 module _ {k : Kind} {w : List ℕ} {p : NamePlace} (h : Field w) (z : Placed k w p) {o₀ o₁ o : List ℕ} {at n r : ℕ} where

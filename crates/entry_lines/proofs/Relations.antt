@@ -105,6 +105,13 @@ pub turn-none : {pairs : List ℕ} {m d i : ℕ} {x : Next} → NextReferrer pai
 unfolding commaEach
 turn-none {pairs} {m} {d} {i} q e = let z : NextAs pairs m d i NoMore = (let y = q .is in rw e at y) in rw z
 
+pub next-later : {pairs : List ℕ} {m d i : ℕ} {x : Next} {n next : ℕ} → NextReferrer pairs m d i x → x ≡ Referrer n next → m - next < m - i
+next-later {pairs} {m} {d} {i} {x} {n} {next} q e =
+    let z : NextAs pairs m d i (Referrer n next) = (let y = q .is in rw e at y) in
+    let a : i < next = z .0 in
+    let b : next ≤ m = z .1 in
+    omega arith
+
 -- ---- the referrers of a definition
 
 oldest : (pairs : List ℕ) (d m : ℕ) → reverse (referrersIn pairs d m) ≡ referrersFrom pairs d 0 (m - 0)

@@ -79,7 +79,7 @@ module _ {k : Kind} {sheet rows pairs : List ℕ} {m i : ℕ} (z : RowReady k sh
   put-entry-line x ex p₁ p₂ p₃ p₄ p₅ =
       let by : List ℕ = referrersIn pairs i m in
       let s = own-same k sheet row by x ex line-part in
-      rw (← e, line-fields k i (entryAs k sheet row by), relation-same k sheet row by, ← s)
+      rw (← e, line-fields k i (entryAs k sheet row by), ← s, relation-same k sheet row by)
       (put-line (kindWord k) _ (rw (escape-word k) p₁) (put-fields _ _ (put-fields (decimal i ∷ []) _ p₂ p₃) p₄) p₅)
 
 -- ---- the loop

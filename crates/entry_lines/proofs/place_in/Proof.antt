@@ -1,5 +1,6 @@
 use borrow.Author.Needs.{needs}
 use native.Mathlib.Omega.{arith}
+use Rattle.entry_lines.proofs.Names.{placed-ingredient, placed-cookware}
 use Rattle.entry_lines.proofs.place_in.Statement.{statement}
 use Rattle.entry_lines.proofs.place_in.Tie as tie
 use Rattle.entry_lines.proofs.place_in.Reads as reads
@@ -12,11 +13,11 @@ name-place-requires c κs = search needs
 
 -- src/lib.rt:171:9
 returns : tie.Need-returns
-returns c = search needs
+returns c = placed-ingredient (c .before .if1 .taken) (c .name-place .ensures)
 
 -- src/lib.rt:167:1
 returns-2 : tie.Need-returns-2
-returns-2 c = search needs
+returns-2 c = placed-cookware _ (c .if1 .left)
 
 pub place-in-spec : {M : Type 1} → statement M
 place-in-spec = tie.close (tie.spec name-place-requires returns returns-2)

@@ -1,5 +1,9 @@
 use borrow.Author.Needs.{needs}
 use native.Mathlib.Omega.{arith}
+use mathlib.Core.Path.{sym}
+use lib.Seq.{length-take-le}
+use Rattle.entry_lines.proofs.Names.{path-most}
+use Rattle.entry_lines.proofs.Names.{path-none, path-some}
 use Rattle.entry_lines.proofs.put_ingredient_path.Statement.{statement}
 use Rattle.entry_lines.proofs.put_ingredient_path.Tie as tie
 use Rattle.entry_lines.proofs.put_ingredient_path.Reads as reads
@@ -22,7 +26,7 @@ same-length c = search needs
 
 -- src/lib.rt:192:9
 returns : tie.Need-returns
-returns c = search needs
+returns c = path-none (c .before .before .before .before .before .before .before .before .pre .0) (c .before .before .before .before .before .before .before .before .pre .1) (c .before .before .before .before .before .if1 .taken) (c .before .before .put-field .ensures)
 
 -- src/lib.rt:194:40
 slice-aggregate-put-bytes : tie.Need-slice-aggregate-put-bytes
@@ -34,7 +38,7 @@ put-bytes-requires c κs = search needs
 
 -- src/lib.rt:196:28
 slice-aggregate-put-path : tie.Need-slice-aggregate-put-path
-slice-aggregate-put-path c = search needs
+slice-aggregate-put-path c = sym (length-take-le _ _ (path-most (c .before .before .before .before .before .before .before .before .before .before .pre .1)))
 
 -- src/lib.rt:196:5
 put-path-requires : tie.Need-put-path-requires
@@ -46,7 +50,7 @@ same-length-2 c = search needs
 
 -- src/lib.rt:186:1
 returns-2 : tie.Need-returns-2
-returns-2 c = search needs
+returns-2 c = path-some (c .before .before .before .before .before .before .before .before .before .before .before .before .before .pre .0) (c .before .before .before .before .before .before .before .before .before .before .before .before .before .pre .1) (c .before .before .before .before .before .before .before .before .before .before .if1 .left) (c .before .before .before .before .before .before .before .put-bytes .ensures) (c .before .before .put-path .ensures)
 
 pub put-ingredient-path-spec : {M : Type 1} → statement M
 put-ingredient-path-spec =

@@ -1,5 +1,10 @@
 use borrow.Author.Needs.{needs}
 use native.Mathlib.Omega.{arith}
+use Prim.Native.Nat.{_-_}
+use Rattle.model.specs.Rows.{referrersFrom}
+use Rattle.output.proofs.Puts.{Leads, starts, turn, step, ends-in, ends-out}
+use Rattle.entry_lines.specs.Lines.{commaEach}
+use Rattle.entry_lines.proofs.Relations.{turn-more, turn-none, next-later}
 use Rattle.entry_lines.proofs.put_more.Statement.{statement}
 use Rattle.entry_lines.proofs.put_more.Tie as tie
 use Rattle.entry_lines.proofs.put_more.Reads as reads
@@ -9,18 +14,18 @@ use Rattle.output.proofs.put_byte.Reads as put-byte-reads
 use Rattle.output.proofs.put_decimal.Reads as put-decimal-reads
 
 abbrev Inv-loop : tie.InvT-loop
-Inv-loop out₀ at pairs m d from n₀ i₀ out n i = ?
+Inv-loop out₀ at pairs m d from n₀ i₀ out n i = Leads (commaEach (referrersFrom pairs d from (m - from))) out₀ at (commaEach (referrersFrom pairs d i (m - i))) out n
 
 abbrev μ-loop : tie.MeasureT-loop
-μ-loop out₀ at pairs m d from n₀ i₀ out n i = ?
+μ-loop out₀ at pairs m d from n₀ i₀ out n i = m - i
 
 -- src/lib.rt:95:5
 loop-holds : tie.Need-loop-holds Inv-loop μ-loop
-loop-holds c = search needs
+loop-holds c = starts
 
 -- src/lib.rt:96:15
 next-referrer-requires : tie.Need-next-referrer-requires Inv-loop μ-loop
-next-referrer-requires c κs = search needs
+next-referrer-requires c κs = c .before .before .before .pre
 
 -- src/lib.rt:98:25
 enum-told : tie.Need-enum-told Inv-loop μ-loop
@@ -32,7 +37,7 @@ same-length c = search needs
 
 -- src/lib.rt:99:21
 returns : tie.Need-returns Inv-loop μ-loop
-returns c = search needs
+returns c = ends-in (turn (turn-none (c .before .before .before .next-referrer .ensures) (c .before .enum-told .given .1)) (c .before .before .before .before .loop .inv)) (c .if1 .taken)
 
 -- src/lib.rt:101:24
 add-result : tie.Need-add-result Inv-loop μ-loop
@@ -44,7 +49,7 @@ same-length-2 c = search needs
 
 -- src/lib.rt:101:17
 returns-2 : tie.Need-returns-2 Inv-loop μ-loop
-returns-2 c = search needs
+returns-2 c = ends-out (turn (turn-none (c .before .before .before .next-referrer .ensures) (c .before .enum-told .given .1)) (c .before .before .before .before .loop .inv)) (c .if1 .left)
 
 -- src/lib.rt:103:28
 enum-known-r : tie.Need-enum-known-r Inv-loop μ-loop
@@ -60,11 +65,11 @@ put-decimal-requires c κs = search needs
 
 -- src/lib.rt:95:5
 loop-less : tie.Need-loop-less Inv-loop μ-loop
-loop-less c = search needs
+loop-less c = next-later (c .before .before .before .before .before .before .before .before .before .before .before .next-referrer .ensures) (c .before .before .before .before .before .before .before .before .before .r .given .1)
 
 -- src/lib.rt:95:5
 loop-again : tie.Need-loop-again Inv-loop μ-loop
-loop-again c = search needs
+loop-again c = step _ (step _ (turn (turn-more (c .before .before .before .before .before .before .before .before .before .before .before .next-referrer .ensures) (c .before .before .before .before .before .before .before .before .before .r .given .1)) (c .before .before .before .before .before .before .before .before .before .before .before .before .loop .inv)) (c .before .before .before .before .before .before .put-byte .ensures)) (c .before .before .put-decimal .ensures)
 
 pub put-more-spec : {M : Type 1} → statement M
 put-more-spec =

@@ -1,5 +1,6 @@
 use borrow.Author.Needs.{needs}
 use native.Mathlib.Omega.{arith}
+use Rattle.entry_lines.proofs.Names as names
 use Rattle.entry_lines.proofs.put_name.Statement.{statement}
 use Rattle.entry_lines.proofs.put_name.Tie as tie
 use Rattle.entry_lines.proofs.put_name.Reads as reads
@@ -33,7 +34,7 @@ same-length c = search needs
 
 -- src/lib.rt:176:1
 returns : tie.Need-returns
-returns c = search needs
+returns c = names.put-name (c .before .before .before .before .before .before .before .before .before .before .before .pre .0) (c .before .before .before .before .before .before .before .before .before .before .before .pre .1) (c .before .before .before .before .before .before .before .put-byte .ensures) (c .before .before .put-kept .ensures)
 
 pub put-name-spec : {M : Type 1} → statement M
 put-name-spec =

@@ -1,5 +1,6 @@
 use borrow.Author.Needs.{needs}
 use native.Mathlib.Omega.{arith}
+use Rattle.entry_lines.proofs.Own as own
 use Rattle.entry_lines.proofs.put_own.Statement.{statement}
 use Rattle.entry_lines.proofs.put_own.Tie as tie
 use Rattle.entry_lines.proofs.put_own.Reads as reads
@@ -27,23 +28,23 @@ place-in-requires c κs = search needs
 
 -- src/lib.rt:232:9
 put-name-requires : tie.Need-put-name-requires
-put-name-requires c κs = search needs
+put-name-requires c κs = (own.name-field _ _ (c .before .before .before .before .before .before .before .before .pre .1 .name) (c .before .before .before .part-of .ensures) (c .before .before .text-outer-trimmed .ensures), c .before .place-in .ensures)
 
 -- src/lib.rt:233:9
 put-optional-requires : tie.Need-put-optional-requires
-put-optional-requires c κs = search needs
+put-optional-requires c κs = (c .before .before .before .before .before .before .before .before .before .before .before .before .pre .0, c .before .before .before .before .before .before .before .before .before .before .before .before .pre .1 .alias)
 
 -- src/lib.rt:234:9
 put-amount-requires : tie.Need-put-amount-requires
-put-amount-requires c κs = search needs
+put-amount-requires c κs = (c .before .before .before .before .before .before .before .before .before .before .before .before .before .before .before .before .pre .0, c .before .before .before .before .before .before .before .before .before .before .before .before .before .before .before .before .pre .1 .quantity)
 
 -- src/lib.rt:235:9
 put-optional-requires-2 : tie.Need-put-optional-requires-2
-put-optional-requires-2 c κs = search needs
+put-optional-requires-2 c κs = (c .before .before .before .before .before .before .before .before .before .before .before .before .before .before .before .before .before .before .before .before .pre .0, c .before .before .before .before .before .before .before .before .before .before .before .before .before .before .before .before .before .before .before .before .pre .1 .note)
 
 -- src/lib.rt:236:9
 put-path-requires : tie.Need-put-path-requires
-put-path-requires c κs = search needs
+put-path-requires c κs = (own.name-field _ _ (c .before .before .before .before .before .before .before .before .before .before .before .before .before .before .before .before .before .before .before .before .before .before .before .before .pre .1 .name) (c .before .before .before .before .before .before .before .before .before .before .before .before .before .before .before .before .before .before .before .part-of .ensures) (c .before .before .before .before .before .before .before .before .before .before .before .before .before .before .before .before .before .before .text-outer-trimmed .ensures), c .before .before .before .before .before .before .before .before .before .before .before .before .before .before .before .before .before .place-in .ensures)
 
 -- src/lib.rt:237:5
 put-modifiers-requires : tie.Need-put-modifiers-requires
@@ -55,7 +56,7 @@ same-length c = search needs
 
 -- src/lib.rt:213:1
 returns : tie.Need-returns
-returns c = search needs
+returns c = own.put-own _ _ _ _ (c .before .before .before .before .before .before .before .before .before .before .before .before .before .before .before .before .before .before .before .before .before .before .before .before .before .before .before .before .before .before .before .pre .1) (c .before .before .before .before .before .before .before .before .before .before .before .before .before .before .before .before .before .before .before .before .before .before .before .before .before .before .part-of .ensures) (c .before .before .before .before .before .before .before .before .before .before .before .before .before .before .before .before .before .before .before .before .before .before .before .before .before .text-outer-trimmed .ensures) (c .before .before .before .before .before .before .before .before .before .before .before .before .before .before .before .before .before .before .before .before .before .before .put-name .ensures) (c .before .before .before .before .before .before .before .before .before .before .before .before .before .before .before .before .before .before .put-optional .ensures) (c .before .before .before .before .before .before .before .before .before .before .before .before .before .before .put-amount .ensures) (c .before .before .before .before .before .before .before .before .before .before .put-optional2 .ensures) (c .before .before .before .before .before .before .put-path .ensures) (c .before .before .put-modifiers .ensures)
 
 pub put-own-spec : {M : Type 1} → statement M
 put-own-spec =

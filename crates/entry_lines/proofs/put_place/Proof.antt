@@ -1,5 +1,6 @@
 use borrow.Author.Needs.{needs}
 use native.Mathlib.Omega.{arith}
+use Rattle.entry_lines.proofs.Relations.{place-step, place-list}
 use Rattle.entry_lines.proofs.put_place.Statement.{statement}
 use Rattle.entry_lines.proofs.put_place.Tie as tie
 use Rattle.entry_lines.proofs.put_place.Reads as reads
@@ -20,7 +21,7 @@ same-length c = search needs
 
 -- src/lib.rt:76:9
 returns : tie.Need-returns
-returns c = search needs
+returns c = place-step (c .before .before .before .before .before .if1 .taken) (c .before .before .put-field .ensures)
 
 -- src/lib.rt:78:32
 slice-aggregate-put-field-2 : tie.Need-slice-aggregate-put-field-2
@@ -36,7 +37,7 @@ same-length-2 c = search needs
 
 -- src/lib.rt:72:1
 returns-2 : tie.Need-returns-2
-returns-2 c = search needs
+returns-2 c = place-list (c .before .before .before .before .before .if1 .left) (c .before .before .put-field2 .ensures)
 
 pub put-place-spec : {M : Type 1} → statement M
 put-place-spec =

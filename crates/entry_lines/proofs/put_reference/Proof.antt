@@ -1,5 +1,6 @@
 use borrow.Author.Needs.{needs}
 use native.Mathlib.Omega.{arith}
+use Rattle.entry_lines.proofs.Relations as laws
 use Rattle.entry_lines.proofs.put_reference.Statement.{statement}
 use Rattle.entry_lines.proofs.put_reference.Tie as tie
 use Rattle.entry_lines.proofs.put_reference.Reads as reads
@@ -30,7 +31,7 @@ same-length c = search needs
 
 -- src/lib.rt:63:1
 returns : tie.Need-returns
-returns c = search needs
+returns c = laws.put-reference _ _ _ (c .before .before .before .before .before .before .before .before .before .before .put-field .ensures) (c .before .before .before .before .before .before .put-target .ensures) (c .before .before .put-number .ensures)
 
 pub put-reference-spec : {M : Type 1} → statement M
 put-reference-spec =

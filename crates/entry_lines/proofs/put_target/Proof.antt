@@ -1,5 +1,6 @@
 use borrow.Author.Needs.{needs}
 use native.Mathlib.Omega.{arith}
+use Rattle.entry_lines.proofs.Relations.{target-own, target-step, target-section}
 use Rattle.entry_lines.proofs.put_target.Statement.{statement}
 use Rattle.entry_lines.proofs.put_target.Tie as tie
 use Rattle.entry_lines.proofs.put_target.Reads as reads
@@ -50,7 +51,7 @@ same-length c = search needs
 
 -- src/lib.rt:49:1
 returns : tie.Need-returns
-returns c = search needs
+returns c = target-own _ (c .before .before .before .before .before .before .before .before .enum-told .given .1) (c .before .before .before .before .before .before .put-byte .ensures) (c .before .before .put-word .ensures)
 
 -- src/lib.rt:49:1
 same-length-2 : tie.Need-same-length-2
@@ -58,7 +59,7 @@ same-length-2 c = search needs
 
 -- src/lib.rt:49:1
 returns-2 : tie.Need-returns-2
-returns-2 c = search needs
+returns-2 c = target-step _ (c .before .before .before .before .before .enum-told2 .given .1) (c .before .before .put-field .ensures)
 
 -- src/lib.rt:49:1
 same-length-3 : tie.Need-same-length-3
@@ -66,7 +67,7 @@ same-length-3 c = search needs
 
 -- src/lib.rt:49:1
 returns-3 : tie.Need-returns-3
-returns-3 c = search needs
+returns-3 c = target-section _ (c .before .before .before .before .before .enum-told3 .given .1) (c .before .before .put-field2 .ensures)
 
 pub put-target-spec : {M : Type 1} → statement M
 put-target-spec =

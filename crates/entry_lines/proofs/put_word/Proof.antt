@@ -1,5 +1,6 @@
 use borrow.Author.Needs.{needs}
 use native.Mathlib.Omega.{arith}
+use Rattle.entry_lines.proofs.Relations.{word-ingredient, word-cookware}
 use Rattle.entry_lines.proofs.put_word.Statement.{statement}
 use Rattle.entry_lines.proofs.put_word.Tie as tie
 use Rattle.entry_lines.proofs.put_word.Reads as reads
@@ -20,7 +21,7 @@ same-length c = search needs
 
 -- src/lib.rt:44:9
 returns : tie.Need-returns
-returns c = search needs
+returns c = word-ingredient (c .before .before .before .before .before .if1 .taken) (c .before .before .put-bytes .ensures)
 
 -- src/lib.rt:46:32
 slice-aggregate-put-bytes-2 : tie.Need-slice-aggregate-put-bytes-2
@@ -36,7 +37,7 @@ same-length-2 c = search needs
 
 -- src/lib.rt:40:1
 returns-2 : tie.Need-returns-2
-returns-2 c = search needs
+returns-2 c = word-cookware (c .before .before .before .before .before .if1 .left) (c .before .before .put-bytes2 .ensures)
 
 pub put-word-spec : {M : Type 1} → statement M
 put-word-spec =
