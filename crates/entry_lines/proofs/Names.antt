@@ -66,7 +66,7 @@ module _ {k : Kind} {w : List ℕ} {p : NamePlace} (h : Field w) (z : Placed k w
   put-name x y =
       let q : take (length w - p .start) (drop (p .start) w) ≡ drop (p .start) w = take-all (length w - p .start) (drop (p .start) w) (omega (arith, length-drop (p .start) w)) in
       let s : retain 0 (take (length w - p .start) (drop (p .start) w)) ≡ spell (nameOf (keptIn w) (referenceIn k (keptIn w))) =
-          ap (retain 0) q ∙ kept-spelled (z .nameField h) ∙ ap spell (z .name) in
+      ap (retain 0) q ∙ kept-spelled (z .nameField h) ∙ ap spell (z .name) in
       rw (tabbed-one (encode (nameOf (keptIn w) (referenceIn k (keptIn w))))) (put-seq x (rw s at y))
 
 module _ {w : List ℕ} {p : NamePlace} (h : Field w) (z : Placed ingredient w p) {o₀ o : List ℕ} {at r : ℕ} where

@@ -130,7 +130,7 @@ module _ {pairs : List ℕ} {m d : ℕ} {x : Next} (q : NextReferrer pairs m d 0
       let z : NextAs pairs m d 0 (Referrer f next) = (let w = q .is in rw e at w) in
       let rest : List ℕ = commaEach (referrersFrom pairs d next (m - next)) in
       let k : orMinus (joinBy comma (each decimal (reverse (referrersIn pairs d m)))) ≡ decimal f ++ rest =
-          ap (λ (i : List ℕ). orMinus (joinBy comma (each decimal i))) (oldest pairs d m ∙ z .2) ∙ ap orMinus (comma-each f (referrersFrom pairs d next (m - next))) ∙ some-decimal f rest in
+      ap (λ (i : List ℕ). orMinus (joinBy comma (each decimal i))) (oldest pairs d m ∙ z .2) ∙ ap orMinus (comma-each f (referrersFrom pairs d next (m - next))) ∙ some-decimal f rest in
       rw (k, tabbed-one (decimal f ++ rest), escape-both (decimal f) rest (escape-decimal f) (escape-each (referrersFrom pairs d next (m - next)))) (put-seq p (put-seq y s))
 
 -- ---- relations

@@ -79,14 +79,7 @@ fn put_place(out: &mut [u8], at: usize, in_step: bool) -> usize
 }
 
 // The referrers of a definition from a pair on, oldest first, each after a comma.
-fn put_more(
-    out: &mut [u8],
-    at: usize,
-    pairs: &[u32],
-    m: usize,
-    d: u32,
-    from: usize,
-) -> usize
+fn put_more(out: &mut [u8], at: usize, pairs: &[u32], m: usize, d: u32, from: usize) -> usize
     requires { ⌜ (m ≤ 513) × (m * 2 ≤ length (now pairs)) ⌝ }
     ensures { λ r. ⌜ Put (commaEach (referrersFrom (now (pairs .entry)) d from (m - from))) (now (out .entry)) at (now (out .exit)) r ⌝ }
 {
@@ -355,7 +348,17 @@ pub fn ingredient_lines(
 {
     let n = h.counts.ingredients;
     let m = h.counts.ingredient_pairs;
-    put_entries(t, sheet, &words[0..6156], n, &words[9240..10266], m, true, out, at)
+    put_entries(
+        t,
+        sheet,
+        &words[0..6156],
+        n,
+        &words[9240..10266],
+        m,
+        true,
+        out,
+        at,
+    )
 }
 
 pub fn cookware_lines(
@@ -371,5 +374,15 @@ pub fn cookware_lines(
 {
     let n = h.counts.cookware;
     let m = h.counts.cookware_pairs;
-    put_entries(t, sheet, &words[6156..9240], n, &words[10266..10780], m, false, out, at)
+    put_entries(
+        t,
+        sheet,
+        &words[6156..9240],
+        n,
+        &words[10266..10780],
+        m,
+        false,
+        out,
+        at,
+    )
 }

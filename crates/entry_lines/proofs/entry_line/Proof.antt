@@ -1,5 +1,6 @@
 use borrow.Author.Needs.{needs}
 use native.Mathlib.Omega.{arith}
+use Rattle.entry_lines.proofs.Rows.{line-order, line-most, line-kind, line-without, put-entry-line}
 use Rattle.entry_lines.proofs.entry_line.Statement.{statement}
 use Rattle.entry_lines.proofs.entry_line.Tie as tie
 use Rattle.entry_lines.proofs.entry_line.Reads as reads
@@ -42,23 +43,23 @@ put-number-requires c κs = search needs
 
 -- src/lib.rt:292:39
 sub-put-component : tie.Need-sub-put-component
-sub-put-component c = search needs
+sub-put-component c = let x = line-order (c .before .before .before .before .before .before .before .before .before .before .before .before .before .before .before .before .before .before .before .pre .1) (c .before .before .before .before .before .before .before .before .before .before .before .before .before .row-at .ensures) in search needs
 
 -- src/lib.rt:292:39
 part-put-component-start : tie.Need-part-put-component-start
-part-put-component-start c = search needs
+part-put-component-start c = let x = line-order (c .before .before .before .before .before .before .before .before .before .before .before .before .before .before .before .before .before .before .before .pre .1) (c .before .before .before .before .before .before .before .before .before .before .before .before .before .row-at .ensures) in search needs
 
 -- src/lib.rt:292:39
 part-put-component-end : tie.Need-part-put-component-end
-part-put-component-end c = search needs
+part-put-component-end c = let x = line-most (c .before .before .before .before .before .before .before .before .before .before .before .before .before .before .before .before .before .before .before .pre .1) (c .before .before .before .before .before .before .before .before .before .before .before .before .before .row-at .ensures) in search needs
 
 -- src/lib.rt:292:9
 put-component-requires : tie.Need-put-component-requires
-put-component-requires c κs = search needs
+put-component-requires c κs = (c .before .before .before .before .before .before .before .before .before .before .before .before .before .before .before .before .before .before .before .before .pre .0, line-kind (c .before .before .before .before .before .before .before .before .before .before .before .before .before .before .before .before .before .before .before .before .pre .1) (c .before .before .before .before .before .before .before .before .before .before .before .before .before .before .row-at .ensures), line-without (c .before .before .before .before .before .before .before .before .before .before .before .before .before .before .before .before .before .before .before .before .pre .1) (c .before .before .before .before .before .before .before .before .before .before .before .before .before .before .row-at .ensures))
 
 -- src/lib.rt:293:9
 put-relation-requires : tie.Need-put-relation-requires
-put-relation-requires c κs = search needs
+put-relation-requires c κs = (c .before .before .before .before .before .before .before .before .before .before .before .before .before .before .before .before .before .before .before .before .before .before .before .before .pre .1 .fewPairs, c .before .before .before .before .before .before .before .before .before .before .before .before .before .before .before .before .before .before .before .before .before .before .before .before .pre .1 .roomPairs)
 
 -- src/lib.rt:294:5
 put-byte-requires : tie.Need-put-byte-requires
@@ -70,7 +71,7 @@ same-length c = search needs
 
 -- src/lib.rt:271:1
 returns : tie.Need-returns
-returns c = search needs
+returns c = put-entry-line (c .before .before .before .before .before .before .before .before .before .before .before .before .before .before .before .before .before .before .before .before .before .before .before .before .before .before .before .before .before .before .before .pre .1) (c .before .before .before .before .before .before .before .before .before .before .before .before .before .before .before .before .before .before .before .before .before .before .before .before .before .row-at .ensures) _ (c .before .before .before .before .before .before .before .before .before .before .before .before .before .before .before .before .before .before .before .before .before .marks-of .ensures) (c .before .before .before .before .before .before .before .before .before .before .before .before .before .before .before .before .before .before .before .put-word .ensures) (c .before .before .before .before .before .before .before .before .before .before .before .before .before .before .before .put-number .ensures) (c .before .before .before .before .before .before .before .before .before .before .put-component .ensures) (c .before .before .before .before .before .before .put-relation .ensures) (c .before .before .put-byte .ensures)
 
 pub entry-line-spec : {M : Type 1} → statement M
 entry-line-spec =

@@ -1,5 +1,6 @@
 use borrow.Author.Needs.{needs}
 use native.Mathlib.Omega.{arith}
+use Rattle.entry_lines.proofs.Relations as laws
 use Rattle.entry_lines.proofs.put_definition.Statement.{statement}
 use Rattle.entry_lines.proofs.put_definition.Tie as tie
 use Rattle.entry_lines.proofs.put_definition.Reads as reads
@@ -30,7 +31,7 @@ same-length c = search needs
 
 -- src/lib.rt:128:1
 returns : tie.Need-returns
-returns c = search needs
+returns c = laws.put-definition _ _ (c .before .before .before .before .before .before .before .before .before .before .put-field .ensures) (c .before .before .before .before .before .before .put-place .ensures) (c .before .before .put-referrers .ensures)
 
 pub put-definition-spec : {M : Type 1} → statement M
 put-definition-spec =

@@ -1,5 +1,8 @@
 use borrow.Author.Needs.{needs}
 use native.Mathlib.Omega.{arith}
+use Prim.Native.Nat.{_+_, _^_, _<_}
+use lib.ListN.{length}
+use Rattle.output.proofs.Puts.{put-past, put-rest, rest-fits}
 use Rattle.entry_lines.proofs.put_entry.Statement.{statement}
 use Rattle.entry_lines.proofs.put_entry.Tie as tie
 use Rattle.entry_lines.proofs.put_entry.Reads as reads
@@ -12,7 +15,7 @@ add-result c = search needs
 
 -- src/lib.rt:313:9
 returns : tie.Need-returns
-returns c = search needs
+returns c = put-past _ _ _ (c .if1 .taken)
 
 -- src/lib.rt:315:65
 sub-entry-line : tie.Need-sub-entry-line
@@ -32,7 +35,9 @@ entry-line-requires c κs = search needs
 
 -- src/lib.rt:315:5
 add-result-2 : tie.Need-add-result-2
-add-result-2 c = search needs
+add-result-2 c =
+    let b : length (c .before .before .before .before .before .before .before .before .before .before .args .out .now) + 1 < 2 ^ 64 = omega arith in
+    record { fits = rest-fits (c .before .before .before .before .before .before .before .before .before .before .args .out .now) _ b (c .before .before .before .before .if1 .left) (c .before .before .entry-line .ensures) }
 
 -- src/lib.rt:298:1
 same-length : tie.Need-same-length
@@ -40,7 +45,7 @@ same-length c = search needs
 
 -- src/lib.rt:298:1
 returns-2 : tie.Need-returns-2
-returns-2 c = search needs
+returns-2 c = put-rest _ _ (c .before .before .before .before .if1 .left) (c .before .before .entry-line .ensures)
 
 pub put-entry-spec : {M : Type 1} → statement M
 put-entry-spec =

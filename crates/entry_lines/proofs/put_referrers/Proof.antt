@@ -1,5 +1,6 @@
 use borrow.Author.Needs.{needs}
 use native.Mathlib.Omega.{arith}
+use Rattle.entry_lines.proofs.Relations.{referrers-none, referrers-some}
 use Rattle.entry_lines.proofs.put_referrers.Statement.{statement}
 use Rattle.entry_lines.proofs.put_referrers.Tie as tie
 use Rattle.entry_lines.proofs.put_referrers.Reads as reads
@@ -43,7 +44,7 @@ same-length c = search needs
 
 -- src/lib.rt:113:1
 returns : tie.Need-returns
-returns c = search needs
+returns c = referrers-none (c .before .before .before .before .before .before .next-referrer .ensures) (c .before .before .before .before .before .before .before .before .before .put-byte .ensures) (c .before .before .before .before .enum-told .given .1) (c .before .before .put-byte2 .ensures)
 
 -- src/lib.rt:113:1
 same-length-2 : tie.Need-same-length-2
@@ -51,7 +52,7 @@ same-length-2 c = search needs
 
 -- src/lib.rt:113:1
 returns-2 : tie.Need-returns-2
-returns-2 c = search needs
+returns-2 c = referrers-some (c .before .before .before .before .before .before .before .before .before .before .before .next-referrer .ensures) (c .before .before .before .before .before .before .before .before .before .before .before .before .before .before .put-byte .ensures) (c .before .before .before .before .before .before .before .before .before .r .given .1) (c .before .before .before .before .before .before .put-decimal .ensures) (c .before .before .put-more .ensures)
 
 pub put-referrers-spec : {M : Type 1} → statement M
 put-referrers-spec =

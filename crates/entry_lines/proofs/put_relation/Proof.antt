@@ -1,5 +1,6 @@
 use borrow.Author.Needs.{needs}
 use native.Mathlib.Omega.{arith}
+use Rattle.entry_lines.proofs.Relations.{relation-definition, relation-reference}
 use Rattle.entry_lines.proofs.put_relation.Statement.{statement}
 use Rattle.entry_lines.proofs.put_relation.Tie as tie
 use Rattle.entry_lines.proofs.put_relation.Reads as reads
@@ -29,7 +30,7 @@ same-length c = search needs
 
 -- src/lib.rt:145:1
 returns : tie.Need-returns
-returns c = search needs
+returns c = relation-definition _ _ _ (c .before .before .before .before .enum-told .given .1) (c .before .before .put-definition .ensures)
 
 -- src/lib.rt:145:1
 same-length-2 : tie.Need-same-length-2
@@ -37,7 +38,7 @@ same-length-2 c = search needs
 
 -- src/lib.rt:145:1
 returns-2 : tie.Need-returns-2
-returns-2 c = search needs
+returns-2 c = relation-reference _ _ _ (c .before .before .before .before .before .relation .given .1) (c .before .before .put-reference .ensures)
 
 pub put-relation-spec : {M : Type 1} → statement M
 put-relation-spec =
