@@ -1,19 +1,16 @@
 -- The name of an entry and its path, from the trimmed name of its line.
 use Prim.Native.Nat.{ℕ, _+_, _-_, _≤_, _<_}
-use mathlib.Core.Path.{_≡_, refl, ap, sym, _∙_}
+use mathlib.Core.Path.{_≡_, refl, ap, _∙_}
 use mathlib.Core.Bool.{Bool, true, false}
-use mathlib.Core.Option.{Option, none, some}
-use mathlib.Core.List.{List, [], _∷_, _++_}
+use mathlib.Core.List.{List, [], _∷_}
 use native.Mathlib.Omega.{arith}
 use borrow.Author.Tests.{eq-eqb, ne-eqb}
-use lib.Dec.{eqb}
 use lib.ListN.{length, take, drop, length-drop}
 use lib.Seq.{take-all}
-use Rattle.rules.specs.Basic.{pick, codes, tab, slash, joinBy, each, onSome}
-use Rattle.rules.specs.Sheet.{escapeChar, escape}
+use Rattle.rules.specs.Basic.{codes, tab, each, onSome}
 use Rattle.rules.specs.Utf8.{encode}
 use Rattle.rules.specs.Text.{retain}
-use Rattle.rules.specs.Model.{Kind, ingredient, cookware, asSlash, nameOf, pathOf, referenceIn}
+use Rattle.rules.specs.Model.{Kind, ingredient, asSlash, nameOf, pathOf, referenceIn}
 use Rattle.rules.specs.Page.{optional}
 use Rattle.output.specs.Put.{Put, tabbed}
 use Rattle.output.proofs.Puts.{put-seq, starts, ends-in, ends-out}

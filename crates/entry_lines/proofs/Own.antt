@@ -1,13 +1,11 @@
 -- The fields of an entry between its index and its relation.
 use Prim.Native.Nat.{ℕ}
-use mathlib.Core.Path.{_≡_, refl, ap, sym, _∙_}
+use mathlib.Core.Path.{_≡_, refl, _∙_}
 use mathlib.Core.Bool.{Bool, true, false}
 use mathlib.Core.Option.{Option, none, some}
-use mathlib.Core.List.{List, [], _∷_, _++_}
+use mathlib.Core.List.{List, [], _∷_}
 use Rattle.rules.specs.Basic.{onSome, isSome}
 use Rattle.rules.specs.Utf8.{encode}
-use Rattle.rules.specs.Text.{textTrimmed}
-use Rattle.rules.specs.Event as rules
 use Rattle.rules.specs.Event.{Event}
 use Rattle.rules.specs.Read.{parseLine}
 use Rattle.rules.specs.Write.{modifiersField}

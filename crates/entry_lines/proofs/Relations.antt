@@ -1,23 +1,21 @@
 -- The relation of an entry.
-use Prim.Native.Nat.{ℕ, _+_, _-_, _*_, _/_, _%_, _≤_, _<_}
-use mathlib.Core.Path.{_≡_, refl, ap, sym, _∙_}
+use Prim.Native.Nat.{ℕ, _+_, _-_, _/_, _%_, _≤_, _<_}
+use mathlib.Core.Path.{_≡_, refl, ap, _∙_}
 use mathlib.Core.Bool.{Bool, true, false}
-use mathlib.Core.List.{List, [], _∷_, _++_, append-nil, append-assoc, reverse}
+use mathlib.Core.List.{List, [], _∷_, _++_, append-nil, reverse}
 use native.Mathlib.Omega.{arith}
 use lib.Dec.{ltb}
-use lib.ListN.{length}
 use Rattle.rules.specs.Basic.{pick, codes, tab, comma, joinBy, each, digits, decimal}
 use Rattle.rules.specs.Sheet.{escapeChar, escape}
-use Rattle.rules.specs.Model.{Kind, ingredient, cookware, toStep, toSection, targetOf, definition, reference}
+use Rattle.rules.specs.Model.{Kind, ingredient, cookware, targetOf, definition, reference}
 use Rattle.rules.specs.Reference.{referrers}
 use Rattle.rules.specs.Page.{orMinus, targetWord, relationFields}
 use Rattle.rules.proofs.Numbers.{escape-decimal}
 use Rattle.output.specs.Put.{Put, tabbed}
-use Rattle.output.proofs.Puts.{put-seq, Leads, turn, step, ends-in, ends-out}
+use Rattle.output.proofs.Puts.{put-seq}
 use Rattle.output.proofs.Texts.{tabbed-one, put-fields}
 use Rattle.model.specs.declared.Target.{Target}
 use Rattle.model.specs.declared.Target.the-variants.{Ingredient, Step, Section}
-use Rattle.model.specs.declared.Relation.{Relation}
 use Rattle.model.specs.declared.Relation.the-variants.{Definition, Reference}
 use Rattle.model.specs.declared.RelationRecord.{RelationRecord}
 use Rattle.model.specs.declared.Next.{Next}

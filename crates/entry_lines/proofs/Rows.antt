@@ -1,14 +1,14 @@
 -- The lines of rows, one after another.
-use Prim.Native.Nat.{ℕ, zero, suc, _+_, _-_, _*_, _≤_, _<_}
-use mathlib.Core.Path.{_≡_, refl, ap, sym, _∙_}
-use mathlib.Core.Bool.{Bool, true, false}
+use Prim.Native.Nat.{ℕ, _+_, _-_, _≤_, _<_}
+use mathlib.Core.Path.{_≡_, refl}
+use mathlib.Core.Bool.{true}
 use mathlib.Core.List.{List, [], _∷_, _++_, append-assoc}
 use native.Mathlib.Omega.{arith}
 use native.Mathlib.Numerals.{add-one}
 use lib.ListN.{length, take, drop}
 use lib.Seq.{slice}
 use Rattle.rules.specs.Basic.{lf, decimal}
-use Rattle.rules.specs.Sheet.{escape, lineOf}
+use Rattle.rules.specs.Sheet.{lineOf}
 use Rattle.rules.specs.Read.{parseLine}
 use Rattle.rules.specs.Model.{Kind, ingredient, cookware, targetOf, Entry, setRelation, setModifiers}
 use Rattle.rules.specs.Page.{targetWord, relationFields, ingredientLine, cookwareLine, tableLines}
@@ -24,10 +24,9 @@ use Rattle.model.specs.declared.Held.{Held}
 use Rattle.model.specs.Rows as model
 use Rattle.model.specs.Rows.{rowAt, rowOf, referrersIn, relationIn, componentOfLine, entryAs, entryIn, entriesIn}
 use Rattle.model.specs.Memory.{windowsOf, stateOf, stateIn, Sound}
-use Rattle.model.specs.Fits.{Fits, EachRow, AllFit, isOfKind}
+use Rattle.model.specs.Fits.{Fits, AllFit, isOfKind}
 use Rattle.model.proofs.Tables.{entries-length}
 use Rattle.memory.proofs.Whole.{long-ingredients, long-cookware, long-ingredientPairs, long-cookwarePairs}
-use Rattle.lookup.specs.Names.{kindOf}
 use Rattle.lookup.proofs.Names.{part-slice}
 use Rattle.page_fields.proofs.Tables.{lines-none, lines-more}
 use Rattle.entry_lines.specs.Lines.{kindWord, entryLine, pathFields, ownFields, markedEntry}

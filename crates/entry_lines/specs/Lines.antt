@@ -6,7 +6,7 @@ use mathlib.Core.Option.{Option, none, some}
 use mathlib.Core.List.{List, [], _∷_, _++_}
 use lib.Dec.{eqb}
 use lib.ListN.{length, take, drop}
-use Rattle.rules.specs.Basic.{pick, codes, comma, slash, decimal, joinBy, each, onSome}
+use Rattle.rules.specs.Basic.{pick, comma, slash, decimal, joinBy, each, onSome}
 use Rattle.rules.specs.Utf8.{encode}
 use Rattle.rules.specs.Event.{Component, Modifiers}
 use Rattle.rules.specs.Read.{Fields}

@@ -1,5 +1,4 @@
 use borrow.Author.Needs.{needs}
-use native.Mathlib.Omega.{arith}
 use Rattle.entry_lines.proofs.Rows.{cookware-ready, cookware-lined}
 use Rattle.entry_lines.proofs.cookware_lines.Statement.{statement}
 use Rattle.entry_lines.proofs.cookware_lines.Tie as tie

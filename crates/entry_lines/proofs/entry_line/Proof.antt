@@ -1,5 +1,4 @@
 use borrow.Author.Needs.{needs}
-use native.Mathlib.Omega.{arith}
 use Rattle.entry_lines.proofs.Rows.{line-order, line-most, line-kind, line-without, put-entry-line}
 use Rattle.entry_lines.proofs.entry_line.Statement.{statement}
 use Rattle.entry_lines.proofs.entry_line.Tie as tie

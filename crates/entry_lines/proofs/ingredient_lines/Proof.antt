@@ -1,5 +1,4 @@
 use borrow.Author.Needs.{needs}
-use native.Mathlib.Omega.{arith}
 use Rattle.entry_lines.proofs.Rows.{ingredients-ready, ingredients-lined}
 use Rattle.entry_lines.proofs.ingredient_lines.Statement.{statement}
 use Rattle.entry_lines.proofs.ingredient_lines.Tie as tie

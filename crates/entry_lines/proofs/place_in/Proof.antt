@@ -1,5 +1,4 @@
 use borrow.Author.Needs.{needs}
-use native.Mathlib.Omega.{arith}
 use Rattle.entry_lines.proofs.Names.{placed-ingredient, placed-cookware}
 use Rattle.entry_lines.proofs.place_in.Statement.{statement}
 use Rattle.entry_lines.proofs.place_in.Tie as tie

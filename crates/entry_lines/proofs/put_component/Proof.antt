@@ -1,5 +1,4 @@
 use borrow.Author.Needs.{needs}
-use native.Mathlib.Omega.{arith}
 use Rattle.entry_lines.proofs.Own.{line-some, put-line-own}
 use Rattle.entry_lines.proofs.put_component.Statement.{statement}
 use Rattle.entry_lines.proofs.put_component.Tie as tie

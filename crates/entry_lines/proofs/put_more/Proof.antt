@@ -1,5 +1,4 @@
 use borrow.Author.Needs.{needs}
-use native.Mathlib.Omega.{arith}
 use Prim.Native.Nat.{_-_}
 use Rattle.model.specs.Rows.{referrersFrom}
 use Rattle.output.proofs.Puts.{Leads, starts, turn, step, ends-in, ends-out}

@@ -1,5 +1,4 @@
 use borrow.Author.Needs.{needs}
-use native.Mathlib.Omega.{arith}
 use Rattle.entry_lines.proofs.Names as names
 use Rattle.entry_lines.proofs.put_name.Statement.{statement}
 use Rattle.entry_lines.proofs.put_name.Tie as tie

@@ -1,5 +1,4 @@
 use borrow.Author.Needs.{needs}
-use native.Mathlib.Omega.{arith}
 use Rattle.entry_lines.proofs.Own as own
 use Rattle.entry_lines.proofs.put_own.Statement.{statement}
 use Rattle.entry_lines.proofs.put_own.Tie as tie

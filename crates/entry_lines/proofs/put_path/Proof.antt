@@ -1,5 +1,4 @@
 use borrow.Author.Needs.{needs}
-use native.Mathlib.Omega.{arith}
 use Rattle.entry_lines.proofs.Names.{path-ingredient, path-cookware, path-past, placed-own}
 use Rattle.entry_lines.proofs.put_path.Statement.{statement}
 use Rattle.entry_lines.proofs.put_path.Tie as tie

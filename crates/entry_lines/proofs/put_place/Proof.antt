@@ -1,5 +1,4 @@
 use borrow.Author.Needs.{needs}
-use native.Mathlib.Omega.{arith}
 use Rattle.entry_lines.proofs.Relations.{place-step, place-list}
 use Rattle.entry_lines.proofs.put_place.Statement.{statement}
 use Rattle.entry_lines.proofs.put_place.Tie as tie

@@ -1,5 +1,4 @@
 use borrow.Author.Needs.{needs}
-use native.Mathlib.Omega.{arith}
 use Rattle.entry_lines.proofs.Relations.{referrers-none, referrers-some}
 use Rattle.entry_lines.proofs.put_referrers.Statement.{statement}
 use Rattle.entry_lines.proofs.put_referrers.Tie as tie

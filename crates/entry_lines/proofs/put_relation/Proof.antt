@@ -1,5 +1,4 @@
 use borrow.Author.Needs.{needs}
-use native.Mathlib.Omega.{arith}
 use Rattle.entry_lines.proofs.Relations.{relation-definition, relation-reference}
 use Rattle.entry_lines.proofs.put_relation.Statement.{statement}
 use Rattle.entry_lines.proofs.put_relation.Tie as tie

@@ -1,5 +1,4 @@
 use borrow.Author.Needs.{needs}
-use native.Mathlib.Omega.{arith}
 use Rattle.entry_lines.proofs.Relations.{target-own, target-step, target-section}
 use Rattle.entry_lines.proofs.put_target.Statement.{statement}
 use Rattle.entry_lines.proofs.put_target.Tie as tie

@@ -1,5 +1,4 @@
 use borrow.Author.Needs.{needs}
-use native.Mathlib.Omega.{arith}
 use Rattle.entry_lines.proofs.Relations.{word-ingredient, word-cookware}
 use Rattle.entry_lines.proofs.put_word.Statement.{statement}
 use Rattle.entry_lines.proofs.put_word.Tie as tie
