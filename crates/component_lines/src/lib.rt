@@ -1,0 +1,144 @@
+// `ingredient` and `cookware` lines in a step: what a component refers to, what is found at it, and its row in work memory.
+ghost use mathlib.Core.Path.{_≡_};
+ghost use mathlib.Core.Bool.{true};
+ghost use Prim.Native.Nat.{_+_, _≤_, _<_};
+ghost use lib.ListN.{length};
+ghost use lib.Seq.{slice};
+ghost use Rattle.rules.specs.Basic.{isSome};
+ghost use Rattle.rules.specs.Event.{inside, componentEvent};
+ghost use Rattle.rules.specs.Units.{readUnits};
+ghost use Rattle.rules.specs.Answer.{unitsOr};
+ghost use Rattle.rules.specs.Model.{ingredient};
+ghost use Rattle.rules.specs.Components.{madeByName, makeIngredient};
+ghost use mathlib.Core.Option.{some};
+ghost use Rattle.unicode.specs.Tables.{unicodeTables};
+ghost use Rattle.components.specs.Views.{modifiersIn, componentIn, intermediateIn};
+ghost use Rattle.events.specs.Views.{componentEventIn, ComponentEventWithin};
+ghost use Rattle.events.specs.declared.ComponentEvent.the-variants as event;
+ghost use Rattle.known_events.specs.Fields.{ComponentEventFields};
+ghost use Rattle.model.specs.Contracts.{foundOf};
+ghost use Rattle.model.specs.Rows as rows;
+ghost use Rattle.model.specs.Memory.{stateIn, Sound};
+ghost use Rattle.model.specs.Fits.{AllFit};
+ghost use Rattle.memory.specs.Pushes.{countOf, FoundBelow};
+ghost use Rattle.lookup.specs.Names.{kindOf, sameOf, SameFound};
+ghost use Rattle.reference_findings.specs.Reports.{oldIn};
+ghost use Rattle.component_lines.specs.Lines.{LineHere, Kept, ComponentDone};
+ghost use Rattle.component_lines.specs.Steps.{ComponentHere, NamePlaced, Roomy, SameBelow, OldRead, NamedReported, heirOf, RelatedTo, RowNamed, RowPut, MadePushed};
+use blocks::Passed;
+use components::ComponentView;
+use components::Intermediate;
+use components::Modifiers;
+use components::OptIntermediate;
+use lookup::NamePart;
+use lookup::Same;
+use model::Found;
+use model::Held;
+use model::Relation;
+use model::RelationRecord;
+use model::Row;
+use reference_findings::Old;
+
+// ---- names
+
+// Where the sheet has the name of the component whose line begins at `at`.
+fn name_of(t: &[u32], sheet: &[u8], at: usize, v: ComponentView, is_ingredient: bool) -> NamePart
+    requires { ⌜ (now t ≡ unicodeTables) × (length (now sheet) ≤ 65536) × (v .name .content .from ≤ v .name .content .to) × (at + v .name .content .to ≤ length (now sheet)) ⌝ }
+    ensures { λ r. ⌜ NamePlaced (kindOf «is_ingredient») (now (sheet .entry)) at v r ⌝ }
+{
+    let from = at + v.name.content.from;
+    let to = at + v.name.content.to;
+    lookup::new_name(t, sheet, from, to, is_ingredient)
+}
+
+// The earlier component of the name; an explicit REF does not ask for OPT.
+fn same_of(
+    t: &[u32],
+    sheet: &[u8],
+    words: &[u32],
+    h: Held,
+    p: NamePart,
+    m: Modifiers,
+    is_ingredient: bool,
+) -> Same
+    requires { ⌜ (now t ≡ unicodeTables) × (p .at ≤ p .end) × (p .end ≤ length (now sheet)) × Sound (now words) h × AllFit (now sheet) (now words) h ⌝ }
+    ensures { λ r. ⌜ SameFound (kindOf «is_ingredient») (now (sheet .entry)) (now (words .entry)) h (slice (p .at) (p .end) (now (sheet .entry))) (m .reference) (m .opt) r ⌝ }
+{
+    let from = p.at;
+    let to = p.end;
+    let any_opt = m.reference;
+    let opt = m.opt;
+    if is_ingredient {
+        return lookup::same_ingredient(t, sheet, words, h, &sheet[from..to], any_opt, opt);
+    }
+    lookup::same_cookware(t, sheet, words, h, &sheet[from..to], any_opt, opt)
+}
+
+fn modifiers_of(r: Row) -> Modifiers
+    ensures { λ m. ⌜ modifiersIn m ≡ rows.modifiersIn r ⌝ }
+{
+    Modifiers {
+        recipe: r.recipe,
+        reference: r.reference,
+        hidden: r.hidden,
+        opt: r.opt,
+        new: r.new,
+    }
+}
+
+// The modifiers of what the search found.
+fn old_of(words: &[u32], h: Held, same: Same, is_ingredient: bool) -> Old
+    requires { ⌜ Sound (now words) h × SameBelow (kindOf «is_ingredient») h same ⌝ }
+    ensures { λ r. ⌜ OldRead (kindOf «is_ingredient») (now (words .entry)) h same r ⌝ }
+{
+    match same {
+        Same::Nothing => Old::Nothing,
+        Same::At(i) => {
+            if is_ingredient {
+                let r = model::row_at(&words[0..6156], i);
+                let m = modifiers_of(r);
+                return Old::Of(m);
+            }
+            let r = model::row_at(&words[6156..9240], i);
+            let m = modifiers_of(r);
+            Old::Of(m)
+        }
+    }
+}
+
+// ---- the row
+
+// Its modifiers, and where it refers those that the definition hands down.
+fn heir_of(m: Modifiers, to: Same, old: Old, is_ingredient: bool) -> Modifiers
+    ensures { λ r. ⌜ modifiersIn r ≡ heirOf (kindOf «is_ingredient») (sameOf to) (oldIn old) (modifiersIn m) ⌝ }
+{
+    match to {
+        Same::Nothing => m,
+        Same::At(_) => match old {
+            Old::Nothing => m,
+            Old::Of(d) => new_rows::referring_modifiers(is_ingredient, m, d),
+        },
+    }
+}
+
+fn relation_to(to: Same, in_step: bool, is_ingredient: bool) -> RelationRecord
+    requires { ⌜ SameSmall to ⌝ }
+    ensures { λ r. ⌜ RelatedTo (kindOf «is_ingredient») «in_step» to r ⌝ }
+{
+    match to {
+        Same::Nothing => {
+            RelationRecord {
+                relation: Relation::Definition,
+                in_step,
+                index: 0,
+            }
+        }
+        Same::At(i) => {
+            RelationRecord {
+                relation: Relation::Reference(model::Target::Ingredient),
+                in_step,
+                index: i as u32,
+            }
+        }
+    }
+}
