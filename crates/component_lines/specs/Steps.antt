@@ -10,15 +10,16 @@ use Rattle.rules.specs.Basic.{lf, onSome}
 use Rattle.rules.specs.Event as rules
 use Rattle.rules.specs.Read.{parseLine}
 use Rattle.rules.specs.Units.{NamedUnit}
-use Rattle.rules.specs.Model.{Kind, both, either, withRef, inherits, targetOf, Relation, definition, reference, entryOf}
+use Rattle.rules.specs.Model.{Kind, ingredient, both, either, withRef, inherits, targetOf, Relation, definition, reference, entryOf}
 use Rattle.rules.specs.Reference.{Earlier, refersTo}
 use Rattle.rules.specs.State.{tableOf}
-use Rattle.rules.specs.Components.{lockFindings, Made, madeWith}
+use Rattle.rules.specs.Components.{lockFindings, Made, madeWith, makeIngredient}
 use Rattle.rules.specs.Pass.{pushComponent}
 use Rattle.rules.proofs.Fields.{Without}
-use Rattle.components.specs.Views.{modifiersIn, componentIn, ComponentWithin}
+use Rattle.components.specs.Views.{modifiersIn, componentIn, ComponentWithin, intermediateIn}
 use Rattle.components.specs.declared.Modifiers.{Modifiers}
 use Rattle.components.specs.declared.ComponentView.{ComponentView}
+use Rattle.components.specs.declared.Intermediate.{Intermediate}
 use Rattle.known_events.specs.Fields.{TextField}
 use Rattle.model.specs.Blank.{blank}
 use Rattle.model.specs.Contracts.{foundOf}
@@ -59,18 +60,25 @@ pub record NamePlaced (k : Kind) (sheet : List ℕ) (at : ℕ) (v : ComponentVie
   pub new : NewName k sheet (at + v .name .content .from) (at + v .name .content .to) p
   pub most : p .end ≤ length sheet
 
--- the counts that a line of the pass begins with
+-- the counts of components and items that a line of the pass begins with
 pub record Roomy (h : Held) : Type 0 where
   pub ingredients : h .counts .ingredients ≤ 512
   pub cookware : h .counts .cookware ≤ 256
   pub items : h .counts .items ≤ 4096
-  pub findings : h .counts .findings ≤ 1024
 
 -- ---- what it refers to
 
 -- what was found is a row of the table
 pub record SameBelow (k : Kind) (h : Held) (same : Same) : Type 0 where
-  pub at : (i : ℕ) → same ≡ At i → i < countOf k h
+  pub below : (i : ℕ) → same ≡ At i → i < countOf k h
+
+-- its index is small
+pub record SameSmall (same : Same) : Type 0 where
+  pub below : (i : ℕ) → same ≡ At i → i < 513
+
+-- it again, as an index that work memory holds
+pub record FoundAs (same : Same) (r : Found) : Type 0 where
+  pub is : foundOf r ≡ sameOf same
 
 -- the modifiers of what was found
 pub record OldRead (k : Kind) (w : List ℕ) (h : Held) (same : Same) (old : Old) : Type 0 where
@@ -118,3 +126,7 @@ pub record MadePushed (k : Kind) (m : Made) (sheet w₀ : List ℕ) (h₀ : Held
   pub is : stateIn sheet w h ≡ blank (pushComponent k m [] (stateIn sheet w₀ h₀))
   pub sound : Sound w h
   pub fit : AllFit sheet w h
+
+-- a line with an intermediate reference; the units and flags do not matter
+pub record IntermediateDone (sheet line : List ℕ) (v : ComponentView) (i : Intermediate) (w₀ : List ℕ) (h₀ : Held) (w : List ℕ) (h : Held) : Type 0 where
+  pub is : (us : List NamedUnit) (flags : ℕ) → MadePushed ingredient (makeIngredient us flags (componentIn line v) (some (intermediateIn i)) (stateIn sheet w₀ h₀)) sheet w₀ h₀ w h

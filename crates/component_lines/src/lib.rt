@@ -24,7 +24,7 @@ ghost use Rattle.memory.specs.Pushes.{countOf, FoundBelow};
 ghost use Rattle.lookup.specs.Names.{kindOf, sameOf, SameFound};
 ghost use Rattle.reference_findings.specs.Reports.{oldIn};
 ghost use Rattle.component_lines.specs.Lines.{LineHere, Kept, ComponentDone};
-ghost use Rattle.component_lines.specs.Steps.{ComponentHere, NamePlaced, Roomy, SameBelow, OldRead, NamedReported, heirOf, RelatedTo, RowNamed, RowPut, MadePushed};
+ghost use Rattle.component_lines.specs.Steps.{ComponentHere, NamePlaced, Roomy, SameBelow, SameSmall, FoundAs, OldRead, NamedReported, heirOf, RelatedTo, RowNamed, RowPut, MadePushed, IntermediateDone};
 use blocks::Passed;
 use components::ComponentView;
 use components::Intermediate;
@@ -141,4 +141,89 @@ fn relation_to(to: Same, in_step: bool, is_ingredient: bool) -> RelationRecord
             }
         }
     }
+}
+
+// The row of a component that is looked up by its name.
+fn row_named(
+    at: usize,
+    end: usize,
+    p: NamePart,
+    in_step: bool,
+    m: Modifiers,
+    to: Same,
+    old: Old,
+    is_ingredient: bool,
+) -> Row
+    requires { ⌜ (at ≤ 65536) × (end ≤ 65536) × (p .at ≤ 65536) × (p .end ≤ 65536) × SameSmall to ⌝ }
+    ensures { λ r. ⌜ RowNamed (kindOf «is_ingredient») at end p «in_step» m to old r ⌝ }
+{
+    let own = heir_of(m, to, old, is_ingredient);
+    let relation = relation_to(to, in_step, is_ingredient);
+    new_rows::new_row(
+        at as u32,
+        end as u32,
+        p.at as u32,
+        p.end as u32,
+        own,
+        relation,
+    )
+}
+
+fn found_of(to: Same) -> Found
+    requires { ⌜ SameSmall to ⌝ }
+    ensures { λ r. ⌜ FoundAs to r ⌝ }
+{
+    match to {
+        Same::Nothing => Found::Nothing,
+        Same::At(i) => Found::At(i as u32),
+    }
+}
+
+// The row, the referrer of what it refers to, and the item.
+fn put_row(words: &mut [u32], h: Held, row: Row, to: Found, is_ingredient: bool) -> Held
+    requires { ⌜ Sound (now words) h × Roomy h × FoundBelow to (countOf (kindOf «is_ingredient») h) ⌝ }
+    ensures { λ r. ⌜ RowPut (kindOf «is_ingredient») (now (words .entry)) h row to (now (words .exit)) r ⌝ }
+{
+    if is_ingredient {
+        let k = memory::add_ingredient(words, h, row, to);
+        return blocks::push_items(k, 1);
+    }
+    let k = memory::add_cookware(words, h, row, to);
+    blocks::push_items(k, 1)
+}
+
+// ---- intermediate references
+
+fn intermediate_line(
+    t: &[u32],
+    sheet: &[u8],
+    at: usize,
+    end: usize,
+    v: ComponentView,
+    i: Intermediate,
+    words: &mut [u32],
+    h: Held,
+) -> Held
+    requires { ⌜ (now t ≡ unicodeTables) × ComponentHere ingredient (now sheet) at end v × Sound (now words) h × AllFit (now sheet) (now words) h × Roomy h × (h .counts .findings ≤ 1024) ⌝ }
+    ensures { λ r. ⌜ IntermediateDone (now (sheet .entry)) (slice at end (now (sheet .entry))) v i (now (words .entry)) h (now (words .exit)) r ⌝ }
+{
+    let m = v.modifiers;
+    let quantity = v.quantity;
+    let define = h.define;
+    let p = name_of(t, sheet, at, v, true);
+    let k1 = timers::lock_finding(words, h, quantity);
+    let k2 = intermediate::intermediate_modifiers(words, k1, m, v.modifiers_span);
+    let target = intermediate::intermediate_target(words, k2, i);
+    let k3 = intermediate::intermediate_findings(words, k2, i, target);
+    let in_step = !blocks::is_components(define);
+    let relation = intermediate::intermediate_relation(i, in_step, target);
+    let row = new_rows::new_row(
+        at as u32,
+        end as u32,
+        p.at as u32,
+        p.end as u32,
+        m,
+        relation,
+    );
+    put_row(words, k3, row, Found::Nothing, true)
 }

@@ -1,0 +1,5 @@
+pub mod Places
+pub mod Rows
+pub mod Earlier
+pub mod Rooms
+pub mod Whole
