@@ -1,10 +1,10 @@
--- What findings leave as it is: every window of work memory but theirs, and every count but theirs.
+-- What findings leave as it is: every window of work memory but theirs, its length, and every count but theirs.
 use Prim.Native.Nat.{ℕ, _+_, _*_, _≤_}
 use mathlib.Core.Path.{_≡_, refl, ap, sym, _∙_}
 use mathlib.Core.List.{List, [], _∷_}
 use native.Mathlib.Omega.{arith}
 use lib.ListN.{length}
-use lib.Seq.{sets}
+use lib.Seq.{sets, length-sets}
 use Rattle.rules.specs.Finding.{Finding}
 use Rattle.rules.specs.Model.{Kind, ingredient, cookware}
 use Rattle.rules.specs.State.{State, tableOf, report}
@@ -26,10 +26,11 @@ pub record Framed (w : List ℕ) (h : Held) (w₁ : List ℕ) (h₁ : Held) : Ty
   pub ingredientPairs : windowsOf w₁ .ingredientPairs ≡ windowsOf w .ingredientPairs
   pub cookwarePairs : windowsOf w₁ .cookwarePairs ≡ windowsOf w .cookwarePairs
   pub kinds : windowsOf w₁ .kinds ≡ windowsOf w .kinds
+  pub long : length w₁ ≡ length w
   pub held : h₁ ≡ withFindings (h₁ .counts .findings) h
 
 pub framed-none : {w : List ℕ} {h : Held} → Framed w h w h
-framed-none = record { ingredients = refl; cookware = refl; ingredientPairs = refl; cookwarePairs = refl; kinds = refl; held = refl }
+framed-none = record { ingredients = refl; cookware = refl; ingredientPairs = refl; cookwarePairs = refl; kinds = refl; long = refl; held = refl }
 
 pub framed-seq : {w w₁ w₂ : List ℕ} {h h₁ h₂ : Held} → Framed w h w₁ h₁ → Framed w₁ h₁ w₂ h₂ → Framed w h w₂ h₂
 framed-seq {h₂ = h₂} a b =
@@ -39,6 +40,7 @@ framed-seq {h₂ = h₂} a b =
       ingredientPairs = b .ingredientPairs ∙ a .ingredientPairs;
       cookwarePairs = b .cookwarePairs ∙ a .cookwarePairs;
       kinds = b .kinds ∙ a .kinds;
+      long = b .long ∙ a .long;
       held = b .held ∙ ap (withFindings (h₂ .counts .findings)) (a .held);
     }
 
@@ -52,7 +54,7 @@ windows-after {w} {h = h} {h₁ = h₁} {x = x} p =
     ap windowsOf (p .words) ∙ in-findings w (h .counts .findings * 8) (notedWords x) (omega (arith, noted-length x))
 
 finding-framed : {w w₁ : List ℕ} {h h₁ : Held} {x : Noted} → FindingPushed w h x w₁ h₁ → Framed w h w₁ h₁
-finding-framed {h = h} p =
+finding-framed {w} {h = h} {x = x} p =
     let e = windows-after p in
     record {
       ingredients = ap (λ (z : Windows). z .ingredients) e;
@@ -60,6 +62,7 @@ finding-framed {h = h} p =
       ingredientPairs = ap (λ (z : Windows). z .ingredientPairs) e;
       cookwarePairs = ap (λ (z : Windows). z .cookwarePairs) e;
       kinds = ap (λ (z : Windows). z .kinds) e;
+      long = ap length (p .words) ∙ length-sets w (10780 + h .counts .findings * 8) (notedWords x);
       held = p .held ∙ ap (λ (z : Held). withFindings (z .counts .findings) h) (sym (p .held));
     }
 
