@@ -23,18 +23,18 @@ use Rattle.model.specs.declared.Found.{Found}
 use Rattle.model.specs.declared.Found.the-variants as found
 use Rattle.model.specs.declared.Row.{Row}
 use Rattle.model.specs.declared.Held.{Held}
-use Rattle.memory.specs.Pushes.{countOf, FoundBelow}
+use Rattle.memory.specs.Pushes.{countOf}
 use Rattle.lookup.specs.declared.Same.{Same}
 use Rattle.lookup.specs.declared.Same.the-variants.{At, Nothing}
-use Rattle.memory.proofs.Whole.{long-ingredients, long-cookware}
+use Rattle.unit_checks.specs.Checked.{roomOf, SameBelow}
+use Rattle.unit_checks.proofs.Rows.{row-room, framed-earlier}
 use Rattle.lookup.specs.Names.{sameOf, kindOf, rowsIn, pairsIn, earlierIn, earlierAt, SameFound}
 use Rattle.lookup.proofs.Names.{part-slice}
-use Rattle.checks.specs.Reports.{Reported}
-use Rattle.checks.proofs.Frames.{Framed, reported-framed, framed-count, framed-pairs}
+use Rattle.checks.proofs.Frames.{Framed, framed-count}
 use Rattle.reference_findings.specs.Reports.{oldIn, handsDown, SameAs}
 use Rattle.reference_findings.specs.declared.Old.{Old}
 use Rattle.reference_findings.specs.declared.Old.the-variants as old
-use Rattle.component_lines.specs.Steps.{SameBelow, SameSmall, FoundAs, OldRead}
+use Rattle.component_lines.specs.Steps.{SameSmall, FoundAs, OldRead, ReferredBelow}
 
 -- ---- what the search found
 
@@ -49,25 +49,8 @@ module _ (k : Kind) (w : List ℕ) (h : Held) {same : Same} where
 
 -- ---- as the code comes to it, for each kind
 
-module _ {b : Bool} {w : List ℕ} {h : Held} {same : Same} where
-  pub row-ready-ingredient : b ≡ true → (i : ℕ) → same ≡ At i → Sound w h → SameBelow (kindOf b) h same → (i < 513) × (i * 12 + 12 ≤ length (take 6156 (drop 0 w)))
-  row-ready-ingredient t i e z s =
-      let l : i < h .counts .ingredients = (rw t at s) .below i e in
-      (omega (arith, z .room .ingredients), omega (arith, z .room .ingredients, long-ingredients z))
-
-  pub row-ready-cookware : b ≡ false → (i : ℕ) → same ≡ At i → Sound w h → SameBelow (kindOf b) h same → (i < 513) × (i * 12 + 12 ≤ length (take 3084 (drop 6156 w)))
-  row-ready-cookware t i e z s =
-      let l : i < h .counts .cookware = (rw t at s) .below i e in
-      (omega (arith, z .room .cookware), omega (arith, z .room .cookware, long-cookware z))
-
-  module _ (i : ℕ) (e : same ≡ At i) {r : Row} {m : Modifiers} (em : modifiersIn m ≡ rows.modifiersIn r) where
-    pub old-ingredient : b ≡ true → r ≡ rowOf (rowAt 12 (take 6156 (drop 0 w)) i) → OldRead (kindOf b) w h same (old.Of m)
-    unfolding windowsOf
-    old-ingredient t er = rw t (old-read ingredient w h i e er em)
-
-    pub old-cookware : b ≡ false → r ≡ rowOf (rowAt 12 (take 3084 (drop 6156 w)) i) → OldRead (kindOf b) w h same (old.Of m)
-    unfolding windowsOf
-    old-cookware t er = rw t (old-read cookware w h i e er em)
+pub kind-ready : {k : Kind} {w : List ℕ} {h : Held} {same : Same} (i : ℕ) → same ≡ At i → Sound w h → SameBelow k h same → (24157 ≤ length w) × (i < roomOf k)
+kind-ready {k} i e z s = (z .long, row-room z k i (s .below i e))
 
 module _ {b x y : Bool} {sheet w : List ℕ} {h : Held} {from to : ℕ} {r : Same} (l : from ≤ to) where
   pub same-ingredient : b ≡ true → SameFound ingredient sheet w h (take (to - from) (drop from sheet)) x y r → SameFound (kindOf b) sheet w h (slice from to sheet) x y r
@@ -120,21 +103,17 @@ module _ {to : Same} where
   unfolding sameOf
   found-at i e = record { is = rw e }
 
-pub found-below : (k : Kind) {h : Held} {to : Same} {r : Found} → FoundAs to r → SameBelow k h to → FoundBelow r (countOf k h)
-found-below k {to = to} {r = found.At d} x b = b .below d (at-of to d (sym (x .is)))
-found-below k {r = found.Nothing} x b = tt
+pub found-below : {k : Kind} {h : Held} {to : Same} {r : Found} → FoundAs to r → SameBelow k h to → ReferredBelow k h r
+found-below {to = to} {r = found.At d} x b = record { is = b .below d (at-of to d (sym (x .is))) }
+found-below {r = found.Nothing} x b = record { is = tt }
 
 -- ---- findings leave it
 
 module _ {w w₁ : List ℕ} {h h₁ : Held} (a : Framed w h w₁ h₁) where
-  pub earlier-kept : (k : Kind) (sheet : List ℕ) (i : ℕ) → earlierAt k sheet w₁ h₁ i ≡ earlierAt k sheet w h i
-  earlier-kept ingredient sheet i = rw (a .ingredients, a .ingredientPairs, framed-pairs a ingredient)
-  earlier-kept cookware sheet i = rw (a .cookware, a .cookwarePairs, framed-pairs a cookware)
-
   pub earliers-kept : (k : Kind) (sheet : List ℕ) (o : Option ℕ) → onSome (earlierAt k sheet w₁ h₁) o ≡ onSome (earlierAt k sheet w h) o
   unfolding onSome
   earliers-kept k sheet none = refl
-  earliers-kept k sheet (some i) = ap some (earlier-kept k sheet i)
+  earliers-kept k sheet (some i) = ap some (framed-earlier a k sheet i)
 
   pub below-kept : (k : Kind) {same : Same} → SameBelow k h same → SameBelow k h₁ same
   below-kept k b = record { below = λ i q. omega (arith, b .below i q, framed-count a k) }

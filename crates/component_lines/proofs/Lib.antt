@@ -3,3 +3,5 @@ pub mod Rows
 pub mod Earlier
 pub mod Rooms
 pub mod Whole
+pub mod Named
+pub mod Ends

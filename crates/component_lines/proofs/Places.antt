@@ -69,12 +69,14 @@ module _ {k : Kind} {sheet : List ℕ} {at end : ℕ} {v : ComponentView} (x : C
   unfolding TextField
   name-field = rw name-part at (x .field)
 
-  name-content : componentOfLine k (slice at end sheet) .name .content ≡ content.contentIn (slice (at + v .name .content .from) (at + v .name .content .to) sheet)
+  pub own-content : views.componentIn (slice at end sheet) v .name .content ≡ content.contentIn (slice (at + v .name .content .from) (at + v .name .content .to) sheet)
   unfolding views.componentIn textIn
-  name-content =
-      ap (λ (c : rules.Component). c .name .content) (x .is)
-      ∙ sym (plains.content-of (partOf (slice at end sheet) (v .name .content)) (parts.content-of (slice at end sheet) (v .name .content) (x .within .name .content)))
+  own-content =
+      sym (plains.content-of (partOf (slice at end sheet) (v .name .content)) (parts.content-of (slice at end sheet) (v .name .content) (x .within .name .content)))
       ∙ ap content.contentIn name-part
+
+  name-content : componentOfLine k (slice at end sheet) .name .content ≡ content.contentIn (slice (at + v .name .content .from) (at + v .name .content .to) sheet)
+  name-content = ap (λ (c : rules.Component). c .name .content) (x .is) ∙ own-content
 
   -- the row of the component points at its line and its name
   pub row-fits : {p : NamePart} {m : Modifiers} {relation : RelationRecord} {r : Row} → NamePlaced k sheet at v p → RowMade at end (p .at) (p .end) m relation r → Fits k sheet r

@@ -13,7 +13,7 @@ use Rattle.rules.specs.Event as rules
 use Rattle.rules.specs.Finding.{Finding}
 use Rattle.rules.specs.Model.{Kind, ingredient, cookware, Entry, inherits}
 use Rattle.rules.specs.Modes.{Modes}
-use Rattle.rules.specs.Reference.{Earlier, treatAsReference, redundantNew, redundantRef, conflictOrMissing, referenceFindings}
+use Rattle.rules.specs.Reference.{Earlier, isExplicit, treatAsReference, redundantNew, redundantRef, conflictOrMissing, referenceFindings}
 use Rattle.rules.specs.Checks.{intermediateModifiers}
 use Rattle.rules.specs.State.{overLimits}
 use Rattle.rules.specs.Components.{lockFindings}
@@ -130,7 +130,7 @@ module _ (modes : Modes) (new : Entry) (inherit : rules.Modifiers) where
   ref-short = when-short _ _
 
   pub reference-short : (same : Option Earlier) → Short 2 (referenceFindings modes new inherit same)
-  unfolding referenceFindings
+  unfolding referenceFindings isExplicit
   reference-short same =
       pick-either (Short 2) (new .modifiers .new) _ _
       (λ b. pick-either (Short 2) (new .modifiers .ref) _ _ (λ c. short-more (short-one _)) (λ c. short-more (redundant-short same)))

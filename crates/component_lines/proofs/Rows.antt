@@ -37,9 +37,9 @@ module _ (k : Kind) {to : Same} where
     unfolding heirOf sameOf oldIn
     heir-lost m q = rw (e, q)
 
-    pub heir-found : {r m : rules.Modifiers} (d : Modifiers) → o ≡ old.Of d → r ≡ withRef (either m (both (modifiersIn d) (inherits k))) → r ≡ heirOf k (sameOf to) (oldIn o) m
+    pub heir-found : {r : rules.Modifiers} (m : rules.Modifiers) (d : Modifiers) → o ≡ old.Of d → r ≡ withRef (either m (both (modifiersIn d) (inherits k))) → r ≡ heirOf k (sameOf to) (oldIn o) m
     unfolding heirOf sameOf oldIn
-    heir-found d q z = z ∙ rw (e, q)
+    heir-found m d q z = z ∙ rw (e, q)
 
 -- ---- relations
 

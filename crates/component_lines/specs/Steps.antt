@@ -10,10 +10,10 @@ use Rattle.rules.specs.Basic.{lf, onSome}
 use Rattle.rules.specs.Event as rules
 use Rattle.rules.specs.Read.{parseLine}
 use Rattle.rules.specs.Units.{NamedUnit}
-use Rattle.rules.specs.Model.{Kind, ingredient, both, either, withRef, inherits, targetOf, Relation, definition, reference, entryOf}
+use Rattle.rules.specs.Model.{Kind, ingredient, both, either, withRef, inherits, targetOf, Relation, definition, reference, Entry, entryOf}
 use Rattle.rules.specs.Reference.{Earlier, refersTo}
 use Rattle.rules.specs.State.{tableOf}
-use Rattle.rules.specs.Components.{lockFindings, Made, madeWith, makeIngredient}
+use Rattle.rules.specs.Components.{lockFindings, Made, madeWith, madeByName, madeIntermediate, makeIngredient}
 use Rattle.rules.specs.Pass.{pushComponent}
 use Rattle.rules.proofs.Fields.{Without}
 use Rattle.components.specs.Views.{modifiersIn, componentIn, ComponentWithin, intermediateIn}
@@ -30,7 +30,7 @@ use Rattle.model.specs.declared.Found.{Found}
 use Rattle.model.specs.declared.RelationRecord.{RelationRecord}
 use Rattle.model.specs.declared.Row.{Row}
 use Rattle.model.specs.declared.Held.{Held}
-use Rattle.memory.specs.Pushes.{countOf, ComponentAdded}
+use Rattle.memory.specs.Pushes.{countOf, FoundBelow, ComponentAdded}
 use Rattle.lookup.specs.declared.Same.{Same}
 use Rattle.lookup.specs.declared.Same.the-variants.{At}
 use Rattle.lookup.specs.declared.NamePart.{NamePart}
@@ -68,11 +68,7 @@ pub record Roomy (h : Held) : Type 0 where
 
 -- ---- what it refers to
 
--- what was found is a row of the table
-pub record SameBelow (k : Kind) (h : Held) (same : Same) : Type 0 where
-  pub below : (i : ℕ) → same ≡ At i → i < countOf k h
-
--- its index is small
+-- the index of what was found is small
 pub record SameSmall (same : Same) : Type 0 where
   pub below : (i : ℕ) → same ≡ At i → i < 513
 
@@ -116,6 +112,10 @@ pub record RowNamed (k : Kind) (at end : ℕ) (p : NamePart) (inStep : Bool) (m 
 
 -- ---- the row and its item in work memory
 
+-- what is referred to is there
+pub record ReferredBelow (k : Kind) (h : Held) (to : Found) : Type 0 where
+  pub is : FoundBelow to (countOf k h)
+
 pub record RowPut (k : Kind) (w₀ : List ℕ) (h₀ : Held) (r : Row) (to : Found) (w : List ℕ) (h : Held) : Type 0 where
   pub between : Held
   pub added : ComponentAdded k w₀ h₀ r to w between
@@ -127,6 +127,14 @@ pub record MadePushed (k : Kind) (m : Made) (sheet w₀ : List ℕ) (h₀ : Held
   pub sound : Sound w h
   pub fit : AllFit sheet w h
 
+-- all that is found at an intermediate reference; the units, the flags and the entry do not matter
+pub record IntermediateReported (v : ComponentView) (i : Intermediate) (target : Found) (w₀ : List ℕ) (h₀ : Held) (w : List ℕ) (h : Held) : Type 0 where
+  pub is : (us : List NamedUnit) (flags : ℕ) (line : List ℕ) (new : Entry) → Reported (madeIntermediate us flags (componentIn line v) new (intermediateIn i) (foundOf target) .findings) w₀ h₀ w h
+
 -- a line with an intermediate reference; the units and flags do not matter
 pub record IntermediateDone (sheet line : List ℕ) (v : ComponentView) (i : Intermediate) (w₀ : List ℕ) (h₀ : Held) (w : List ℕ) (h : Held) : Type 0 where
   pub is : (us : List NamedUnit) (flags : ℕ) → MadePushed ingredient (makeIngredient us flags (componentIn line v) (some (intermediateIn i)) (stateIn sheet w₀ h₀)) sheet w₀ h₀ w h
+
+-- a line without one
+pub record NamedDone (us : List NamedUnit) (flags : ℕ) (k : Kind) (sheet line : List ℕ) (v : ComponentView) (w₀ : List ℕ) (h₀ : Held) (w : List ℕ) (h : Held) : Type 0 where
+  pub is : MadePushed k (madeByName us flags k (componentIn line v) (stateIn sheet w₀ h₀)) sheet w₀ h₀ w h

@@ -37,7 +37,7 @@ returns-2 c = heir-lost _ _ (c .before .before .enum-told2 .given .1) _ (c .enum
 
 -- src/lib.rt:112:1
 returns-3 : tie.Need-returns-3
-returns-3 c = heir-found _ _ (c .before .before .before .before .enum-told2 .given .1) _ (c .before .before .old .given .1) (c .referring-modifiers .ensures)
+returns-3 c = heir-found _ _ (c .before .before .before .before .enum-told2 .given .1) _ _ (c .before .before .old .given .1) (c .referring-modifiers .ensures)
 
 pub heir-of-spec : {M : Type 1} → statement M
 heir-of-spec =
