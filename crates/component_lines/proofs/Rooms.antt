@@ -70,12 +70,14 @@ pub limits-roomy : (sheet w : List ℕ) (h : Held) → overLimits (stateIn sheet
 unfolding overLimits
 limits-roomy sheet w h e =
     let st = stateIn sheet w h in
-    let z = over-counts (length (st .tables .ingredients)) (length (st .tables .cookware)) (length (st .tables .timers)) (length (st .kept .sections)) (st .kept .blocks) (st .kept .items) (length (st .tables .inline)) (length (st .findings)) e in
-    (record {
-      ingredients = rw (ingredients-count sheet w h) at (z .0);
-      cookware = rw (cookware-count sheet w h) at (z .1);
-      items = rw (items-count sheet w h) at (z .2);
-    }, rw (findings-count sheet w h) at (z .3))
+    let z = over-counts (length (st .tables .ingredients)) (length (st .tables .cookware)) (length (st .tables .timers)) (length (st .kept .sections)) (st .kept .blocks) (st .kept .items) (length (st .tables .inline)) (length (st .findings)) e in (
+      record {
+        ingredients = rw (ingredients-count sheet w h) at (z .0);
+        cookware = rw (cookware-count sheet w h) at (z .1);
+        items = rw (items-count sheet w h) at (z .2);
+      },
+      rw (findings-count sheet w h) at (z .3),
+    )
 
 -- findings leave them
 pub roomy-kept : {w w₁ : List ℕ} {h h₁ : Held} → Framed w h w₁ h₁ → Roomy h → Roomy h₁
