@@ -1,1 +1,4 @@
 pub mod Lists
+pub mod Grows
+pub mod Insides
+pub mod Betweens
