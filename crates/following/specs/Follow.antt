@@ -16,7 +16,12 @@ use Rattle.rules.specs.State.{State, next}
 use Rattle.rules.specs.Pass.{onEvent}
 use Rattle.sheet.specs.declared.DefineWord.{DefineWord}
 use Rattle.sheet.specs.declared.DefineWord.the-variants as word
-use Rattle.events.specs.Views.{eventIn}
+use Rattle.parts.specs.Views.{textIn}
+use Rattle.parts.specs.declared.TextView.{TextView}
+use Rattle.events.specs.Views.{betweenIn, componentEventIn, insideIn, eventIn}
+use Rattle.events.specs.declared.Between.{Between}
+use Rattle.events.specs.declared.ComponentEvent.{ComponentEvent}
+use Rattle.events.specs.declared.Inside.{Inside}
 use Rattle.events.specs.declared.EventView.{EventView}
 use Rattle.model.specs.Memory.{defineOf}
 use Rattle.model.specs.declared.Define.{Define}
@@ -125,7 +130,23 @@ unfoldable pub withInline : ℕ → Follow → Follow
 withInline n f =
     record { define = f .define; block = f .block; shown = f .shown; counter = f .counter; ingredients = f .ingredients; cookware = f .cookware; timers = f .timers; inline = n; old = f .old }
 
--- ---- the contract
+-- ---- the contracts
+
+pub record MetaRead (flags : ℕ) (line : List ℕ) (key value : TextView) (r : Meta) : Type 0 where
+  pub is : r ≡ metaOf flags (textIn line key) (textIn line value)
+
+pub record BetweenFollowed (flags : ℕ) (line : List ℕ) (b : Between) (f r : Follow) : Type 0 where
+  pub is : r ≡ betweenFollow flags (betweenIn line b) f
+
+pub record EventFollowed (flags : ℕ) (line : List ℕ) (e : EventView) (f r : Follow) : Type 0 where
+  pub is : r ≡ nextFollow flags (eventIn line e) f
+
+-- lines whose text is not asked
+pub record ComponentCounted (c : ComponentEvent) (f r : Follow) : Type 0 where
+  pub at : (line : List ℕ) → r ≡ countComponent (componentEventIn line c) f
+
+pub record InsideFollowed (i : Inside) (f r : Follow) : Type 0 where
+  pub at : (line : List ℕ) → r ≡ insideFollow (insideIn line i) f
 
 -- counts far below what a number holds
 pub record Room (f : Follow) : Type 0 where
