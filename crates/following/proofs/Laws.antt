@@ -1,7 +1,7 @@
 -- The laws of what is drawn: at the start, line by line, at the end.
 use Prim.Native.Nat.{ℕ, zero, suc, _+_, _/_, _%_, _≤_}
 use mathlib.Core.Path.{_≡_, refl, sym, ap, _∙_, subst}
-use mathlib.Core.List.{List, [], _∷_, _++_, reverse, reverseAux, append-nil}
+use mathlib.Core.List.{List, [], _∷_, _++_, reverse, reverseAux, append-nil, append-assoc}
 use mathlib.Core.Bool.{Bool, true, false}
 use mathlib.Core.Option.{Option, none, some}
 use native.Mathlib.Omega.{arith}
@@ -25,7 +25,7 @@ use Rattle.rules.proofs.Basics.{pick-either, no-truth}
 use Rattle.following.specs.declared.Part.{Part}
 use Rattle.following.specs.declared.Part.the-variants.{Sections, Timers, Inline, Old}
 use Rattle.following.specs.declared.Follow.{Follow}
-use Rattle.following.specs.Drawn.{defineIn, kindOf, keeps, openDrawn, isShown, sectionsDrawn, oldDrawn, drawn, followOf, firstFollow, sectionsAdd, timersAdd, inlineAdd, oldAdd, added, appended}
+use Rattle.following.specs.Drawn.{defineIn, kindOf, keeps, openDrawn, isShown, sectionsDrawn, oldDrawn, drawn, oldLine, followOf, firstFollow, sectionsAdd, timersAdd, inlineAdd, oldAdd, added, appended}
 use Rattle.following.specs.Follow.{Follows, nextFollow, withInline}
 use Rattle.following.proofs.Lists.{table-more}
 use Rattle.following.proofs.Grows.{Grows, made}
@@ -109,10 +109,7 @@ module _ (st : State) where
 
 -- ---- finding 3
 
--- its line, whose spans these bytes are
-unfoldable pub oldLine : List ℕ → List ℕ
-oldLine spans = codes "diag" ++ (tab ∷ (codes "W" ++ (tab ∷ (codes "3" ++ (tab ∷ (spans ++ (tab ∷ (codes "-" ++ (lf ∷ [])))))))))
-
+-- a number, a comma or a minus is not escaped
 data Plain : List ℕ → Type 0 where
   plain-none : Plain []
   plain-more : {c : ℕ} {s : List ℕ} → 44 ≤ c → c ≤ 57 → Plain s → Plain (c ∷ s)
@@ -143,6 +140,36 @@ plain-spans [] = plain-none
 plain-spans (s ∷ []) = plain-span s
 plain-spans (s ∷ t ∷ ss) = plain-both (plain-span s) (plain-more (omega arith) (omega arith) (plain-spans (t ∷ ss)))
 
-old-line : (k : ℕ) (st : State) → findingLine k (diag 3 (reverse (st .metadata .old)) false) ≡ oldLine (drawn Old st)
-unfolding drawn oldDrawn findingLine isError lineOf joinBy each oldLine decimal digits
-old-line k st = ?
+spans-line : (x : List ℕ) → escape x ≡ x → lineOf (codes "diag" ∷ codes "W" ∷ codes "3" ∷ x ∷ codes "-" ∷ []) ≡ oldLine x
+unfolding lineOf joinBy each escape escapeChar oldLine
+spans-line x q =
+    ap (λ (y : List ℕ). 100 ∷ 105 ∷ 97 ∷ 103 ∷ 9 ∷ 87 ∷ 9 ∷ 51 ∷ 9 ∷ y)
+    (append-assoc (escape x) (9 ∷ 45 ∷ []) (10 ∷ []) ∙ ap (λ (z : List ℕ). z ++ (9 ∷ 45 ∷ 10 ∷ [])) q)
+
+old-line : (k : ℕ) (ss : List Span) → findingLine k (diag 3 ss false) ≡ oldLine (joinBy comma (each spanWord ss))
+unfolding findingLine isError decimal digits
+old-line k ss = spans-line (joinBy comma (each spanWord ss)) (plain-escape (plain-spans ss))
+
+more-findings : (old : List Span) (fs : List Finding)
+    → tableLines findingLine (reverseAux (oldMetadata old) fs) ≡ tableLines findingLine fs ++ pick (isEmpty old) [] (oldLine (joinBy comma (each spanWord (reverse old))))
+unfolding oldMetadata isEmpty
+more-findings [] fs = sym (append-nil (tableLines findingLine fs))
+more-findings (s ∷ ss) fs =
+    table-more findingLine (diag 3 (reverse (s ∷ ss)) false) fs
+    ∙ ap (λ (x : List ℕ). tableLines findingLine fs ++ x) (old-line (length fs) (reverse (s ∷ ss)))
+
+-- the findings of the page: those of the pass, and 3 where some line counted for it
+pub findings-end : (st : State) → tableLines findingLine (ended st .findings) ≡ tableLines findingLine (st .findings) ++ pick (isEmpty (st .metadata .old)) [] (oldLine (drawn Old st))
+unfolding ended report drawn oldDrawn
+findings-end st =
+    ap (λ (fs : List Finding). tableLines findingLine (reverseAux (oldMetadata (st .metadata .old)) fs)) (close-findings st)
+    ∙ more-findings (st .metadata .old) (st .findings)
+
+-- what else the page has of the state at the end
+pub ended-tables : (st : State) → ended st .tables ≡ st .tables
+unfolding ended report
+ended-tables st = close-tables st
+
+pub ended-metadata : (st : State) → ended st .metadata ≡ st .metadata
+unfolding ended report
+ended-metadata st = close-metadata st

@@ -4,3 +4,4 @@ pub mod Insides
 pub mod Betweens
 pub mod Laws
 pub mod Follows
+pub mod Walking

@@ -96,6 +96,10 @@ drawn Timers st = tableLines timerLine (st .tables .timers)
 drawn Inline st = tableLines inlineLine (st .tables .inline)
 drawn Old st = oldDrawn st
 
+-- the line of finding 3, whose spans these bytes are
+unfoldable pub oldLine : List ℕ → List ℕ
+oldLine spans = codes "diag" ++ (tab ∷ (codes "W" ++ (tab ∷ (codes "3" ++ (tab ∷ (spans ++ (tab ∷ (codes "-" ++ (lf ∷ [])))))))))
+
 -- ---- what the bytes of the next line depend on
 
 unfoldable pub followOf : State → Follow
