@@ -319,7 +319,14 @@ fn with_inline(n: u32, mut f: Follow) -> Follow
 }
 
 // The state after a line that adds so many inline quantities.
-pub fn follow_event(t: &[u32], flags: u32, line: &[u8], e: EventView, f: Follow, inline: u32) -> Follow
+pub fn follow_event(
+    t: &[u32],
+    flags: u32,
+    line: &[u8],
+    e: EventView,
+    f: Follow,
+    inline: u32,
+) -> Follow
     requires { ⌜ (now t ≡ unicodeTables) × EventWithin (now line) e × Room f × (f .inline + inline ≤ 100000) ⌝ }
     ensures { λ r. ⌜ Followed flags (now (line .entry)) e inline f r ⌝ }
 {
