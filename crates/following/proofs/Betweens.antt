@@ -12,7 +12,7 @@ use Rattle.rules.specs.Words.{BlockKind, stepKind, textKind, DefineMode, Duplic
 use Rattle.rules.specs.Event.{Span, Text, Between, metaEvent, sectionEvent, startEvent, Event, between, inside, parserEvent}
 use Rattle.rules.specs.Units.{NamedUnit}
 use Rattle.rules.specs.Finding.{Finding}
-use Rattle.rules.specs.Model.{trimmedText, Block, Section}
+use Rattle.rules.specs.Model.{trimmedText, InlineQuantity, Block, Section}
 use Rattle.rules.specs.Modes.{isComponents, isText, hasModes, Key, config, unknownConfig, ordinary, keyOf, keyText, valueText}
 use Rattle.rules.specs.Metadata.{storeMeta, onDefine, onDuplicate, onKey, onMetadata, oldMetadata}
 use Rattle.rules.specs.State as state
@@ -24,16 +24,16 @@ use Rattle.content.specs.Contents.{spell}
 use Rattle.model.specs.Memory.{defineOf}
 use Rattle.model.specs.declared.Open.{Open}
 use Rattle.following.specs.declared.Follow.{Follow}
-use Rattle.following.specs.Drawn.{defineIn, kindOf, keeps, sectionLine, textLead, openDrawn, isShown, sectionsDrawn, oldDrawn, followOf, opensAs, lead, startAdds, sectionsAdd, timersAdd, inlineAdd, keyAdds, oldAdd}
+use Rattle.following.specs.Drawn.{defineIn, kindOf, keeps, sectionLine, textLead, openDrawn, isShown, sectionsDrawn, oldDrawn, followOf, opensAs, lead, startAdds, sectionsAdd, timersAdd, inlineAdd, quantitiesAdded, keyAdds, oldAdd}
 use Rattle.following.specs.Follow.{defineMeta, keyMeta, metaOf, metaFollow, sectionFollow, startFollow, betweenFollow, nextFollow, withInline}
 use Rattle.following.proofs.Lists.{table-more, span-more}
 use Rattle.following.proofs.Grows.{Grows, nil, made, Fresh, start-grows}
 use Rattle.following.proofs.Insides.{EventGrows, StepGrows, inside-grows}
 
 -- inline quantities stay
-inline-grows : {st st' : State} {f : Follow} {a b c d : List ℕ} → Grows st st' f a b c d → Grows st st' (withInline (length (st' .tables .inline)) f) a b c d
+inline-grows : {st st' : State} {f : Follow} {a b c d : List ℕ} {qs : List InlineQuantity} → Grows st st' f a b c d qs → Grows st st' (withInline (length (st' .tables .inline)) f) a b c d qs
 unfolding withInline followOf
-inline-grows {st} {st'} g = record { follow = ap (withInline (length (st' .tables .inline))) (g .follow); sections-is = g .sections-is; timers-is = g .timers-is; inline-is = g .inline-is; old-is = g .old-is }
+inline-grows {st} {st'} g = record { follow = ap (withInline (length (st' .tables .inline))) (g .follow); sections-is = g .sections-is; timers-is = g .timers-is; inline-is = g .inline-is; old-is = g .old-is; table-is = g .table-is }
 
 -- ---- `start`
 
@@ -92,7 +92,7 @@ module _ (text : List ℕ) (units : List NamedUnit) (flags : ℕ) (m : DefineMod
 
   section-grows : (x : Option Text) (k' : Kept) → sectionsDrawn here ≡ tableLines sectionLines (k' .sections)
       → EventGrows text units flags (between (sectionEvent x)) here (begun x (made m d md name content n noBlock k' t fs))
-  unfolding setPlace nextFollow betweenFollow sectionFollow withInline followOf isShown keeps kindOf sectionsDrawn oldDrawn sectionsAdd timersAdd inlineAdd oldAdd openDrawn isEmpty
+  unfolding setPlace nextFollow betweenFollow sectionFollow withInline followOf isShown keeps kindOf sectionsDrawn oldDrawn sectionsAdd timersAdd inlineAdd quantitiesAdded oldAdd openDrawn isEmpty
   section-grows x k' q =
       record {
         follow = ap (λ (b : Bool). sectionFollow b (followOf here)) (named-shown x);
@@ -100,36 +100,37 @@ module _ (text : List ℕ) (units : List NamedUnit) (flags : ℕ) (m : DefineMod
         timers-is = nil;
         inline-is = nil;
         old-is = nil;
+        table-is = refl;
       }
 
   start-event : (b : BlockKind) → EventGrows text units flags (between (startEvent b)) here (setBlock (opened m b) here)
-  unfolding setBlock setPlace nextFollow betweenFollow startFollow withInline followOf sectionsAdd timersAdd inlineAdd oldAdd
+  unfolding setBlock setPlace nextFollow betweenFollow startFollow withInline followOf sectionsAdd timersAdd inlineAdd quantitiesAdded oldAdd
   start-event b =
-      subst (λ (o : Open). Grows here (setBlock (opened m b) here) (startFollow o (followOf here)) (startAdds (followOf here) o) [] [] []) (opens-kind m b)
+      subst (λ (o : Open). Grows here (setBlock (opened m b) here) (startFollow o (followOf here)) (startAdds (followOf here) o) [] [] [] []) (opens-kind m b)
       (start-grows m d md name content n k t fs (opened m b) (fresh m n b))
 
   -- ---- `meta`
 
-  define-grows : (a v : Text) (o : Option DefineMode) → Grows here (onDefine a v o here) (metaFollow (defineMeta o) (followOf here)) [] [] [] []
+  define-grows : (a v : Text) (o : Option DefineMode) → Grows here (onDefine a v o here) (metaFollow (defineMeta o) (followOf here)) [] [] [] [] []
   unfolding onDefine defineMeta metaFollow report setModes followOf isShown keeps kindOf sectionsDrawn oldDrawn openDrawn
-  define-grows a v none = record { follow = refl; sections-is = nil; timers-is = nil; inline-is = nil; old-is = nil }
-  define-grows a v (some x) = record { follow = refl; sections-is = nil; timers-is = nil; inline-is = nil; old-is = nil }
+  define-grows a v none = record { follow = refl; sections-is = nil; timers-is = nil; inline-is = nil; old-is = nil; table-is = refl }
+  define-grows a v (some x) = record { follow = refl; sections-is = nil; timers-is = nil; inline-is = nil; old-is = nil; table-is = refl }
 
-  duplicate-grows : (a v : Text) (o : Option DuplicateMode) → Grows here (onDuplicate a v o here) (followOf here) [] [] [] []
+  duplicate-grows : (a v : Text) (o : Option DuplicateMode) → Grows here (onDuplicate a v o here) (followOf here) [] [] [] [] []
   unfolding onDuplicate report setModes followOf isShown keeps kindOf sectionsDrawn oldDrawn openDrawn
-  duplicate-grows a v none = record { follow = refl; sections-is = nil; timers-is = nil; inline-is = nil; old-is = nil }
-  duplicate-grows a v (some x) = record { follow = refl; sections-is = nil; timers-is = nil; inline-is = nil; old-is = nil }
+  duplicate-grows a v none = record { follow = refl; sections-is = nil; timers-is = nil; inline-is = nil; old-is = nil; table-is = refl }
+  duplicate-grows a v (some x) = record { follow = refl; sections-is = nil; timers-is = nil; inline-is = nil; old-is = nil; table-is = refl }
 
   key-grows : (key : Key) (a v : Text)
-      → Grows here (onKey key a v here) (metaFollow (keyMeta key (wordIn (valueText v) defineWords)) (followOf here)) [] [] [] (keyAdds key a v (followOf here))
+      → Grows here (onKey key a v here) (metaFollow (keyMeta key (wordIn (valueText v) defineWords)) (followOf here)) [] [] [] (keyAdds key a v (followOf here)) []
   unfolding onKey keyMeta keyAdds report storeMeta setMetadata metaFollow followOf isShown keeps kindOf sectionsDrawn oldDrawn openDrawn isEmpty
   key-grows (config defineKey) a v = define-grows a v (wordIn (valueText v) defineWords)
   key-grows (config duplicateKey) a v = duplicate-grows a v (wordIn (valueText v) duplicateWords)
-  key-grows unknownConfig a v = record { follow = refl; sections-is = nil; timers-is = nil; inline-is = nil; old-is = nil }
-  key-grows ordinary a v = record { follow = refl; sections-is = nil; timers-is = nil; inline-is = nil; old-is = span-more (record { start = a .span .start; end = v .span .end }) (md .old) }
+  key-grows unknownConfig a v = record { follow = refl; sections-is = nil; timers-is = nil; inline-is = nil; old-is = nil; table-is = refl }
+  key-grows ordinary a v = record { follow = refl; sections-is = nil; timers-is = nil; inline-is = nil; old-is = span-more (record { start = a .span .start; end = v .span .end }) (md .old); table-is = refl }
 
   meta-event : (a v : Text) → EventGrows text units flags (between (metaEvent a v)) here (onMetadata flags a v here)
-  unfolding onMetadata nextFollow betweenFollow metaOf sectionsAdd timersAdd inlineAdd oldAdd
+  unfolding onMetadata nextFollow betweenFollow metaOf sectionsAdd timersAdd inlineAdd quantitiesAdded oldAdd
   meta-event a v = inline-grows (key-grows (pick (hasModes flags) (keyOf (keyText a)) ordinary) a v)
 
 section-event : (text : List ℕ) (units : List NamedUnit) (flags : ℕ) (m : DefineMode) (d : DuplicateMode) (md : Metadata) (name : Option (List ℕ)) (content : List Block) (n : ℕ) (k : Kept) (t : Tables) (fs : List Finding) (x : Option Text) → EventGrows text units flags (between (sectionEvent x)) (made m d md name content n noBlock k t fs) (onSection x (made m d md name content n noBlock k t fs))
@@ -154,7 +155,7 @@ module _ (text : List ℕ) (units : List NamedUnit) (flags : ℕ) (m : DefineMod
   made-grows (between b) (textOpen ts) = tt
   made-grows (between b) (textModeOpen ts) = tt
   made-grows (inside i) o = inside-grows text units flags m d md name content n k t fs i o
-  made-grows (parserEvent s x) o = unfold report nextFollow withInline followOf isShown sectionsDrawn oldDrawn sectionsAdd timersAdd inlineAdd oldAdd in record { follow = refl; sections-is = nil; timers-is = nil; inline-is = nil; old-is = nil }
+  made-grows (parserEvent s x) o = unfold report nextFollow withInline followOf isShown sectionsDrawn oldDrawn sectionsAdd timersAdd inlineAdd quantitiesAdded oldAdd in record { follow = refl; sections-is = nil; timers-is = nil; inline-is = nil; old-is = nil; table-is = refl }
 
 module _ (text : List ℕ) (units : List NamedUnit) (flags : ℕ) where
   event-grows : (e : Event) (st : State) → StepGrows text units flags e st (onEvent text units flags e st)

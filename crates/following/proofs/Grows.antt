@@ -1,7 +1,7 @@
 -- What a line adds to each part of the page, and to the small state: blocks opened, filled and closed.
 use Prim.Native.Nat.{ℕ, suc}
 use mathlib.Core.Path.{_≡_, refl, sym, ap, _∙_}
-use mathlib.Core.List.{List, [], _∷_, _++_, append-nil, append-assoc}
+use mathlib.Core.List.{List, [], _∷_, _++_, reverseAux, append-nil, append-assoc}
 use mathlib.Core.Bool.{Bool, true, false, _||_, not}
 use mathlib.Core.Option.{Option, none, some}
 use lib.ListN.{length}
@@ -9,7 +9,7 @@ use Rattle.rules.specs.Basic.{pick, tab, lf, codes, joinBy, each, isEmpty, isSo
 use Rattle.rules.specs.Sheet.{lineOf, escape, escapeChar}
 use Rattle.rules.specs.Words.{DefineMode, DuplicateMode, modeAll, modeComponents, modeSteps, modeText}
 use Rattle.rules.specs.Finding.{Finding}
-use Rattle.rules.specs.Model.{Item, Block, stepBlock, textBlock, Section}
+use Rattle.rules.specs.Model.{InlineQuantity, Item, Block, stepBlock, textBlock, Section}
 use Rattle.rules.specs.Modes.{isComponents}
 use Rattle.rules.specs.State as state
 use Rattle.rules.specs.State.{State, Metadata, Kept, Tables, noBlock, stepOpen, textOpen, textModeOpen, setPlace, setBlock, setKept}
@@ -26,12 +26,13 @@ use Rattle.following.specs.Follow.{startFollow, closeFollow}
 use Rattle.following.proofs.Lists.{table-more}
 
 -- from the state before to the one after: what follows, and what each part of the page has more
-pub record Grows (st st' : State) (f : Follow) (sections timers inline old : List ℕ) : Type 0 where
+pub record Grows (st st' : State) (f : Follow) (sections timers inline old : List ℕ) (quantities : List InlineQuantity) : Type 0 where
   pub follow : followOf st' ≡ f
   pub sections-is : sectionsDrawn st' ≡ sectionsDrawn st ++ sections
   pub timers-is : tableLines timerLine (st' .tables .timers) ≡ tableLines timerLine (st .tables .timers) ++ timers
   pub inline-is : tableLines inlineLine (st' .tables .inline) ≡ tableLines inlineLine (st .tables .inline) ++ inline
   pub old-is : oldDrawn st' ≡ oldDrawn st ++ old
+  pub table-is : st' .tables .inline ≡ reverseAux quantities (st .tables .inline)
 
 -- nothing more
 pub nil : {x : List ℕ} → x ≡ x ++ []
@@ -101,7 +102,7 @@ module _ (m : DefineMode) (d : DuplicateMode) (md : Metadata) (name : Option (Li
   pub start-grows : (o : state.Open) → Fresh m n o
       → Grows (made m d md name content n noBlock k t fs) (setBlock o (made m d md name content n noBlock k t fs))
       (startFollow (kindOf o) (followOf (made m d md name content n noBlock k t fs)))
-      (startAdds (followOf (made m d md name content n noBlock k t fs)) (kindOf o)) [] [] []
+      (startAdds (followOf (made m d md name content n noBlock k t fs)) (kindOf o)) [] [] [] []
   unfolding setBlock setPlace followOf startFollow startAdds sectionsDrawn isShown oldDrawn kindOf keeps openDrawn
   start-grows o q =
       record {
@@ -114,12 +115,13 @@ module _ (m : DefineMode) (d : DuplicateMode) (md : Metadata) (name : Option (Li
         timers-is = nil;
         inline-is = nil;
         old-is = nil;
+        table-is = refl;
       }
 
   -- a block that is kept is closed: its last bytes are x
   pub keep-grows : (o : state.Open) (b : Block) (n' : ℕ) (x : List ℕ) → keeps (defineIn m) (kindOf o) ≡ true → ((i : ℕ) → blockLines i b ≡ openDrawn m n o ++ x)
       → Grows (made m d md name content n o k t fs) (keepBlock b n' (made m d md name content n o k t fs))
-      (closeFollow n' (followOf (made m d md name content n o k t fs))) x [] [] []
+      (closeFollow n' (followOf (made m d md name content n o k t fs))) x [] [] [] []
   unfolding setKept setPlace keepBlock followOf closeFollow sectionsDrawn isShown oldDrawn kindOf keeps openDrawn isEmpty
   keep-grows o b n' x q e =
       record {
@@ -131,4 +133,5 @@ module _ (m : DefineMode) (d : DuplicateMode) (md : Metadata) (name : Option (Li
         timers-is = nil;
         inline-is = nil;
         old-is = nil;
+        table-is = refl;
       }

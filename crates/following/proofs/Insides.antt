@@ -22,11 +22,13 @@ use Rattle.rules.specs.Pass.{closeStep, closeText, keepBlock, pushItems, itemsO
 use Rattle.rules.specs.Page.{tableLines, itemLine, blockLines, sectionLines, timerLine, inlineLine}
 use Rattle.rules.proofs.Basics.{pick-either}
 use Rattle.content.specs.Contents.{spell}
+use Rattle.step_lines.specs.Lines.{itemText, inlineText}
+use Rattle.step_lines.proofs.Lines.{item-more, text-items-more, quantities-more, pieces-more}
 use Rattle.model.specs.Memory.{defineOf}
 use Rattle.following.specs.declared.Follow.{Follow}
-use Rattle.following.specs.Drawn.{defineIn, kindOf, keeps, sectionLine, stepLine, textLead, linesFrom, openDrawn, isShown, sectionsDrawn, oldDrawn, followOf, componentItem, unlessComponents, insideAdds, sectionsAdd, timerAdds, timersAdd, inlineAdds, inlineAdd, oldAdd}
+use Rattle.following.specs.Drawn.{defineIn, kindOf, keeps, sectionLine, stepLine, textLead, openDrawn, isShown, sectionsDrawn, oldDrawn, followOf, componentItem, unlessComponents, insideAdds, sectionsAdd, timerAdds, timersAdd, inlineAdds, inlineAdd, quantitiesIn, quantitiesAdded, oldAdd}
 use Rattle.following.specs.Follow.{closeFollow, counterAfter, countComponent, componentFollow, insideFollow, nextFollow, withInline}
-use Rattle.following.proofs.Lists.{table-more, table-onto, items-more, item-more, text-more}
+use Rattle.following.proofs.Lists.{table-more}
 use Rattle.following.proofs.Grows.{Grows, nil, made, in-open, keep-grows}
 
 -- what a line adds where the pass goes on
@@ -34,7 +36,7 @@ module _ (text : List ℕ) (units : List NamedUnit) (flags : ℕ) where
   abbrev pub EventGrows : Event → State → State → Type 0
   EventGrows e st st' =
       Grows st st' (withInline (length (st' .tables .inline)) (nextFollow flags e (followOf st))) (sectionsAdd text units flags e (followOf st))
-      (timersAdd e (followOf st)) (inlineAdd units flags e (followOf st)) (oldAdd flags e (followOf st))
+      (timersAdd e (followOf st)) (inlineAdd units flags e (followOf st)) (oldAdd flags e (followOf st)) (quantitiesAdded units flags e (followOf st))
 
   abbrev pub StepGrows : Event → State → Step → Type 0
   StepGrows e st (next st') = EventGrows e st st'
@@ -42,26 +44,16 @@ module _ (text : List ℕ) (units : List NamedUnit) (flags : ℕ) where
 
 -- ---- the open block has more
 
-open-items : (m : DefineMode) (n : ℕ) (new is : List Item)
-    → openDrawn m n (stepOpen (reverseAux new is)) ≡ openDrawn m n (stepOpen is) ++ pick (isComponents (defineOf (defineIn m))) [] (linesFrom itemLine 0 new)
+open-more : (m : DefineMode) (n : ℕ) (is' is : List Item) (x : List ℕ) → tableLines itemLine is' ≡ tableLines itemLine is ++ x
+    → openDrawn m n (stepOpen is') ≡ openDrawn m n (stepOpen is) ++ pick (isComponents (defineOf (defineIn m))) [] x
 unfolding openDrawn isComponents defineOf defineIn
-open-items modeAll n new is = ap (λ (x : List ℕ). stepLine n ++ x) (items-more new is) ∙ sym (append-assoc (stepLine n) (tableLines itemLine is) (linesFrom itemLine 0 new))
-open-items modeComponents n new is = refl
-open-items modeSteps n new is = ap (λ (x : List ℕ). stepLine n ++ x) (items-more new is) ∙ sym (append-assoc (stepLine n) (tableLines itemLine is) (linesFrom itemLine 0 new))
-open-items modeText n new is = ap (λ (x : List ℕ). stepLine n ++ x) (items-more new is) ∙ sym (append-assoc (stepLine n) (tableLines itemLine is) (linesFrom itemLine 0 new))
-
-one-item : (i : Item) → linesFrom itemLine 0 (i ∷ []) ≡ itemLine 0 i
-unfolding linesFrom
-one-item i = append-nil (itemLine 0 i)
-
-open-item : (m : DefineMode) (n : ℕ) (i : Item) (is : List Item)
-    → openDrawn m n (stepOpen (i ∷ is)) ≡ openDrawn m n (stepOpen is) ++ pick (isComponents (defineOf (defineIn m))) [] (itemLine 0 i)
-open-item m n i is =
-    open-items m n (i ∷ []) is
-    ∙ ap (λ (x : List ℕ). openDrawn m n (stepOpen is) ++ pick (isComponents (defineOf (defineIn m))) [] x) (one-item i)
+open-more modeAll n is' is x q = ap (λ (l : List ℕ). stepLine n ++ l) q ∙ sym (append-assoc (stepLine n) (tableLines itemLine is) x)
+open-more modeComponents n is' is x q = refl
+open-more modeSteps n is' is x q = ap (λ (l : List ℕ). stepLine n ++ l) q ∙ sym (append-assoc (stepLine n) (tableLines itemLine is) x)
+open-more modeText n is' is x q = ap (λ (l : List ℕ). stepLine n ++ l) q ∙ sym (append-assoc (stepLine n) (tableLines itemLine is) x)
 
 text-lines : (t : List ℕ) (ts : List (List ℕ)) → textLead ++ spell (concat (reverse (t ∷ ts))) ≡ (textLead ++ spell (concat (reverse ts))) ++ spell t
-text-lines t ts = ap (λ (x : List ℕ). textLead ++ x) (text-more t ts) ∙ sym (append-assoc textLead (spell (concat (reverse ts))) (spell t))
+text-lines t ts = ap (λ (x : List ℕ). textLead ++ x) (pieces-more t ts) ∙ sym (append-assoc textLead (spell (concat (reverse ts))) (spell t))
 
 text-line : (i : ℕ) (t : List ℕ) → blockLines i (textBlock t) ≡ (textLead ++ spell t) ++ (lf ∷ [])
 unfolding blockLines lineOf joinBy each escape escapeChar textLead
@@ -94,11 +86,11 @@ module _ (text : List ℕ) (units : List NamedUnit) (flags : ℕ) (m : DefineMod
 
   -- the open step with one item more
   item-lines : (i : Item) (is : List Item) → sections-have ++ (line-has (stepOpen is) ++ (tableLines blockLines content ++ openDrawn m n (stepOpen (i ∷ is)))) ≡ (sections-have ++ (line-has (stepOpen is) ++ (tableLines blockLines content ++ openDrawn m n (stepOpen is)))) ++ pick (isComponents (defineOf (defineIn m))) [] (itemLine 0 i)
-  item-lines i is = in-open sections-have (line-has (stepOpen is)) (tableLines blockLines content) (openDrawn m n (stepOpen is)) (pick (isComponents (defineOf (defineIn m))) [] (itemLine 0 i)) (open-item m n i is)
+  item-lines i is = in-open sections-have (line-has (stepOpen is)) (tableLines blockLines content) (openDrawn m n (stepOpen is)) (pick (isComponents (defineOf (defineIn m))) [] (itemLine 0 i)) (open-more m n (i ∷ is) is (itemLine 0 i) (item-more i is))
 
   ingredient-grows : (c : Component) (i : Option Intermediate) (v : Made) (is : List Item)
       → EventGrows text units flags (inside (componentEvent (ingredientEvent c i))) (has (stepOpen is)) (pushComponent ingredient v is (has (stepOpen is)))
-  unfolding pushComponent pushItems itemOf pushed tableOf setTable report setBlock setPlace setKept setTables nextFollow insideFollow componentFollow countComponent withInline followOf isShown kindOf sectionsDrawn oldDrawn sectionsAdd insideAdds unlessComponents componentItem timersAdd timerAdds inlineAdd oldAdd
+  unfolding pushComponent pushItems itemOf pushed tableOf setTable report setBlock setPlace setKept setTables nextFollow insideFollow componentFollow countComponent withInline followOf isShown kindOf sectionsDrawn oldDrawn sectionsAdd insideAdds unlessComponents componentItem timersAdd timerAdds inlineAdd quantitiesAdded quantitiesIn oldAdd
   ingredient-grows c i v is =
       record {
         follow = ap (λ (x : ℕ). countComponent (ingredientEvent c i) (record { define = defineIn m; block = kindOf (stepOpen is); shown = isShown (has (stepOpen is)); counter = n; ingredients = x; cookware = length (t .cookware); timers = length (t .timers); inline = length (t .inline); old = followOf (has (stepOpen is)) .old })) (length-referred (v .refersTo) (t .ingredients));
@@ -106,11 +98,12 @@ module _ (text : List ℕ) (units : List NamedUnit) (flags : ℕ) (m : DefineMod
         timers-is = nil;
         inline-is = nil;
         old-is = nil;
+        table-is = refl;
       }
 
   cookware-grows : (c : Component) (v : Made) (is : List Item)
       → EventGrows text units flags (inside (componentEvent (cookwareEvent c))) (has (stepOpen is)) (pushComponent cookware v is (has (stepOpen is)))
-  unfolding pushComponent pushItems itemOf pushed tableOf setTable report setBlock setPlace setKept setTables nextFollow insideFollow componentFollow countComponent withInline followOf isShown kindOf sectionsDrawn oldDrawn sectionsAdd insideAdds unlessComponents componentItem timersAdd timerAdds inlineAdd oldAdd
+  unfolding pushComponent pushItems itemOf pushed tableOf setTable report setBlock setPlace setKept setTables nextFollow insideFollow componentFollow countComponent withInline followOf isShown kindOf sectionsDrawn oldDrawn sectionsAdd insideAdds unlessComponents componentItem timersAdd timerAdds inlineAdd quantitiesAdded quantitiesIn oldAdd
   cookware-grows c v is =
       record {
         follow = ap (λ (x : ℕ). countComponent (cookwareEvent c) (record { define = defineIn m; block = kindOf (stepOpen is); shown = isShown (has (stepOpen is)); counter = n; ingredients = length (t .ingredients); cookware = x; timers = length (t .timers); inline = length (t .inline); old = followOf (has (stepOpen is)) .old })) (length-referred (v .refersTo) (t .cookware));
@@ -118,10 +111,11 @@ module _ (text : List ℕ) (units : List NamedUnit) (flags : ℕ) (m : DefineMod
         timers-is = nil;
         inline-is = nil;
         old-is = nil;
+        table-is = refl;
       }
 
   timer-grows : (s : Span) (a : Option Text) (q : Option Quantity) (is : List Item) → EventGrows text units flags (inside (componentEvent (timerEvent s a q))) (has (stepOpen is)) (pushTimer units flags a q is (has (stepOpen is)))
-  unfolding pushTimer pushItems report setBlock setPlace setKept setTimers setTables nextFollow insideFollow componentFollow countComponent withInline followOf isShown kindOf sectionsDrawn oldDrawn sectionsAdd insideAdds unlessComponents componentItem timersAdd timerAdds inlineAdd oldAdd
+  unfolding pushTimer pushItems report setBlock setPlace setKept setTimers setTables nextFollow insideFollow componentFollow countComponent withInline followOf isShown kindOf sectionsDrawn oldDrawn sectionsAdd insideAdds unlessComponents componentItem timersAdd timerAdds inlineAdd quantitiesAdded quantitiesIn oldAdd
   timer-grows s a q is =
       record {
         follow = refl;
@@ -129,6 +123,7 @@ module _ (text : List ℕ) (units : List NamedUnit) (flags : ℕ) (m : DefineMod
         timers-is = table-more timerLine (timerOf a q) (t .timers);
         inline-is = nil;
         old-is = nil;
+        table-is = refl;
       }
 
   chained-grows : (e : Event) (v : Made) (is : List Item) (after : State) → EventGrows text units flags e (has (stepOpen is)) after → StepGrows text units flags e (has (stepOpen is)) (unlessChained v after)
@@ -152,19 +147,20 @@ module _ (text : List ℕ) (units : List NamedUnit) (flags : ℕ) (m : DefineMod
 
   pieces-grows : isComponents (defineOf (defineIn m)) ≡ false → (x : Text) (is : List Item)
       → EventGrows text units flags (inside (textEvent x)) (has (stepOpen is)) (pushPieces (pieces units flags (x .content)) is (has (stepOpen is)))
-  unfolding pushPieces pushItems setInline setTables setBlock setPlace setKept nextFollow insideFollow withInline followOf isShown kindOf sectionsDrawn oldDrawn sectionsAdd insideAdds unlessComponents timersAdd inlineAdd inlineAdds oldAdd
+  unfolding pushPieces pushItems setInline setTables setBlock setPlace setKept nextFollow insideFollow withInline followOf isShown kindOf sectionsDrawn oldDrawn sectionsAdd insideAdds unlessComponents timersAdd inlineAdd quantitiesAdded quantitiesIn inlineAdds oldAdd
   pieces-grows c x is =
       record {
         follow = refl;
-        sections-is = in-open sections-have (line-has (stepOpen is)) (tableLines blockLines content) (openDrawn m n (stepOpen is)) _ (open-items m n (itemsOf (length (t .inline)) (pieces units flags (x .content))) is);
+        sections-is = in-open sections-have (line-has (stepOpen is)) (tableLines blockLines content) (openDrawn m n (stepOpen is)) _ (open-more m n (reverseAux (itemsOf (length (t .inline)) (pieces units flags (x .content))) is) is (itemText (length (t .inline)) (pieces units flags (x .content))) (text-items-more (length (t .inline)) (pieces units flags (x .content)) is));
         timers-is = nil;
-        inline-is = table-onto inlineLine (quantitiesOf (pieces units flags (x .content))) (t .inline) ∙ ap (λ (b : Bool). tableLines inlineLine (t .inline) ++ pick b [] (linesFrom inlineLine (length (t .inline)) (quantitiesOf (pieces units flags (x .content))))) (sym c);
+        inline-is = quantities-more (pieces units flags (x .content)) (t .inline) ∙ ap (λ (b : Bool). tableLines inlineLine (t .inline) ++ pick b [] (inlineText (length (t .inline)) (pieces units flags (x .content)))) (sym c);
         old-is = nil;
+        table-is = ap (λ (b : Bool). reverseAux (pick b [] (quantitiesOf (pieces units flags (x .content)))) (t .inline)) (sym c);
       }
 
   -- texts in text blocks, and what stands for them in text mode
   text-mode-text : (x : Text) (ts : List (List ℕ)) → EventGrows text units flags (inside (textEvent x)) (has (textModeOpen ts)) (setBlock (textModeOpen (x .content ∷ ts)) (has (textModeOpen ts)))
-  unfolding setBlock setPlace nextFollow insideFollow withInline followOf isShown kindOf sectionsDrawn oldDrawn sectionsAdd insideAdds timersAdd inlineAdd inlineAdds oldAdd openDrawn
+  unfolding setBlock setPlace nextFollow insideFollow withInline followOf isShown kindOf sectionsDrawn oldDrawn sectionsAdd insideAdds timersAdd inlineAdd quantitiesAdded quantitiesIn inlineAdds oldAdd openDrawn
   text-mode-text x ts =
       record {
         follow = refl;
@@ -172,10 +168,11 @@ module _ (text : List ℕ) (units : List NamedUnit) (flags : ℕ) (m : DefineMod
         timers-is = nil;
         inline-is = nil;
         old-is = nil;
+        table-is = refl;
       }
 
   text-mode-component : (c : ComponentEvent) (ts : List (List ℕ)) → EventGrows text units flags (inside (componentEvent c)) (has (textModeOpen ts)) (componentInText text (componentSpan c) ts (has (textModeOpen ts)))
-  unfolding componentInText report setBlock setPlace nextFollow insideFollow componentFollow withInline followOf isShown kindOf sectionsDrawn oldDrawn sectionsAdd insideAdds timersAdd timerAdds inlineAdd inlineAdds oldAdd openDrawn
+  unfolding componentInText report setBlock setPlace nextFollow insideFollow componentFollow withInline followOf isShown kindOf sectionsDrawn oldDrawn sectionsAdd insideAdds timersAdd timerAdds inlineAdd quantitiesAdded quantitiesIn inlineAdds oldAdd openDrawn
   text-mode-component c ts =
       record {
         follow = refl;
@@ -183,6 +180,7 @@ module _ (text : List ℕ) (units : List NamedUnit) (flags : ℕ) (m : DefineMod
         timers-is = no-timer c;
         inline-is = nil;
         old-is = nil;
+        table-is = refl;
       }
     where
       no-timer : (c : ComponentEvent) → tableLines timerLine (t .timers) ≡ tableLines timerLine (t .timers) ++ timersAdd (inside (componentEvent c)) (followOf (has (textModeOpen ts)))
@@ -191,7 +189,7 @@ module _ (text : List ℕ) (units : List NamedUnit) (flags : ℕ) (m : DefineMod
       no-timer (timerEvent s a q) = nil
 
   text-block-text : (x : Text) (ts : List (List ℕ)) → EventGrows text units flags (inside (textEvent x)) (has (textOpen ts)) (setBlock (textOpen (x .content ∷ ts)) (has (textOpen ts)))
-  unfolding setBlock setPlace nextFollow insideFollow withInline followOf isShown kindOf sectionsDrawn oldDrawn sectionsAdd insideAdds timersAdd inlineAdd inlineAdds oldAdd openDrawn
+  unfolding setBlock setPlace nextFollow insideFollow withInline followOf isShown kindOf sectionsDrawn oldDrawn sectionsAdd insideAdds timersAdd inlineAdd quantitiesAdded quantitiesIn inlineAdds oldAdd openDrawn
   text-block-text x ts =
       record {
         follow = refl;
@@ -199,30 +197,31 @@ module _ (text : List ℕ) (units : List NamedUnit) (flags : ℕ) (m : DefineMod
         timers-is = nil;
         inline-is = nil;
         old-is = nil;
+        table-is = refl;
       }
 
 module _ (text : List ℕ) (units : List NamedUnit) (flags : ℕ) (m : DefineMode) (d : DuplicateMode) (md : Metadata) (name : Option (List ℕ)) (content : List Block) (n : ℕ) (k : Kept) (t : Tables) (fs : List Finding) (ts : List (List ℕ)) where
   text-end : EventGrows text units flags (inside (endEvent textKind)) (made m d md name content n (textOpen ts) k t fs) (closeText ts (made m d md name content n (textOpen ts) k t fs))
-  unfolding closeText keeps kindOf nextFollow insideFollow counterAfter closeFollow withInline followOf sectionsAdd insideAdds timersAdd inlineAdd oldAdd openDrawn keepBlock setKept setPlace
+  unfolding closeText keeps kindOf nextFollow insideFollow counterAfter closeFollow withInline followOf sectionsAdd insideAdds timersAdd inlineAdd quantitiesAdded quantitiesIn oldAdd openDrawn keepBlock setKept setPlace
   text-end = keep-grows m d md name content n k t fs (textOpen ts) (textBlock (concat (reverse ts))) n (lf ∷ []) refl (λ i. text-line i (concat (reverse ts)))
 
   mode-end : (b : BlockKind) → EventGrows text units flags (inside (endEvent b)) (made m d md name content n (textModeOpen ts) k t fs) (closeText ts (made m d md name content n (textModeOpen ts) k t fs))
-  unfolding closeText keeps kindOf nextFollow insideFollow counterAfter closeFollow withInline followOf sectionsAdd insideAdds timersAdd inlineAdd oldAdd openDrawn keepBlock setKept setPlace
+  unfolding closeText keeps kindOf nextFollow insideFollow counterAfter closeFollow withInline followOf sectionsAdd insideAdds timersAdd inlineAdd quantitiesAdded quantitiesIn oldAdd openDrawn keepBlock setKept setPlace
   mode-end b = keep-grows m d md name content n k t fs (textModeOpen ts) (textBlock (concat (reverse ts))) n (lf ∷ []) refl (λ i. text-line i (concat (reverse ts)))
 
 step-text : (text : List ℕ) (units : List NamedUnit) (flags : ℕ) (m : DefineMode) (d : DuplicateMode) (md : Metadata) (name : Option (List ℕ)) (content : List Block) (n : ℕ) (k : Kept) (t : Tables) (fs : List Finding) (x : Text) (is : List Item)
     → EventGrows text units flags (inside (textEvent x)) (made m d md name content n (stepOpen is) k t fs) (textInStep units flags x is (made m d md name content n (stepOpen is) k t fs))
 unfolding textInStep isComponents defineOf defineIn
 step-text text units flags modeAll d md name content n k t fs x is = pieces-grows text units flags modeAll d md name content n k t fs refl x is
-step-text text units flags modeComponents d md name content n k t fs x is = unfold report nextFollow insideFollow withInline followOf isShown kindOf sectionsDrawn oldDrawn sectionsAdd insideAdds unlessComponents timersAdd inlineAdd inlineAdds oldAdd in record { follow = refl; sections-is = nil; timers-is = nil; inline-is = nil; old-is = nil }
+step-text text units flags modeComponents d md name content n k t fs x is = unfold report nextFollow insideFollow withInline followOf isShown kindOf sectionsDrawn oldDrawn sectionsAdd insideAdds unlessComponents timersAdd inlineAdd quantitiesAdded quantitiesIn inlineAdds oldAdd in record { follow = refl; sections-is = nil; timers-is = nil; inline-is = nil; old-is = nil; table-is = refl }
 step-text text units flags modeSteps d md name content n k t fs x is = pieces-grows text units flags modeSteps d md name content n k t fs refl x is
 step-text text units flags modeText d md name content n k t fs x is = pieces-grows text units flags modeText d md name content n k t fs refl x is
 
 step-end : (text : List ℕ) (units : List NamedUnit) (flags : ℕ) (m : DefineMode) (d : DuplicateMode) (md : Metadata) (name : Option (List ℕ)) (content : List Block) (n : ℕ) (k : Kept) (t : Tables) (fs : List Finding) (is : List Item)
     → EventGrows text units flags (inside (endEvent stepKind)) (made m d md name content n (stepOpen is) k t fs) (closeStep is (made m d md name content n (stepOpen is) k t fs))
-unfolding closeStep isComponents defineOf defineIn keeps nextFollow insideFollow counterAfter closeFollow withInline followOf isShown kindOf sectionsDrawn oldDrawn sectionsAdd insideAdds timersAdd inlineAdd inlineAdds oldAdd openDrawn blockLines stepLine setBlock setPlace keepBlock setKept
+unfolding closeStep isComponents defineOf defineIn keeps nextFollow insideFollow counterAfter closeFollow withInline followOf isShown kindOf sectionsDrawn oldDrawn sectionsAdd insideAdds timersAdd inlineAdd quantitiesAdded quantitiesIn inlineAdds oldAdd openDrawn blockLines stepLine setBlock setPlace keepBlock setKept
 step-end text units flags modeAll d md name content n k t fs is = keep-grows modeAll d md name content n k t fs (stepOpen is) (stepBlock n is) (suc n) [] refl (λ i. nil)
-step-end text units flags modeComponents d md name content n k t fs is = record { follow = refl; sections-is = nil; timers-is = nil; inline-is = nil; old-is = nil }
+step-end text units flags modeComponents d md name content n k t fs is = record { follow = refl; sections-is = nil; timers-is = nil; inline-is = nil; old-is = nil; table-is = refl }
 step-end text units flags modeSteps d md name content n k t fs is = keep-grows modeSteps d md name content n k t fs (stepOpen is) (stepBlock n is) (suc n) [] refl (λ i. nil)
 step-end text units flags modeText d md name content n k t fs is = keep-grows modeText d md name content n k t fs (stepOpen is) (stepBlock n is) (suc n) [] refl (λ i. nil)
 

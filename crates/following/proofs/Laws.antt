@@ -7,7 +7,8 @@ use mathlib.Core.Option.{Option, none, some}
 use native.Mathlib.Omega.{arith}
 use lib.Dec.{ltb}
 use borrow.Author.Tests.{ne-eqb, ltb-true}
-use lib.ListN.{length}
+use lib.ListN.{length, length-reverseAux}
+use native.Mathlib.Nat.{add-comm}
 use Rattle.rules.specs.Basic.{pick, codes, tab, lf, comma, isEmpty, isSome, joinBy, each, digits, decimal}
 use Rattle.rules.specs.Sheet.{escape, escapeChar, lineOf}
 use Rattle.rules.specs.Words.{DefineMode, DuplicateMode}
@@ -25,7 +26,7 @@ use Rattle.rules.proofs.Basics.{pick-either, no-truth}
 use Rattle.following.specs.declared.Part.{Part}
 use Rattle.following.specs.declared.Part.the-variants.{Sections, Timers, Inline, Old}
 use Rattle.following.specs.declared.Follow.{Follow}
-use Rattle.following.specs.Drawn.{defineIn, kindOf, keeps, openDrawn, isShown, sectionsDrawn, oldDrawn, drawn, oldLine, followOf, firstFollow, sectionsAdd, timersAdd, inlineAdd, oldAdd, added, appended}
+use Rattle.following.specs.Drawn.{defineIn, kindOf, keeps, openDrawn, isShown, sectionsDrawn, oldDrawn, drawn, oldLine, followOf, firstFollow, sectionsAdd, timersAdd, inlineAdd, quantitiesAdded, oldAdd, added, appended}
 use Rattle.following.specs.Follow.{Follows, nextFollow, withInline}
 use Rattle.following.proofs.Lists.{table-more}
 use Rattle.following.proofs.Grows.{Grows, made}
@@ -68,6 +69,16 @@ module _ (text : List ℕ) (units : List NamedUnit) (flags : ℕ) where
             w ∙ (ap (λ (x : Follow). withInline n (nextFollow flags e x)) (g .is)
             ∙ (ap (λ (x : ℕ). withInline x (nextFollow flags e (followOf st))) (sym l) ∙ sym (line-grows text units flags e st st' q .follow)));
       }
+
+  -- how many inline quantities there are then
+  pub inline-next : (e : Event) {st : State} (st' : State) {f : Follow} → onEvent text units flags e st ≡ next st' → Follows st f
+      → length (st' .tables .inline) ≡ f .inline + length (quantitiesAdded units flags e f)
+  unfolding followOf
+  inline-next e {st} st' {f} q g =
+      ap length (line-grows text units flags e st st' q .table-is)
+      ∙ (length-reverseAux (quantitiesAdded units flags e (followOf st)) (st .tables .inline)
+      ∙ (add-comm (length (quantitiesAdded units flags e (followOf st))) (length (st .tables .inline))
+      ∙ ap (λ (x : Follow). x .inline + length (quantitiesAdded units flags e x)) (sym (g .is))))
 
 -- ---- at the end
 

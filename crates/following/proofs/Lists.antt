@@ -1,16 +1,13 @@
--- Tables with more entries, spans and texts with one more.
-use Prim.Native.Nat.{ℕ, suc}
+-- Tables and spans with one more entry.
+use Prim.Native.Nat.{ℕ}
 use mathlib.Core.Path.{_≡_, refl, sym, ap, _∙_}
-use mathlib.Core.List.{List, [], _∷_, _++_, reverse, reverseAux, append-nil, append-assoc, reverse-cons}
+use mathlib.Core.List.{List, [], _∷_, _++_, reverse, append-nil, append-assoc, reverse-cons}
 use mathlib.Core.Bool.{Bool, true, false, not}
 use lib.ListN.{length}
-use Rattle.rules.specs.Basic.{pick, comma, joinBy, each, concat, isEmpty}
+use Rattle.rules.specs.Basic.{pick, comma, joinBy, each, isEmpty}
 use Rattle.rules.specs.Event.{Span}
-use Rattle.rules.specs.Model.{Item}
-use Rattle.rules.specs.Page.{linesOnto, tableLines, itemLine, spanWord}
-use Rattle.content.specs.Contents.{spell}
-use Rattle.content.proofs.Spells.{spell-append}
-use Rattle.following.specs.Drawn.{linesFrom, spanAdds}
+use Rattle.rules.specs.Page.{linesOnto, tableLines, spanWord}
+use Rattle.following.specs.Drawn.{spanAdds}
 
 -- ---- tables
 
@@ -26,28 +23,6 @@ module _ {A : Type 0} (line : ℕ → A → List ℕ) where
   pub table-more : (a : A) (t : List A) → tableLines line (a ∷ t) ≡ tableLines line t ++ line (length t) a
   unfolding linesOnto tableLines
   table-more a t = onto-rest t (line (length t) a ++ []) ∙ ap (λ (x : List ℕ). tableLines line t ++ x) (append-nil (line (length t) a))
-
-  -- more entries, given in their order
-  pub table-onto : (new t : List A) → tableLines line (reverseAux new t) ≡ tableLines line t ++ linesFrom line (length t) new
-  unfolding linesFrom
-  table-onto [] t = sym (append-nil (tableLines line t))
-  table-onto (a ∷ new) t =
-      table-onto new (a ∷ t)
-      ∙ (ap (λ (x : List ℕ). x ++ linesFrom line (suc (length t)) new) (table-more a t)
-      ∙ append-assoc (tableLines line t) (line (length t) a) (linesFrom line (suc (length t)) new))
-
--- an item's line does not say its place
-pub items-from : (n : ℕ) (is : List Item) → linesFrom itemLine n is ≡ linesFrom itemLine 0 is
-unfolding linesFrom itemLine
-items-from n [] = refl
-items-from n (i ∷ is) = ap (λ (x : List ℕ). itemLine 0 i ++ x) (items-from (suc n) is ∙ sym (items-from 1 is))
-
-pub items-more : (new is : List Item) → tableLines itemLine (reverseAux new is) ≡ tableLines itemLine is ++ linesFrom itemLine 0 new
-items-more new is = table-onto itemLine new is ∙ ap (λ (x : List ℕ). tableLines itemLine is ++ x) (items-from (length is) new)
-
-pub item-more : (i : Item) (is : List Item) → tableLines itemLine (i ∷ is) ≡ tableLines itemLine is ++ itemLine 0 i
-unfolding itemLine
-item-more i is = table-more itemLine i is
 
 -- ---- the spans of finding 3
 
@@ -86,13 +61,3 @@ span-more s ss =
     ∙ (ap (joinBy comma) (each-append spanWord (reverse ss) (s ∷ []))
     ∙ (joined (each spanWord (reverse ss)) (spanWord s)
     ∙ ap (λ (b : Bool). joinBy comma (each spanWord (reverse ss)) ++ pick (not b) (comma ∷ spanWord s) (spanWord s)) (empty-each spanWord (reverse ss) ∙ empty-reverse ss)))
-
--- ---- the texts of a block
-
-concat-more : (ts : List (List ℕ)) (t : List ℕ) → concat (ts ++ (t ∷ [])) ≡ concat ts ++ t
-unfolding concat
-concat-more [] t = append-nil t
-concat-more (u ∷ ts) t = ap (λ (l : List ℕ). u ++ l) (concat-more ts t) ∙ sym (append-assoc u (concat ts) t)
-
-pub text-more : (t : List ℕ) (ts : List (List ℕ)) → spell (concat (reverse (t ∷ ts))) ≡ spell (concat (reverse ts)) ++ spell t
-text-more t ts = ap (λ (l : List (List ℕ)). spell (concat l)) (reverse-cons t ts) ∙ (ap (λ (l : List ℕ). spell l) (concat-more (reverse ts) t) ∙ spell-append (concat (reverse ts)) t)

@@ -1,6 +1,6 @@
 -- What of the page has been drawn when the walk stands in a state, and what a line adds to it: the parts of the page that
 -- work memory does not hold. Lists of a state have the newest first.
-use Prim.Native.Nat.{ℕ, suc}
+use Prim.Native.Nat.{ℕ}
 use mathlib.Core.List.{List, [], _∷_, _++_, reverse}
 use mathlib.Core.Bool.{Bool, true, false, _||_, not}
 use mathlib.Core.Option.{Option, none, some}
@@ -10,12 +10,12 @@ use Rattle.rules.specs.Sheet.{lineOf}
 use Rattle.rules.specs.Words.{BlockKind, stepKind, textKind, DefineMode, modeAll, modeComponents, modeSteps, modeText}
 use Rattle.rules.specs.Event.{Span, Text, Between, metaEvent, sectionEvent, startEvent, ComponentEvent, ingredientEvent, cookwareEvent, timerEvent, Inside, endEvent, textEvent, componentEvent, Event, between, inside, parserEvent, componentSpan}
 use Rattle.rules.specs.Units.{NamedUnit}
-use Rattle.rules.specs.Model.{trimmedText, Item, ingredientItem, cookwareItem, timerItem, Section}
+use Rattle.rules.specs.Model.{trimmedText, InlineQuantity, Item, ingredientItem, cookwareItem, timerItem, Section}
 use Rattle.rules.specs.Modes.{isComponents, isText, hasModes, Key, config, unknownConfig, ordinary, keyOf, keyText}
 use Rattle.rules.specs.State as state
 use Rattle.rules.specs.State.{State, noBlock, stepOpen, textOpen, textModeOpen}
 use Rattle.rules.specs.Components.{timerOf}
-use Rattle.rules.specs.Pass.{itemsOf, quantitiesOf, pieces, sourceText}
+use Rattle.rules.specs.Pass.{quantitiesOf, pieces, sourceText}
 use Rattle.rules.specs.Page.{tableLines, optional, itemLine, blockLines, sectionLines, timerLine, inlineLine, spanWord}
 use Rattle.content.specs.Contents.{spell}
 use Rattle.model.specs.Memory.{defineOf}
@@ -23,6 +23,7 @@ use Rattle.model.specs.declared.Define.{Define}
 use Rattle.model.specs.declared.Define.the-variants as define
 use Rattle.model.specs.declared.Open.{Open}
 use Rattle.model.specs.declared.Open.the-variants as block
+use Rattle.step_lines.specs.Lines.{itemText, inlineText}
 use Rattle.following.specs.declared.Part.{Part}
 use Rattle.following.specs.declared.Part.the-variants.{Sections, Timers, Inline, Old}
 use Rattle.following.specs.declared.Follow.{Follow}
@@ -59,12 +60,6 @@ stepLine n = lineOf (codes "step" ∷ decimal n ∷ [])
 -- a text block's line before its text
 unfoldable pub textLead : List ℕ
 textLead = codes "text" ++ (tab ∷ [])
-
--- the lines of some entries in their order, the first of index n
-module _ {A : Type 0} (line : ℕ → A → List ℕ) where
-  unfoldable pub linesFrom : ℕ → List A → List ℕ
-  linesFrom n [] = []
-  linesFrom n (a ∷ more) = line n a ++ linesFrom (suc n) more
 
 -- ---- what has been drawn
 
@@ -161,7 +156,7 @@ module _ (text : List ℕ) (units : List NamedUnit) (flags : ℕ) where
   unfoldable pub insideAdds : Inside → Open → Follow → List ℕ
   insideAdds i block.Nothing f = []
   insideAdds (endEvent k) block.Step f = []
-  insideAdds (textEvent t) block.Step f = unlessComponents f (linesFrom itemLine 0 (itemsOf (f .inline) (pieces units flags (t .content))))
+  insideAdds (textEvent t) block.Step f = unlessComponents f (itemText (f .inline) (pieces units flags (t .content)))
   insideAdds (componentEvent c) block.Step f = unlessComponents f (itemLine 0 (componentItem c f))
   insideAdds (endEvent k) block.Text f = lf ∷ []
   insideAdds (textEvent t) block.Text f = spell (t .content)
@@ -197,7 +192,7 @@ module _ (units : List NamedUnit) (flags : ℕ) where
   -- the quantities in a step's text
   unfoldable pub inlineAdds : Text → Open → Follow → List ℕ
   inlineAdds t block.Nothing f = []
-  inlineAdds t block.Step f = unlessComponents f (linesFrom inlineLine (f .inline) (quantitiesOf (pieces units flags (t .content))))
+  inlineAdds t block.Step f = unlessComponents f (inlineText (f .inline) (pieces units flags (t .content)))
   inlineAdds t block.Text f = []
   inlineAdds t block.TextMode f = []
 
@@ -207,6 +202,20 @@ module _ (units : List NamedUnit) (flags : ℕ) where
   inlineAdd (inside (textEvent t)) f = inlineAdds t (f .block) f
   inlineAdd (inside (componentEvent c)) f = []
   inlineAdd (parserEvent s n) f = []
+
+  -- they themselves
+  unfoldable pub quantitiesIn : Text → Open → Follow → List InlineQuantity
+  quantitiesIn t block.Nothing f = []
+  quantitiesIn t block.Step f = pick (isComponents (defineOf (f .define))) [] (quantitiesOf (pieces units flags (t .content)))
+  quantitiesIn t block.Text f = []
+  quantitiesIn t block.TextMode f = []
+
+  unfoldable pub quantitiesAdded : Event → Follow → List InlineQuantity
+  quantitiesAdded (between b) f = []
+  quantitiesAdded (inside (endEvent k)) f = []
+  quantitiesAdded (inside (textEvent t)) f = quantitiesIn t (f .block) f
+  quantitiesAdded (inside (componentEvent c)) f = []
+  quantitiesAdded (parserEvent s n) f = []
 
 -- the span of a line that counts for finding 3, after a comma where it is not the first
 unfoldable pub spanAdds : Bool → Span → List ℕ
