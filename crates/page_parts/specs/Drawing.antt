@@ -36,3 +36,17 @@ pub record ComponentDrawn (text : List ℕ) (c : ComponentEvent) (f : Follow) (o
 pub record TextDrawn (units : List NamedUnit) (flags : ℕ) (line : List ℕ) (v : TextView) (f : Follow) (o₀ o : List ℕ) (r : TextItems) : Type 0 where
   pub put : (text : List ℕ) → Put (insideAdds text units flags (rules.textEvent (textIn line v)) (f .block) f) o₀ 0 o (r .count)
   pub inline : r .inline ≡ length (quantitiesAdded units flags (rules.inside (rules.textEvent (textIn line v))) f)
+
+-- a line between blocks
+pub record BetweenDrawn (line : List ℕ) (b : Between) (f : Follow) (o₀ o : List ℕ) (r : ℕ) : Type 0 where
+  pub at : (text : List ℕ) (units : List NamedUnit) (flags : ℕ) → Put (sectionsAdd text units flags (rules.between (betweenIn line b)) f) o₀ 0 o r
+
+-- a line in a block
+pub record InsideDrawn (text : List ℕ) (units : List NamedUnit) (flags : ℕ) (line : List ℕ) (i : Inside) (f : Follow) (o₀ o : List ℕ) (r : TextItems) : Type 0 where
+  pub put : Put (insideAdds text units flags (insideIn line i) (f .block) f) o₀ 0 o (r .count)
+  pub inline : r .inline ≡ length (quantitiesAdded units flags (rules.inside (insideIn line i)) f)
+
+-- every line: its bytes, and how many inline quantities it adds
+pub record SectionsDrawn (text : List ℕ) (units : List NamedUnit) (flags : ℕ) (line : List ℕ) (e : EventView) (f : Follow) (o₀ o : List ℕ) (r : TextItems) : Type 0 where
+  pub put : Put (sectionsAdd text units flags (eventIn line e) f) o₀ 0 o (r .count)
+  pub inline : r .inline ≡ length (quantitiesAdded units flags (eventIn line e) f)

@@ -5,20 +5,23 @@ ghost use mathlib.Core.Bool.{true};
 ghost use mathlib.Core.List.{[]};
 ghost use Prim.Native.Nat.{_+_, _^_, _<_};
 ghost use lib.ListN.{length};
-ghost use Rattle.rules.specs.Basic.{pick, isSome, onSome};
+ghost use Rattle.rules.specs.Basic.{pick, all, isSome, onSome};
 ghost use Rattle.rules.specs.Utf8.{isUtf8};
-ghost use Rattle.rules.specs.Event.{componentSpan};
+ghost use Rattle.rules.specs.Event.{componentSpan, spansOf, inside};
 ghost use Rattle.rules.specs.Units.{readUnits};
 ghost use Rattle.rules.specs.Answer.{unitsOr, isGoodSpan};
 ghost use Rattle.rules.specs.Model.{trimmedText};
 ghost use Rattle.unicode.specs.Tables.{unicodeTables};
 ghost use Rattle.output.specs.Put.{Put};
 ghost use Rattle.parts.specs.Views.{optTextIn};
-ghost use Rattle.events.specs.Views.{componentEventIn};
-ghost use Rattle.known_events.specs.Fields.{TextField, OptTextField};
+ghost use Rattle.events.specs.Views.{componentEventIn, insideIn, eventIn};
+ghost use Rattle.known_events.specs.Fields.{TextField, OptTextField, BetweenFields, InsideFields, EventFields};
 ghost use Rattle.following.specs.Drawn.{lead, startAdds, sectionLine};
-ghost use Rattle.page_parts.specs.Drawing.{ItemDrawn, EndDrawn, ComponentDrawn, TextDrawn};
+ghost use Rattle.page_parts.specs.Drawing.{ItemDrawn, EndDrawn, ComponentDrawn, TextDrawn, BetweenDrawn, InsideDrawn, SectionsDrawn};
+use events::Between;
 use events::ComponentEvent;
+use events::EventView;
+use events::Inside;
 use following::Follow;
 use model::Open;
 use parts::OptText;
@@ -159,5 +162,74 @@ pub fn text_line(
             let count = step_lines::text_piece(rest, line, body);
             TextItems { count, inline: 0 }
         }
+    }
+}
+
+fn between_line(t: &[u32], rest: &mut [u8], line: &[u8], b: Between, f: Follow) -> usize
+    requires { ⌜ (now t ≡ unicodeTables) × BetweenFields (now line) b ⌝ }
+    ensures { λ r. ⌜ BetweenDrawn (now (line .entry)) b f (now (rest .entry)) (now (rest .exit)) r ⌝ }
+{
+    match b {
+        Between::Meta(key, value) => 0,
+        Between::Section(name) => named_line(t, rest, line, name),
+        Between::Start(kind) => {
+            let define = f.define;
+            let o = following::opens_as(define, kind);
+            start_line(rest, f, o)
+        }
+    }
+}
+
+fn inside_line(
+    t: &[u32],
+    text: &[u8],
+    units: &[u8],
+    flags: u32,
+    rest: &mut [u8],
+    line: &[u8],
+    i: Inside,
+    f: Follow,
+) -> TextItems
+    requires { ⌜ (now t ≡ unicodeTables) × (isUtf8 (now text) ≡ true) × (isSome (readUnits (now units)) ≡ true) × InsideFields (now line) i × (all (isGoodSpan (now text) (length (now text))) (spansOf (inside (insideIn (now line) i))) ≡ true) × (f .inline + length (now line) < 2 ^ 32) ⌝ }
+    ensures { λ r. ⌜ InsideDrawn (now (text .entry)) (unitsOr (readUnits (now (units .entry)))) flags (now (line .entry)) i f (now (rest .entry)) (now (rest .exit)) r ⌝ }
+{
+    match i {
+        Inside::End(kind) => {
+            let b = f.block;
+            let count = end_line(rest, b);
+            TextItems { count, inline: 0 }
+        }
+        Inside::Text(body) => text_line(t, units, flags, rest, line, body, f),
+        Inside::Component(c) => {
+            let count = component_line(rest, text, c, f);
+            TextItems { count, inline: 0 }
+        }
+    }
+}
+
+// What a line adds to the page's sections, and how many inline quantities it adds.
+pub fn sections_line(
+    t: &[u32],
+    text: &[u8],
+    units: &[u8],
+    flags: u32,
+    rest: &mut [u8],
+    line: &[u8],
+    e: EventView,
+    f: Follow,
+) -> TextItems
+    requires { ⌜ (now t ≡ unicodeTables) × (isUtf8 (now text) ≡ true) × (isSome (readUnits (now units)) ≡ true) × EventFields (now line) e × (all (isGoodSpan (now text) (length (now text))) (spansOf (eventIn (now line) e)) ≡ true) × (f .inline + length (now line) < 2 ^ 32) ⌝ }
+    ensures { λ r. ⌜ SectionsDrawn (now (text .entry)) (unitsOr (readUnits (now (units .entry)))) flags (now (line .entry)) e f (now (rest .entry)) (now (rest .exit)) r ⌝ }
+{
+    match e {
+        EventView::Between(b) => {
+            let count = between_line(t, rest, line, b, f);
+            TextItems { count, inline: 0 }
+        }
+        EventView::Inside(i) => inside_line(t, text, units, flags, rest, line, i, f),
+        EventView::Finding(s, n) => TextItems {
+            count: 0,
+            inline: 0,
+        },
     }
 }
