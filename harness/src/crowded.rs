@@ -15,6 +15,7 @@ const LETTERS: &[&[&str]] = &[
     &["ж", "Ж", "я", "Я"],
     &["米", "水", "鹽"],
     &["x", " ", "\\", "\t", "\n", "é", "e\u{301}"],
+    &["a", "b", "c", "d", "e", "f", "g", "h", "i", "j", "k", "l", "m", "n", "o", "p", "q", "r", "s", "t", "u", "v", "w", "y", "z"],
 ];
 
 /// So many words, from few or many different ones.
@@ -25,7 +26,7 @@ fn words(rng: &mut Rng, n: usize) -> Vec<String> {
 }
 
 fn metadata(rng: &mut Rng, n: usize) -> String {
-    let keys = words(rng, n);
+    let keys: Vec<_> = if rng.chance(50) { words(rng, n) } else { (0..n).map(|_| word(rng, LETTERS[6], 3)).collect() };
     keys.iter()
         .map(|k| {
             let pad = *rng.one(&["", "", " ", "\u{a0}"]);
