@@ -10,18 +10,20 @@ The Rust: the sheet and unit list read by harness/src/sheet.rs, `parse_events` o
 "the pass" is what `parse_events` takes of it. Neither the reader nor the writer of the harness was made to be fast.
 
 Run by hand, with valgrind, after `rt staticlib recipe` (or with RECIPE_LIB_DIR): bench/collect.py [--times TIMES] [--rust-only] [WORD ...]
-(a word chooses the inputs whose names hold it)."""
+(a word chooses the inputs whose names hold it). Inputs on which a call takes too long to be counted are measured in seconds."""
 import argparse
 import os
 import re
 import subprocess
 import tempfile
+import time
 
 import inputs
 
 HERE = os.path.dirname(os.path.dirname(os.path.abspath(__file__)))
 HARNESS = os.path.join(HERE, "harness")
 PROGRAM = os.path.join(HARNESS, "target", "speed", "harness")
+LONG = 50_000_000
 PASS = "--toggle-collect=*pass::parse_events*"
 
 
@@ -43,9 +45,10 @@ def count(directory, side, times, room, options):
 
 
 def a_call(directory, side, times, room, options=()):
-    """Instructions of one call."""
-    options = list(options)
-    return (count(directory, side, times, room, options) - count(directory, side, 1, room, options)) / (times - 1)
+    """Instructions of one call; one that takes long is made twice only."""
+    once = count(directory, side, 1, room, list(options))
+    times = 2 if once > LONG else times
+    return (count(directory, side, times, room, list(options)) - once) / (times - 1)
 
 
 def page_length(directory, side, room):
@@ -71,6 +74,20 @@ def row(name, directory, sheet, times, library):
     print("| " + " | ".join(cells) + " |", flush=True)
 
 
+def seconds(directory, side, room):
+    """Seconds of one call, the least of three."""
+    def once(times):
+        start = time.perf_counter()
+        subprocess.run(command(side, times, room), cwd=directory, check=True, stdout=subprocess.DEVNULL)
+        return time.perf_counter() - start
+    return min(once(2) for _ in range(3)) - min(once(1) for _ in range(3))
+
+
+def slow(name, directory, library):
+    sides = ["rust", "library"] if library else ["rust"]
+    print("%s, seconds a call: %s" % (name, ", ".join("%s %.3f" % (s, seconds(directory, s, 1 << 20)) for s in sides)))
+
+
 def main():
     p = argparse.ArgumentParser()
     p.add_argument("--times", type=int, default=11)
@@ -83,9 +100,13 @@ def main():
         heads += ["the library", "library / Rust", "library a byte of sheet and page"]
     print("| " + " | ".join(heads) + " |\n|" + "---|" * len(heads))
     with tempfile.TemporaryDirectory() as work:
-        for name, directory, sheet in inputs.write(work):
+        for name, directory, sheet in inputs.write(os.path.join(work, "a"), inputs.inputs()):
             if all(w in name for w in a.words):
                 row(name, directory, sheet, a.times, not a.rust_only)
+        print()
+        for name, directory, sheet in inputs.write(os.path.join(work, "b"), inputs.slow_inputs()):
+            if all(w in name for w in a.words):
+                slow(name, directory, not a.rust_only)
 
 
 if __name__ == "__main__":

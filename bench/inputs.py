@@ -233,16 +233,36 @@ def text_mode():
     return "meta\t0\t1\t[mode]\t1\t2\ttext\n" + in_step(["timer\t0\t%d\t-\t-" % len(text)] * 15), text, ""
 
 
-def many_units():
-    """A full unit list whose names part in their last two letters, and 200 timers, 300 amounts of references and 300 inline quantities
-    whose units stand at its end."""
+def full_list():
+    """1,024 units, as many as there may be, whose names part in their last two letters; every second is one of time."""
     names = ["unitname" + LETTERS[i // 32] + LETTERS[i % 32] for i in range(1024)]
-    units = "".join("%s\ttime\n" % n if i % 2 else "%s\tmass\n" % n for i, n in enumerate(names))
+    return names, "".join("%s\t%s\n" % (n, "time" if i % 2 else "mass") for i, n in enumerate(names))
+
+
+def amounts(n, units):
+    """So many ingredients of one name, all but the first references, whose units alternate: each is compared with all before it."""
+    line = "ingredient\t0\t1\t0\t1\tsalt\t-\t0\t1\tn\t0\t1\t1\t-\t0\t1\t%s\t-\t%s\t0\t0\t-"
+    return [line % (units[i % len(units)], "&" if i else ".") for i in range(n)]
+
+
+def many_units():
+    """200 timers, 300 inline quantities and 20 references whose units stand at the list's end."""
+    names, units = full_list()
     late = names[-127::2]
     timer = ["timer\t0\t1\t-\t0\t1\tn\t0\t1\t1\t-\t0\t1\t%s" % late[i % 64] for i in range(200)]
-    amount = ["ingredient\t0\t1\t0\t1\tsalt\t-\t0\t1\tn\t0\t1\t1\t-\t0\t1\t%s\t-\t%s\t0\t0\t-" % (late[-2], "&" if i else ".") for i in range(300)]
     inline = ["text\t0\t1\t5 %s, " % late[i % 64] for i in range(300)]
-    return in_step(timer + amount + inline), b"@", units
+    return in_step(timer + amounts(20, late[-2:]) + inline), b"@", units
+
+
+def no_units():
+    """A text with 4,000 numbers, each before a unit that is not in the list."""
+    return in_step(["text\t0\t1\t" + "1 a, " * 4000]), b"@", full_list()[1]
+
+
+def many_pairs():
+    """512 amounts of one ingredient in two units at the list's end: 65,000 pairs of different units."""
+    names, units = full_list()
+    return in_step(amounts(512, names[-3::2])), b"@", units
 
 
 def inputs():
@@ -257,12 +277,18 @@ def inputs():
     yield ("different metadata keys",) + metadata()
     yield ("text mode, 15 times the text",) + text_mode()
     yield ("1,024 units, 800 looked up",) + many_units()
+    yield ("1,024 units, 4,000 numbers without one",) + no_units()
 
 
-def write(directory):
-    """Writes all; gives the names with their folders and sizes of the sheet."""
+def slow_inputs():
+    """Too slow to be counted: measured in seconds."""
+    yield ("1,024 units, 512 amounts of one ingredient",) + many_pairs()
+
+
+def write(directory, which):
+    """Writes these; gives the names with their folders and sizes of the sheet."""
     out = []
-    for i, (name, sheet, text, units) in enumerate(inputs()):
+    for i, (name, sheet, text, units) in enumerate(which):
         d = os.path.join(directory, "%02d" % i)
         os.makedirs(d)
         for file, content in (("events.tsv", sheet.encode()), ("recipe.cook", text), ("units.tsv", units.encode()), ("flags", b"7")):
@@ -274,5 +300,5 @@ def write(directory):
 
 
 if __name__ == "__main__":
-    for row in write(sys.argv[1]):
+    for row in write(sys.argv[1], list(inputs()) + list(slow_inputs())):
         print(*row, sep="\t")

@@ -81,7 +81,8 @@ impl fmt::Display for Refusal {
 
 impl std::error::Error for Refusal {}
 
-/// An answer of the library: its upper half is a refusal's number, or 0, its lower half a line, or a length.
+/// An answer of the library: its upper half is a refusal's number, or 0, its lower half a line, or a length (never past
+/// `out`: this would panic, not read there).
 fn answer(code: u64, out: &[u8]) -> Result<&[u8], Refusal> {
     match (code >> 32) as u32 {
         0 => Ok(&out[..code as u32 as usize]),
