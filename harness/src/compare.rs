@@ -270,7 +270,7 @@ impl Comparison {
 /// n sheets by chance, those of `fuzz`, and a large one after each 128.
 fn compare_one(n: usize, seed: u64) -> Counts {
     let mut c = Comparison::new(seed);
-    let mut large = Rng(seed ^ 0x6c61_7267_65);
+    let mut large = Rng(seed ^ 0x1a26e);
     each(n - n / 129, seed, |case| {
         c.see(case);
         if c.counts.sheets % 129 == 128 {
