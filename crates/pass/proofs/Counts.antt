@@ -6,13 +6,13 @@ use mathlib.Core.Bool.{Bool, true, false}
 use mathlib.Core.Option.{Option, none, some}
 use native.Mathlib.Omega.{arith}
 use lib.ListN.{length, replicate, length-replicate}
-use Rattle.rules.specs.Basic.{pick, each}
+use Rattle.rules.specs.Basic.{pick, each, onSome}
 use Rattle.rules.specs.Words.{stepKind, textKind, defineKey, duplicateKey, DefineMode, DuplicateMode}
 use Rattle.rules.specs.Event.{Text, ComponentEvent, ingredientEvent, cookwareEvent, timerEvent, Between, metaEvent, sectionEvent, startEvent, Inside, endEvent, textEvent, componentEvent, Event, between, inside, parserEvent}
 use Rattle.rules.specs.Units.{NamedUnit}
 use Rattle.rules.specs.Modes.{isComponents, Key, config, unknownConfig, ordinary}
-use Rattle.rules.specs.Model.{Kind, ingredient, cookware, Item, Block, stepBlock, textBlock}
-use Rattle.rules.specs.State.{Open, noBlock, stepOpen, textOpen, textModeOpen, State, firstState, setModes, setMetadata, setPlace, setBlock, setKept, setTables, tableOf, setTable, setTimers, setInline, report, overLimits, Step, next, stop}
+use Rattle.rules.specs.Model.{Kind, ingredient, cookware, trimmedText, Item, Block, stepBlock, textBlock}
+use Rattle.rules.specs.State.{Place, Open, noBlock, stepOpen, textOpen, textModeOpen, State, firstState, setModes, setMetadata, setPlace, setBlock, setKept, setTables, tableOf, setTable, setTimers, setInline, report, overLimits, Step, next, stop}
 use Rattle.rules.specs.Metadata.{storeMeta, onDefine, onDuplicate, onKey, onMetadata}
 use Rattle.rules.specs.Components.{Made, intermediateFault, pushed, refersToReference, makeIngredient, makeCookware}
 use Rattle.rules.specs.Pass.{isOpen, isEmptySection, closeSection, onSection, keepBlock, closeText, closeStep, pushItems, pushPieces, pushComponent, unlessChained, unlessFault, textInStep, pushTimer, onMade, onComponent, inStepBlock, inTextBlock, componentInText, inTextMode, onInside, onBetween, onEvent}
@@ -49,7 +49,8 @@ key-counted ordinary k v st s = (s .0, s .1, omega (arith, s .2))
 section-counted : {n : ℕ} (name : Option Text) (st : State) → Counted n st → Counted n (onSection name st)
 unfolding onSection closeSection setPlace setKept
 section-counted {n} name st s =
-    pick-either (λ (x : State). Counted n (setPlace _ x)) (isEmptySection (st .place .section)) _ _ (λ b. (omega arith, omega arith, s .2))
+    let p : Place = record { section = record { name = onSome trimmedText name; content = [] }; stepCounter = 1; block = noBlock } in
+    pick-either (λ (x : State). Counted n (setPlace p x)) (isEmptySection (st .place .section)) _ _ (λ b. (omega arith, omega arith, s .2))
     (λ b. (omega arith, omega arith, s .2))
 
 -- ---- lines in a block
@@ -72,10 +73,10 @@ unfolding unlessChained
 chained-counted {n} m st s =
     pick-either (CountedStep n) (refersToReference (m .refersTo)) _ _ (λ b. pick-either (CountedStep n) (overLimits st) _ _ (λ c. tt) (λ c. tt)) (λ b. s)
 
-fault-counted : {n : ℕ} (o : Option ℕ) (s : Step) → CountedStep n s → CountedStep n (unlessFault o s)
+fault-counted : (n : ℕ) (o : Option ℕ) (s : Step) → CountedStep n s → CountedStep n (unlessFault o s)
 unfolding unlessFault
-fault-counted none s c = c
-fault-counted (some k) s c = tt
+fault-counted n none s c = c
+fault-counted n (some k) s c = tt
 
 module _ (text : List ℕ) (units : List NamedUnit) (flags : ℕ) where
   made-counted : {n : ℕ} (k : Kind) (m : Made) (is : List Item) (st : State) → Counted n st → CountedStep n (onMade units flags k m is st)
@@ -84,7 +85,7 @@ module _ (text : List ℕ) (units : List NamedUnit) (flags : ℕ) where
 
   component-counted : {n : ℕ} (c : ComponentEvent) (is : List Item) (st : State) → Counted n st → CountedStep n (onComponent units flags c is st)
   unfolding onComponent pushTimer pushItems report setBlock setPlace setKept setTimers setTables
-  component-counted (ingredientEvent c i) is st s = fault-counted (intermediateFault c i) _ (made-counted ingredient _ is st s)
+  component-counted {n} (ingredientEvent c i) is st s = fault-counted n (intermediateFault c i) _ (made-counted ingredient _ is st s)
   component-counted (cookwareEvent c) is st s = made-counted cookware _ is st s
   component-counted (timerEvent a k q) is st s = s
 

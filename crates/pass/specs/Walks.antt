@@ -32,9 +32,9 @@ use Rattle.pass.specs.declared.Ran.the-variants as ran
 -- ---- what every line is given
 
 -- the tables, and a list of units that was read
-pub record Lent (t units : List ℕ) : Type 0 where
+pub record Lent (t list : List ℕ) : Type 0 where
   pub tables : t ≡ unicodeTables
-  pub units : isSome (readUnits units) ≡ true
+  pub units : isSome (readUnits list) ≡ true
 
 -- v is the view of a line of the sheet
 pub record EventHere (sheet line : List ℕ) (at end : ℕ) (v : EventView) : Type 0 where
