@@ -117,6 +117,10 @@ text-ready v q l z r =
     let m = line-short z in
     (l .tables, l .units, rw q at (z .within), rw q at (z .fields), r .kept .sound, omega (arith, b .findings), omega (arith, b .items, m), omega (arith, b .inline, m))
 
+pub component-here : {t list sheet line w : List ℕ} {at end : ℕ} {h : Held} {e : Inside} (c : ComponentEvent) → e ≡ inside.Component c → Lent t list → EventHere sheet line at end (event.Inside e) → Running sheet w h at
+    → Lent t list × EventHere sheet line at end (event.Inside (inside.Component c)) × Running sheet w h at
+component-here c q l z r = (l, here-as _ (ap event.Inside q) z, r)
+
 -- ---- lines in any block
 
 block-now : (sheet w : List ℕ) (h : Held) → stateIn sheet w h .place .block ≡ openOf (h .block)

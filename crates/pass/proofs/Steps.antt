@@ -76,7 +76,7 @@ state-sound : (st : State) → ((k : Kind) → chained.Sound (tableOf k st)) →
 unfolding tableOf
 state-sound st d = (d ingredient, d cookware)
 
-module _ {us : List NamedUnit} {flags : ℕ} {sheet line w₀ w : List ℕ} {at end : ℕ} {v : EventView} {h₀ : Held} where
+module _ {us : List NamedUnit} {flags : ℕ} {sheet line w₀ w : List ℕ} {end : ℕ} {v : EventView} {h₀ : Held} where
   pub step-failed : {o : Bool} → ErrorView v o → o ≡ true → StepDone us flags sheet line end v w₀ h₀ w walked.Failed
   unfolding WalkedAs
   step-failed p t = record { is = sym (p .is line) ∙ t }
@@ -111,8 +111,8 @@ module _ {us : List NamedUnit} {flags : ℕ} {sheet line w₀ w : List ℕ} {at 
       unfolding RowsFit
       fit-after s = rw e at s
 
-      running-after : b ≡ false → EventHere sheet line at end v → Running sheet w₀ h₀ at → Running sheet w k (end + 1)
-      running-after t z g =
+      running-after : {at : ℕ} → b ≡ false → EventHere sheet line at end v → Running sheet w₀ h₀ at → Running sheet w k (end + 1)
+      running-after {at} t z g =
           let s = after-sound _ (stateIn sheet w k) (after []) (chained.event-sound [] us flags (eventIn line v) (stateIn sheet w₀ h₀) (state-sound _ (g .kept .definitions))) in
           let c = after-counted (suc at) _ (stateIn sheet w k) (after []) (event-counted [] us flags (eventIn line v) (stateIn sheet w₀ h₀) (g .counted)) in
           record {
@@ -120,6 +120,6 @@ module _ {us : List NamedUnit} {flags : ℕ} {sheet line w₀ w : List ℕ} {at 
             counted = counted-more (stateIn sheet w k) (omega (arith, z .here .order)) c;
           }
 
-      pub step-going : b ≡ false → EventHere sheet line at end v → Running sheet w₀ h₀ at → StepDone us flags sheet line end v w₀ h₀ w (walked.Going k)
+      pub step-going : {at : ℕ} → b ≡ false → EventHere sheet line at end v → Running sheet w₀ h₀ at → StepDone us flags sheet line end v w₀ h₀ w (walked.Going k)
       unfolding WalkedAs
       step-going t z g = record { is = record { is = λ text number. rw t at (settled-as text number); running = running-after t z g } }

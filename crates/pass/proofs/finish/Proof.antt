@@ -1,5 +1,6 @@
 use borrow.Author.Needs.{needs}
 use native.Mathlib.Omega.{arith}
+use Rattle.pass.proofs.Ends.{end-recipe, end-refused}
 use Rattle.pass.proofs.finish.Statement.{statement}
 use Rattle.pass.proofs.finish.Tie as tie
 use Rattle.pass.proofs.finish.Reads as reads
@@ -12,11 +13,11 @@ end-refusal-requires c κs = search needs
 
 -- src/lib.rt:250:9
 returns : tie.Need-returns
-returns c = search needs
+returns c = end-recipe (c .before .end-refusal .ensures) (c .if1 .taken)
 
 -- src/lib.rt:244:1
 returns-2 : tie.Need-returns-2
-returns-2 c = search needs
+returns-2 c = end-refused (c .before .end-refusal .ensures) (c .if1 .left)
 
 pub finish-spec : {M : Type 1} → statement M
 finish-spec = tie.close (tie.spec end-refusal-requires returns returns-2)

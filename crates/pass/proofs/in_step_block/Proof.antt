@@ -1,5 +1,7 @@
 use borrow.Author.Needs.{needs}
 use native.Mathlib.Omega.{arith}
+use Rattle.pass.proofs.Lines.{text-ready, component-here, step-end, step-text, step-component}
+use Rattle.pass.proofs.Rooms.{room-step}
 use Rattle.pass.proofs.in_step_block.Statement.{statement}
 use Rattle.pass.proofs.in_step_block.Tie as tie
 use Rattle.pass.proofs.in_step_block.Reads as reads
@@ -14,7 +16,7 @@ enum-known-e c = search needs
 
 -- src/lib.rt:98:30
 end-step-requires : tie.Need-end-step-requires
-end-step-requires c κs = search needs
+end-step-requires c κs = room-step (c .before .before .before .before .before .before .before .before .before .pre .1) (c .before .before .before .before .before .before .before .before .before .pre .2)
 
 -- src/lib.rt:99:22
 enum-known-e-2 : tie.Need-enum-known-e-2
@@ -22,7 +24,7 @@ enum-known-e-2 c = search needs
 
 -- src/lib.rt:100:17
 text-in-step-requires : tie.Need-text-in-step-requires
-text-in-step-requires c κs = search needs
+text-in-step-requires c κs = text-ready _ (c .before .before .e2 .given .1) (c .before .before .before .before .before .before .before .before .before .pre .0) (c .before .before .before .before .before .before .before .before .before .pre .1) (c .before .before .before .before .before .before .before .before .before .pre .2)
 
 -- src/lib.rt:103:27
 enum-known-e-3 : tie.Need-enum-known-e-3
@@ -30,7 +32,7 @@ enum-known-e-3 c = search needs
 
 -- src/lib.rt:103:33
 on-component-requires : tie.Need-on-component-requires
-on-component-requires c κs = search needs
+on-component-requires c κs = component-here _ (c .before .before .e3 .given .1) (c .before .before .before .before .before .before .before .before .before .pre .0) (c .before .before .before .before .before .before .before .before .before .pre .1) (c .before .before .before .before .before .before .before .before .before .pre .2)
 
 -- src/lib.rt:82:1
 same-length : tie.Need-same-length
@@ -38,7 +40,7 @@ same-length c = search needs
 
 -- src/lib.rt:82:1
 returns : tie.Need-returns
-returns c = search needs
+returns c = step-end _ (c .before .before .before .before .before .e .given .1) (c .before .before .before .before .before .before .before .before .before .before .before .before .pre .2 .kept .fit) (c .before .before .end-step .ensures)
 
 -- src/lib.rt:82:1
 same-length-2 : tie.Need-same-length-2
@@ -46,7 +48,7 @@ same-length-2 c = search needs
 
 -- src/lib.rt:82:1
 returns-2 : tie.Need-returns-2
-returns-2 c = search needs
+returns-2 c = step-text _ (c .before .before .before .before .before .e2 .given .1) (c .before .before .before .before .before .before .before .before .before .before .before .before .pre .2 .kept .fit) (c .before .before .text-in-step .ensures)
 
 -- src/lib.rt:82:1
 same-length-3 : tie.Need-same-length-3
@@ -54,7 +56,7 @@ same-length-3 c = search needs
 
 -- src/lib.rt:82:1
 returns-3 : tie.Need-returns-3
-returns-3 c = search needs
+returns-3 c = step-component _ (c .before .before .before .before .before .e3 .given .1) (c .before .before .on-component .ensures)
 
 pub in-step-block-spec : {M : Type 1} → statement M
 in-step-block-spec =

@@ -1,5 +1,7 @@
 use borrow.Author.Needs.{needs}
 use native.Mathlib.Omega.{arith}
+use Rattle.pass.proofs.Lines.{meta-ready, between-meta, between-section, between-start}
+use Rattle.pass.proofs.Rooms.{room-section}
 use Rattle.pass.proofs.on_between.Statement.{statement}
 use Rattle.pass.proofs.on_between.Tie as tie
 use Rattle.pass.proofs.on_between.Reads as reads
@@ -14,7 +16,7 @@ enum-known-b c = search needs
 
 -- src/lib.rt:148:32
 on-meta-requires : tie.Need-on-meta-requires
-on-meta-requires c κs = search needs
+on-meta-requires c κs = meta-ready _ _ (c .before .before .b .given .1) (c .before .before .before .before .before .before .before .before .before .pre .0) (c .before .before .before .before .before .before .before .before .before .pre .1) (c .before .before .before .before .before .before .before .before .before .pre .2)
 
 -- src/lib.rt:149:26
 enum-known-b-2 : tie.Need-enum-known-b-2
@@ -22,7 +24,7 @@ enum-known-b-2 c = search needs
 
 -- src/lib.rt:149:32
 on-section-requires : tie.Need-on-section-requires
-on-section-requires c κs = search needs
+on-section-requires c κs = room-section (c .before .before .before .before .before .before .before .before .pre .1) (c .before .before .before .before .before .before .before .before .pre .2)
 
 -- src/lib.rt:150:24
 enum-known-b-3 : tie.Need-enum-known-b-3
@@ -38,15 +40,15 @@ same-length c = search needs
 
 -- src/lib.rt:132:1
 returns : tie.Need-returns
-returns c = search needs
+returns c = between-meta _ _ (c .before .before .before .before .before .b .given .1) (c .before .before .on-meta .ensures)
 
 -- src/lib.rt:132:1
 returns-2 : tie.Need-returns-2
-returns-2 c = search needs
+returns-2 c = between-section _ (c .before .before .b2 .given .1) (c .before .before .before .before .before .before .before .before .before .pre .2 .kept .sound) (c .on-section .ensures)
 
 -- src/lib.rt:132:1
 returns-3 : tie.Need-returns-3
-returns-3 c = search needs
+returns-3 c = between-start _ (c .before .before .b3 .given .1) (c .before .before .before .before .before .before .before .before .before .pre .2 .kept .sound) (c .on-start .ensures)
 
 pub on-between-spec : {M : Type 1} → statement M
 on-between-spec =

@@ -1,5 +1,6 @@
 use borrow.Author.Needs.{needs}
 use native.Mathlib.Omega.{arith}
+use Rattle.pass.proofs.Steps.{step-failed, step-over, step-stopped, step-going}
 use Rattle.pass.proofs.step.Statement.{statement}
 use Rattle.pass.proofs.step.Tie as tie
 use Rattle.pass.proofs.step.Reads as reads
@@ -14,11 +15,11 @@ is-error-requires c κs = search needs
 
 -- src/lib.rt:223:9
 returns : tie.Need-returns
-returns c = search needs
+returns c = step-failed (c .before .is-error .ensures) (c .if1 .taken)
 
 -- src/lib.rt:225:11
 on-event-requires : tie.Need-on-event-requires
-on-event-requires c κs = search needs
+on-event-requires c κs = (c .before .before .before .before .before .before .before .before .pre)
 
 -- src/lib.rt:226:22
 enum-known-n : tie.Need-enum-known-n
@@ -38,7 +39,7 @@ same-length c = search needs
 
 -- src/lib.rt:229:17
 returns-2 : tie.Need-returns-2
-returns-2 c = search needs
+returns-2 c = step-over (c .before .before .before .before .before .before .before .before .before .before .is-error .ensures) (c .before .before .before .before .before .before .before .before .before .if1 .left) (c .before .before .before .before .before .before .before .on-event .ensures) _ (c .before .before .before .k .given .1) (c .before .over-limits .ensures) (c .if2 .taken)
 
 -- src/lib.rt:207:1
 same-length-2 : tie.Need-same-length-2
@@ -46,7 +47,7 @@ same-length-2 c = search needs
 
 -- src/lib.rt:207:1
 returns-3 : tie.Need-returns-3
-returns-3 c = search needs
+returns-3 c = step-stopped (c .before .before .before .before .before .before .before .before .is-error .ensures) (c .before .before .before .before .before .before .before .if1 .left) (c .before .before .before .before .before .on-event .ensures) _ (c .before .n .given .1)
 
 -- src/lib.rt:207:1
 same-length-3 : tie.Need-same-length-3
@@ -54,7 +55,7 @@ same-length-3 c = search needs
 
 -- src/lib.rt:207:1
 returns-4 : tie.Need-returns-4
-returns-4 c = search needs
+returns-4 c = step-going (c .before .before .before .before .before .before .before .before .before .before .is-error .ensures) (c .before .before .before .before .before .before .before .before .before .if1 .left) (c .before .before .before .before .before .before .before .on-event .ensures) _ (c .before .before .before .k .given .1) (c .before .over-limits .ensures) (c .if2 .left) (c .before .before .before .before .before .before .before .before .before .before .before .before .before .before .before .before .pre .1) (c .before .before .before .before .before .before .before .before .before .before .before .before .before .before .before .before .pre .2)
 
 pub step-spec : {M : Type 1} → statement M
 step-spec =
