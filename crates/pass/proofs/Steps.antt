@@ -76,8 +76,8 @@ state-sound : (st : State) → ((k : Kind) → chained.Sound (tableOf k st)) →
 unfolding tableOf
 state-sound st d = (d ingredient, d cookware)
 
-module _ {us : List NamedUnit} {flags : ℕ} {sheet line w₀ w : List ℕ} {end : ℕ} {v : EventView} {h₀ : Held} where
-  pub step-failed : {o : Bool} → ErrorView v o → o ≡ true → StepDone us flags sheet line end v w₀ h₀ w walked.Failed
+module _ {us : List NamedUnit} {flags : ℕ} {sheet line w₀ w : List ℕ} {v : EventView} {h₀ : Held} where
+  pub step-failed : {end : ℕ} {o : Bool} → ErrorView v o → o ≡ true → StepDone us flags sheet line end v w₀ h₀ w walked.Failed
   unfolding WalkedAs
   step-failed p t = record { is = sym (p .is line) ∙ t }
 
@@ -86,7 +86,7 @@ module _ {us : List NamedUnit} {flags : ℕ} {sheet line w₀ w : List ℕ} {end
     unfolding step
     settled text number = rw (sym (p .is line) ∙ f)
 
-    pub step-stopped : (n : ℕ) → r ≡ Stop n → StepDone us flags sheet line end v w₀ h₀ w (walked.Refused n)
+    pub step-stopped : {end : ℕ} (n : ℕ) → r ≡ Stop n → StepDone us flags sheet line end v w₀ h₀ w (walked.Refused n)
     unfolding WalkedAs stepIn
     step-stopped n e = record { is = λ text number. settled text number ∙ settle-stop number _ n (rw e at (d .at text .is)) }
 
@@ -99,7 +99,7 @@ module _ {us : List NamedUnit} {flags : ℕ} {sheet line w₀ w : List ℕ} {end
       settled-as text number = settled text number ∙ settle-next number _ (stateIn sheet w k) (after text) b (l .is sheet w)
 
       -- 17
-      pub step-over : b ≡ true → StepDone us flags sheet line end v w₀ h₀ w (walked.Refused 17)
+      pub step-over : {end : ℕ} → b ≡ true → StepDone us flags sheet line end v w₀ h₀ w (walked.Refused 17)
       unfolding WalkedAs
       step-over t = record { is = λ text number. rw t at (settled-as text number) }
 
@@ -111,7 +111,7 @@ module _ {us : List NamedUnit} {flags : ℕ} {sheet line w₀ w : List ℕ} {end
       unfolding RowsFit
       fit-after s = rw e at s
 
-      running-after : {at : ℕ} → b ≡ false → EventHere sheet line at end v → Running sheet w₀ h₀ at → Running sheet w k (end + 1)
+      running-after : {at end : ℕ} → b ≡ false → EventHere sheet line at end v → Running sheet w₀ h₀ at → Running sheet w k (end + 1)
       running-after {at} t z g =
           let s = after-sound _ (stateIn sheet w k) (after []) (chained.event-sound [] us flags (eventIn line v) (stateIn sheet w₀ h₀) (state-sound _ (g .kept .definitions))) in
           let c = after-counted (suc at) _ (stateIn sheet w k) (after []) (event-counted [] us flags (eventIn line v) (stateIn sheet w₀ h₀) (g .counted)) in
@@ -120,6 +120,6 @@ module _ {us : List NamedUnit} {flags : ℕ} {sheet line w₀ w : List ℕ} {end
             counted = counted-more (stateIn sheet w k) (omega (arith, z .here .order)) c;
           }
 
-      pub step-going : {at : ℕ} → b ≡ false → EventHere sheet line at end v → Running sheet w₀ h₀ at → StepDone us flags sheet line end v w₀ h₀ w (walked.Going k)
+      pub step-going : {at end : ℕ} → b ≡ false → EventHere sheet line at end v → Running sheet w₀ h₀ at → StepDone us flags sheet line end v w₀ h₀ w (walked.Going k)
       unfolding WalkedAs
       step-going t z g = record { is = record { is = λ text number. rw t at (settled-as text number); running = running-after t z g } }
