@@ -235,26 +235,36 @@ items-is : (sheet w : List ℕ) (h : Held) (new : List Item) (m : ℕ) → pick 
 items-is sheet w h new m e =
     sym (items-blank new (stateIn sheet w h) m (rw (define-of sheet w h, items-of sheet w h) e) ∙ (ap (itemsAs m) (state-blank sheet w h) ∙ items-with sheet w h m))
 
-module _ {h r : Held} {n : ℕ} (l : h .counts .items + n ≤ 100000) {b : Bool} (e : b ≡ isComponents (defineOf (h .define))) where
-  pub items-dropped : b ≡ true → r ≡ withBlock StepBlock h → ItemsPushed n h r
-  items-dropped t q =
-      rw q
-      record {
-        by = λ new j. record {
-          is = λ sheet w. items-is sheet w h new (h .counts .items) (rw (sym e ∙ t));
-          sound = λ w z. sound-block StepBlock z;
-        };
-      }
+module _ {d : Define} (i m : ℕ) where
+  pub after-all : d ≡ All → m ≡ pick (isComponents (defineOf d)) i m
+  unfolding isComponents defineOf
+  after-all e = rw e
 
-  pub items-counted : b ≡ false → r ≡ withItems (h .counts .items + n) (withBlock StepBlock h) → ItemsPushed n h r
-  items-counted t q =
-      rw q
-      record {
-        by = λ new j. record {
-          is = λ sheet w. items-is sheet w h new (h .counts .items + n) (rw (sym e ∙ t) (omega (arith, j)));
-          sound = λ w z. sound-items StepBlock (h .counts .items + n) l z;
-        };
-      }
+  pub after-components : d ≡ Components → i ≡ pick (isComponents (defineOf d)) i m
+  unfolding isComponents defineOf
+  after-components e = rw e
+
+  pub after-steps : d ≡ Steps → m ≡ pick (isComponents (defineOf d)) i m
+  unfolding isComponents defineOf
+  after-steps e = rw e
+
+  pub after-text : d ≡ Text → m ≡ pick (isComponents (defineOf d)) i m
+  unfolding isComponents defineOf
+  after-text e = rw e
+
+most-items : (b : Bool) (i m k : ℕ) → i ≤ k → m ≤ k → pick b i m ≤ k
+most-items true i m k p q = p
+most-items false i m k p q = q
+
+pub items-pushed : {h r : Held} {n x : ℕ} → h .counts .items + n ≤ 100000 → x ≡ pick (isComponents (defineOf (h .define))) (h .counts .items) (h .counts .items + n) → r ≡ withItems x (withBlock StepBlock h) → ItemsPushed n h r
+items-pushed {h} {r} {n} {x} l e q =
+    rw q
+    record {
+      by = λ new j. record {
+        is = λ sheet w. items-is sheet w h new x (ap (pick (isComponents (defineOf (h .define))) (h .counts .items)) (omega (arith, j)) ∙ sym e);
+        sound = λ w z. sound-items StepBlock x (rw e (most-items (isComponents (defineOf (h .define))) (h .counts .items) (h .counts .items + n) 100000 (omega (arith, l)) l)) z;
+      };
+    }
 
 -- ---- blocks closed
 

@@ -25,9 +25,7 @@ use Rattle.sheet.specs.Lines.{linesFrom, LineAt}
 use Rattle.content.proofs.Lines.{line-without}
 use Rattle.events.specs.Views.{eventIn}
 use Rattle.events.specs.declared.EventView.{EventView}
-use Rattle.reading.specs.declared.ReadEvent.the-variants as answer
-use Rattle.reading.specs.Answers.{eventAs, IfEvent, LineOf}
-use Rattle.reading.proofs.Passes.{Rest, First, rest-ends, rest-ended, rest-read, rest-event}
+use Rattle.reading.proofs.Passes.{Rest, First, rest-ends, rest-ended, rest-some, rest-parsed}
 use Rattle.known_events.specs.Known.{KnownEvent}
 use Rattle.model.specs.Blank.{blank, blankWalk}
 use Rattle.model.specs.Memory.{stateIn, firstHeld}
@@ -141,14 +139,6 @@ passing-starts {sheet = sheet} {text = text} {w = w} e s l q =
 -- ---- a line
 
 module _ {sheet : List ℕ} {at end : ℕ} {text : List ℕ} {number : ℕ} {es : List Event} (w : Rest text sheet at number es) {r : LineEnd} (l : LineAt sheet at r) (q : r ≡ At end) where
-  known : isSome (parseLine (take (end - at) (drop at sheet))) ≡ true
-  unfolding eventAs IfEvent isSome
-  known = go (parseLine (take (end - at) (drop at sheet))) refl
-    where
-      go : (o : Option Event) → parseLine (take (end - at) (drop at sheet)) ≡ o → isSome o ≡ true
-      go (some e) p = refl
-      go none p = rest-read w l q (record { is = sym p; within = tt }) refl
-
   no-lf : Without lf (take (end - at) (drop at sheet))
   unfolding linesFrom
   no-lf = line-without (drop at sheet) (sym (sym (ap (linesFrom sheet at) q) ∙ l .is))
@@ -164,7 +154,7 @@ module _ {us : List NamedUnit} {flags : ℕ} {sheet text w₀ w : List ℕ} {h :
 
     module _ {end : ℕ} (q : r ≡ At end) where
       pub line-ready : (isSome (parseLine (take (end - at) (drop at sheet))) ≡ true) × Without lf (take (end - at) (drop at sheet))
-      line-ready = (known (p .rest) l q, no-lf (p .rest) l q)
+      line-ready = (rest-some (p .rest) l q, no-lf (p .rest) l q)
 
       module _ {v : EventView} (k : KnownEvent (take (end - at) (drop at sheet)) v) where
         pub event-here : EventHere sheet (take (end - at) (drop at sheet)) at end v
@@ -185,8 +175,7 @@ module _ {us : List NamedUnit} {flags : ℕ} {sheet text w₀ w : List ℕ} {h :
             }
 
         first : First (eventIn (take (end - at) (drop at sheet)) v) (readFrom text (length text) (number + 1) (lines (drop (end + 1) sheet))) (p .left)
-        unfolding eventAs IfEvent
-        first = rest-event (p .rest) l q (record { is = sym (k .is); within = k .within }) refl
+        first = rest-parsed (p .rest) l q (k .is)
 
         abbrev stepped : State → Walk
         stepped st = step text us flags number (eventIn (take (end - at) (drop at sheet)) v) (going st)

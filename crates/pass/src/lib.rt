@@ -45,12 +45,6 @@ fn on_cookware(t: &[u32], units: &[u8], flags: u32, sheet: &[u8], at: usize, end
     Passed::Stop(1)
 }
 
-fn event_of(line: &[u8]) -> EventView
-    requires { ⌜ (isSome (parseLine (now line)) ≡ true) × Without lf (now line) ⌝ }
-    ensures { λ r. ⌜ KnownEvent (now (line .entry)) r ⌝ }
-{
-    EventView::Finding(Severity::Mild, 0)
-}
 // STUB-END
 
 fn on_component(
@@ -265,7 +259,7 @@ pub fn run(t: &[u32], sheet: &[u8], text: &[u8], units: &[u8], flags: u32, words
             return Ran::Failed;
         };
         let line = &sheet[at..end];
-        let v = event_of(line);
+        let v = known_events::event_of(line);
         match step(t, units, flags, sheet, line, at, end, v, words, h) {
             Walked::Failed => {
                 return Ran::Failed;

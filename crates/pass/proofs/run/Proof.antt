@@ -10,7 +10,7 @@ use Rattle.pass.proofs.run.Tie as tie
 use Rattle.pass.proofs.run.Reads as reads
 use Rattle.pass.proofs.run.Lts as lts
 use Rattle.memory.proofs.first_held.Reads as first-held-reads
-use Rattle.pass.proofs.event_of.Reads as event-of-reads
+use Rattle.known_events.proofs.event_of.Reads as event-of-reads
 use Rattle.pass.proofs.finish.Reads as finish-reads
 use Rattle.pass.proofs.step.Reads as step-reads
 use Rattle.sheet.proofs.line_end.Reads as line-end-reads
