@@ -1,20 +1,19 @@
 -- How many blocks, steps and lines for 3 a state holds, after every line.
 use Prim.Native.Nat.{ℕ, suc, _+_, _≤_}
-use mathlib.Core.Path.{_≡_, refl, sym, ap, _∙_}
+use mathlib.Core.Path.{_≡_, refl, ap}
 use mathlib.Core.List.{List, [], _∷_}
-use mathlib.Core.Bool.{Bool, true, false}
 use mathlib.Core.Option.{Option, none, some}
 use native.Mathlib.Omega.{arith}
-use lib.ListN.{length, replicate, length-replicate}
-use Rattle.rules.specs.Basic.{pick, each, onSome}
+use lib.ListN.{length, length-replicate}
+use Rattle.rules.specs.Basic.{each, onSome}
 use Rattle.rules.specs.Words.{stepKind, textKind, defineKey, duplicateKey, DefineMode, DuplicateMode}
 use Rattle.rules.specs.Event.{Text, ComponentEvent, ingredientEvent, cookwareEvent, timerEvent, Between, metaEvent, sectionEvent, startEvent, Inside, endEvent, textEvent, componentEvent, Event, between, inside, parserEvent}
 use Rattle.rules.specs.Units.{NamedUnit}
 use Rattle.rules.specs.Modes.{isComponents, Key, config, unknownConfig, ordinary}
-use Rattle.rules.specs.Model.{Kind, ingredient, cookware, trimmedText, Item, Block, stepBlock, textBlock}
+use Rattle.rules.specs.Model.{Kind, ingredient, cookware, trimmedText, Item, Block}
 use Rattle.rules.specs.State.{Place, Open, noBlock, stepOpen, textOpen, textModeOpen, State, firstState, setModes, setMetadata, setPlace, setBlock, setKept, setTables, tableOf, setTable, setTimers, setInline, report, overLimits, Step, next, stop}
 use Rattle.rules.specs.Metadata.{storeMeta, onDefine, onDuplicate, onKey, onMetadata}
-use Rattle.rules.specs.Components.{Made, intermediateFault, pushed, refersToReference, makeIngredient, makeCookware}
+use Rattle.rules.specs.Components.{Made, intermediateFault, refersToReference}
 use Rattle.rules.specs.Pass.{isOpen, isEmptySection, closeSection, onSection, keepBlock, closeText, closeStep, pushItems, pushPieces, pushComponent, unlessChained, unlessFault, textInStep, pushTimer, onMade, onComponent, inStepBlock, inTextBlock, componentInText, inTextMode, onInside, onBetween, onEvent}
 use Rattle.rules.proofs.Basics.{pick-either}
 use Rattle.model.specs.Blank.{blankBlock, blankPlace, blankMetadata, blankKept, blank, blankSpan}

@@ -8,13 +8,12 @@ use native.Mathlib.Omega.{arith}
 use lib.ListN.{length}
 use lib.Seq.{slice}
 use Rattle.rules.specs.Basic.{pick, isSome}
-use Rattle.rules.specs.Words as words
 use Rattle.rules.specs.Event as rules
 use Rattle.rules.specs.Units.{NamedUnit, readUnits}
 use Rattle.rules.specs.Finding.{parsed}
 use Rattle.rules.specs.State as state
-use Rattle.rules.specs.State.{State, setPlace, setBlock, setKept, report, Step, next, stop, noBlock, stepOpen, textOpen, textModeOpen}
-use Rattle.rules.specs.Pass.{isOpen, isEmptySection, closeSection, onSection, onComponent, inStepBlock, isErrorEvent, onInside, onBetween, onEvent}
+use Rattle.rules.specs.State.{State, setPlace, setBlock, setKept, report, Step, next}
+use Rattle.rules.specs.Pass.{isEmptySection, closeSection, onSection, onComponent, inStepBlock, isErrorEvent, onInside, onBetween, onEvent}
 use Rattle.unicode.specs.Tables.{unicodeTables}
 use Rattle.content.specs.Parts.{Field}
 use Rattle.parts.specs.Views.{partOf, TextWithin, OptQuantityWithin}
@@ -22,7 +21,7 @@ use Rattle.parts.specs.declared.Span.{Span}
 use Rattle.parts.specs.declared.TextView.{TextView}
 use Rattle.parts.specs.declared.OptText.{OptText}
 use Rattle.parts.specs.declared.OptQuantity.{OptQuantity}
-use Rattle.events.specs.Views.{blockIn, severityIn, betweenIn, componentEventIn, insideIn, eventIn, BetweenWithin, ComponentEventWithin, InsideWithin, EventWithin}
+use Rattle.events.specs.Views.{severityIn, betweenIn, componentEventIn, insideIn, eventIn, BetweenWithin, ComponentEventWithin, InsideWithin, EventWithin}
 use Rattle.events.specs.declared.BlockKind.{BlockKind}
 use Rattle.events.specs.declared.Severity.{Severity}
 use Rattle.events.specs.declared.Severity.the-variants as severity
@@ -66,13 +65,14 @@ module _ {t list sheet line w : List ℕ} {at end : ℕ} {h : Held} {c : Compone
   pub component-ready : (d : ComponentEvent) → c ≡ d
       → (t ≡ unicodeTables) × (isSome (readUnits list) ≡ true) × LineHere sheet at end (rules.inside (rules.componentEvent (componentEventIn (slice at end sheet) d))) × ComponentEventWithin (slice at end sheet) d × ComponentEventFields (slice at end sheet) d × Kept sheet w h
   unfolding eventIn insideIn EventWithin InsideWithin EventFields InsideFields
-  component-ready d e =
-      ( l .tables
-      , l .units
-      , subst (λ (x : List ℕ). LineHere sheet at end (rules.inside (rules.componentEvent (componentEventIn x d)))) (z .part) (rw e at (z .here))
-      , subst (λ (x : List ℕ). ComponentEventWithin x d) (z .part) (rw e at (z .within))
-      , subst (λ (x : List ℕ). ComponentEventFields x d) (z .part) (rw e at (z .fields))
-      , r .kept)
+  component-ready d e = (
+    l .tables,
+    l .units,
+    subst (λ (x : List ℕ). LineHere sheet at end (rules.inside (rules.componentEvent (componentEventIn x d)))) (z .part) (rw e at (z .here)),
+    subst (λ (x : List ℕ). ComponentEventWithin x d) (z .part) (rw e at (z .within)),
+    subst (λ (x : List ℕ). ComponentEventFields x d) (z .part) (rw e at (z .fields)),
+    r .kept,
+  )
 
   pub timer-ready : (s : Span) (n : OptText) (q : OptQuantity) → c ≡ component.Timer s n q
       → (t ≡ unicodeTables) × (isSome (readUnits list) ≡ true) × OptQuantityWithin line q × Sound w h × (h .counts .findings + 2 < 1544) × (h .counts .timers < 100000) × (h .counts .items < 100000)
@@ -170,38 +170,41 @@ start-tables : (k : BlockKind) (st : State) → startBlock k st .tables ≡ st .
 unfolding startBlock setBlock setPlace
 start-tables k st = refl
 
-module _ {us : List NamedUnit} {flags : ℕ} {line : List ℕ} {b : Between} {h₀ h : Held} where
-  pub between-meta : {w₀ w : List ℕ} (k v : TextView) → b ≡ between.Meta k v → MetaDone flags line k v w₀ h₀ w h → BetweenDone us flags line b w₀ h₀ w h
+module _ {flags : ℕ} {line : List ℕ} {b : Between} {h₀ h : Held} where
+  pub between-meta : {w₀ w : List ℕ} (k v : TextView) → b ≡ between.Meta k v → MetaDone flags line k v w₀ h₀ w h → BetweenDone flags line b w₀ h₀ w h
   unfolding onBetween betweenIn
-  between-meta k v q p = rw q record { at = λ text. p .went }
+  between-meta k v q p = rw q record { at = λ text us. p .went }
 
-  pub between-section : {w : List ℕ} (n : OptText) → b ≡ between.Section n → Sound w h₀ → SectionDone n h₀ h → BetweenDone us flags line b w h₀ w h
+  pub between-section : {w : List ℕ} (n : OptText) → b ≡ between.Section n → Sound w h₀ → SectionDone n h₀ h → BetweenDone flags line b w h₀ w h
   unfolding onBetween betweenIn
   between-section {w} n q z p =
       rw q
       record {
-        at = λ text. went-told (p .at line) z
+        at = λ text us. went-told (p .at line) z
             (λ sheet a. told-fit (p .at line) (λ st. ap (λ (x : state.Tables). x .ingredients) (section-tables _ st)) (λ st. ap (λ (x : state.Tables). x .cookware) (section-tables _ st)) sheet w a);
       }
 
-  pub between-start : {w : List ℕ} (k : BlockKind) → b ≡ between.Start k → Sound w h₀ → Told (startBlock k) h₀ h → BetweenDone us flags line b w h₀ w h
+  pub between-start : {w : List ℕ} (k : BlockKind) → b ≡ between.Start k → Sound w h₀ → Told (startBlock k) h₀ h → BetweenDone flags line b w h₀ w h
   unfolding onBetween betweenIn startBlock
   between-start {w} k q z p =
       rw q
       record {
-        at = λ text. went-told p z
+        at = λ text us. went-told p z
             (λ sheet a. told-fit p (λ st. ap (λ (x : state.Tables). x .ingredients) (start-tables k st)) (λ st. ap (λ (x : state.Tables). x .cookware) (start-tables k st)) sheet w a);
       }
 
-pub meta-ready : {t list sheet line w : List ℕ} {at end : ℕ} {h : Held} {b : Between} (k v : TextView) → b ≡ between.Meta k v → Lent t list → EventHere sheet line at end (event.Between b) → Running sheet w h at
-    → (t ≡ unicodeTables) × TextWithin line k × TextWithin line v × Sound w h × (h .counts .findings < 1544) × (h .counts .old < 100000)
-unfolding EventWithin BetweenWithin
-meta-ready k v q l z r =
-    let b = room z r in
-    let y = rw q at (z .within) in
-    (l .tables, y .0, y .1, r .kept .sound, omega (arith, b .findings), omega (arith, b .old))
+pub meta-within : {line : List ℕ} {b : Between} (k v : TextView) → b ≡ between.Meta k v → BetweenWithin line b → TextWithin line k × TextWithin line v
+unfolding BetweenWithin
+meta-within k v q z = rw q at z
 
 -- ---- every line
+
+pub between-ready : {t list sheet line w : List ℕ} {at end : ℕ} {h : Held} {v : EventView} (b : Between) → v ≡ event.Between b → Lent t list → EventHere sheet line at end v → Running sheet w h at
+    → (t ≡ unicodeTables) × BetweenWithin line b × Sound w h × (h .counts .findings < 1544) × (h .counts .old < 100000) × (h .counts .sections < 100000)
+unfolding EventWithin
+between-ready b q l z r =
+    let m = room z r in
+    (l .tables, rw q at (z .within), r .kept .sound, omega (arith, m .findings), omega (arith, m .old), omega (arith, m .sections))
 
 module _ {us : List NamedUnit} {flags : ℕ} {sheet line w₀ w : List ℕ} {v : EventView} {h₀ : Held} where
   -- 11
@@ -209,9 +212,9 @@ module _ {us : List NamedUnit} {flags : ℕ} {sheet line w₀ w : List ℕ} {v :
   unfolding onEvent eventIn stepIn blankStep SoundStep RowsFit
   event-open b q p t = rw q record { at = λ text. record { is = rw (sym (p .is sheet w₀) ∙ t); sound = tt; fit = tt } }
 
-  pub event-between : {o : Bool} {k : Held} (b : Between) → v ≡ event.Between b → OpenNow h₀ o → o ≡ false → AllFit sheet w₀ h₀ → BetweenDone us flags line b w₀ h₀ w k → EventDone us flags sheet line v w₀ h₀ w (Next k)
+  pub event-between : {o : Bool} {k : Held} (b : Between) → v ≡ event.Between b → OpenNow h₀ o → o ≡ false → AllFit sheet w₀ h₀ → BetweenDone flags line b w₀ h₀ w k → EventDone us flags sheet line v w₀ h₀ w (Next k)
   unfolding onEvent eventIn stepIn blankStep SoundStep RowsFit
-  event-between b q p t a d = rw q record { at = λ text. record { is = rw (sym (p .is sheet w₀) ∙ t) (ap next (d .at text .is sheet)); sound = d .at text .sound; fit = d .at text .fit sheet a } }
+  event-between b q p t a d = rw q record { at = λ text. record { is = rw (sym (p .is sheet w₀) ∙ t) (ap next (d .at text us .is sheet)); sound = d .at text us .sound; fit = d .at text us .fit sheet a } }
 
   pub event-inside : {r : Passed} (e : Inside) → v ≡ event.Inside e → InsideDone us flags sheet line e w₀ h₀ w r → EventDone us flags sheet line v w₀ h₀ w r
   unfolding onEvent eventIn insideNow

@@ -2,20 +2,19 @@
 use Prim.Native.Nat.{ℕ, suc, _+_, _-_, _≤_, _<_}
 use mathlib.Core.Path.{_≡_, refl, sym, ap, _∙_, subst}
 use mathlib.Core.List.{List, [], _∷_, _++_}
-use mathlib.Core.Bool.{Bool, true, false}
-use mathlib.Core.Option.{Option, none, some}
+use mathlib.Core.Bool.{true, false}
+use mathlib.Core.Option.{some}
 use native.Mathlib.Omega.{arith}
 use native.Mathlib.Numerals.{add-one}
 use lib.ListN.{length, take, drop}
-use lib.Seq.{slice}
-use Rattle.rules.specs.Basic.{pick, isSome, lf}
-use Rattle.rules.specs.Sheet.{lines, more}
+use Rattle.rules.specs.Basic.{isSome, lf}
+use Rattle.rules.specs.Sheet.{lines}
 use Rattle.rules.specs.Event.{Event}
 use Rattle.rules.specs.Read.{parseLine}
 use Rattle.rules.specs.Units.{NamedUnit}
 use Rattle.rules.specs.Finding.{Finding, onlyParsed}
-use Rattle.rules.specs.Answer.{Reading, events, eventsOr, readFrom, readSheet}
-use Rattle.rules.specs.State.{State, firstState, overLimits, Walk, going, failed, refused, recipe, noRecipe, refusal}
+use Rattle.rules.specs.Answer.{events, eventsOr, readFrom, readSheet}
+use Rattle.rules.specs.State.{State, firstState, overLimits, Walk, going, failed, refused}
 use Rattle.rules.specs.Pass.{parserFindings, isErrorEvent, step, walk, ended, finish, parseEvents}
 use Rattle.rules.proofs.Chained as chained
 use Rattle.rules.proofs.Fields.{Without}
@@ -34,8 +33,8 @@ use Rattle.model.proofs.Blanks.{blank-step, over-blank}
 use Rattle.memory.proofs.Smalls.{first-state}
 use Rattle.memory.proofs.Bounds.{first-sound, first-fit}
 use Rattle.lookup.proofs.Names.{part-slice}
-use Rattle.component_lines.specs.Lines.{LineHere, Kept}
-use Rattle.pass.specs.Walks.{EventHere, Counted, Running, WentOn, WalkedAs, StepDone, EndedAs, Finished, RanRecipe, RanFailed, RanBy, RanAs}
+use Rattle.component_lines.specs.Lines.{Kept}
+use Rattle.pass.specs.Walks.{EventHere, Counted, Running, WentOn, WalkedAs, StepDone, EndedAs, Finished, RanBy, RanAs}
 use Rattle.pass.specs.declared.Walked.{Walked}
 use Rattle.pass.specs.declared.Walked.the-variants as walked
 use Rattle.pass.specs.declared.Ran.{Ran}

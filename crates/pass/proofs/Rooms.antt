@@ -1,5 +1,5 @@
 -- The counts that hold before a line leave room for the line.
-use Prim.Native.Nat.{ℕ, _+_, _-_, _≤_, _<_}
+use Prim.Native.Nat.{ℕ, _+_, _≤_, _<_}
 use mathlib.Core.Path.{_≡_, refl, sym, ap, _∙_}
 use mathlib.Core.List.{List}
 use mathlib.Core.Bool.{Bool, true, false, _||_}
@@ -7,7 +7,7 @@ use native.Mathlib.Omega.{arith}
 use borrow.Author.Tests.{ltb-false}
 use lib.Dec.{ltb}
 use lib.ListN.{length, length-replicate}
-use lib.Seq.{slice, length-slice}
+use lib.Seq.{length-slice}
 use Rattle.rules.proofs.Basics.{no-truth}
 use Rattle.events.specs.declared.EventView.{EventView}
 use Rattle.model.specs.Blank.{blankSpan}
@@ -45,13 +45,14 @@ module _ (a b c d e f g i : Bool) (q : (a || b || c || d || e || f || g || i) �
   four = or-left (a || b || c || d) e (or-left (a || b || c || d || e) f six)
 
   last-six : (c ≡ false) × (d ≡ false) × (e ≡ false) × (f ≡ false) × (g ≡ false) × (i ≡ false)
-  last-six =
-      ( or-right (a || b) c (or-left (a || b || c) d four)
-      , or-right (a || b || c) d four
-      , or-right (a || b || c || d) e (or-left (a || b || c || d || e) f six)
-      , or-right (a || b || c || d || e) f six
-      , or-right (a || b || c || d || e || f) g (or-left (a || b || c || d || e || f || g) i q)
-      , or-right (a || b || c || d || e || f || g) i q)
+  last-six = (
+    or-right (a || b) c (or-left (a || b || c) d four),
+    or-right (a || b || c) d four,
+    or-right (a || b || c || d) e (or-left (a || b || c || d || e) f six),
+    or-right (a || b || c || d || e) f six,
+    or-right (a || b || c || d || e || f) g (or-left (a || b || c || d || e || f || g) i q),
+    or-right (a || b || c || d || e || f || g) i q,
+  )
 
 module _ {sheet w : List ℕ} {h : Held} {n : ℕ} (r : Running sheet w h n) where
   not-over : overIn h ≡ false
@@ -73,8 +74,8 @@ module _ {sheet w : List ℕ} {h : Held} {n : ℕ} (r : Running sheet w h n) whe
   unfolding overIn
   bounded l =
       let z =
-          last-six (ltb 512 (h .counts .ingredients)) (ltb 256 (h .counts .cookware)) (ltb 256 (h .counts .timers)) (ltb 128 (h .counts .sections))
-          (ltb 1024 (h .counts .blocks)) (ltb 4096 (h .counts .items)) (ltb 512 (h .counts .inline)) (ltb 1024 (h .counts .findings)) not-over in
+      last-six (ltb 512 (h .counts .ingredients)) (ltb 256 (h .counts .cookware)) (ltb 256 (h .counts .timers)) (ltb 128 (h .counts .sections))
+      (ltb 1024 (h .counts .blocks)) (ltb 4096 (h .counts .items)) (ltb 512 (h .counts .inline)) (ltb 1024 (h .counts .findings)) not-over in
       let b = ltb-false 1024 (h .counts .blocks) (z .2) in
       let y = here-most in
       let x = counter-most in
@@ -110,6 +111,3 @@ module _ {sheet line : List ℕ} {at end : ℕ} {v : EventView} (z : EventHere s
 
     pub room-finding : Sound w h × (h .counts .findings < 1544)
     room-finding = let b = room in (r .kept .sound, omega (arith, b .findings))
-
-    pub room-section : h .counts .sections < 100000
-    room-section = let b = room in omega (arith, b .sections)

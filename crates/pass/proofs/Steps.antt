@@ -1,17 +1,14 @@
 -- One line of the walk: the limits after it, and what holds before the next.
-use Prim.Native.Nat.{ℕ, suc, _+_, _≤_}
+use Prim.Native.Nat.{ℕ, suc, _+_}
 use mathlib.Core.Path.{_≡_, refl, sym, ap, _∙_, subst}
-use mathlib.Core.List.{List, [], _++_}
+use mathlib.Core.List.{List, []}
 use mathlib.Core.Bool.{Bool, true, false}
 use native.Mathlib.Omega.{arith}
-use native.Mathlib.Numerals.{add-one}
 use Rattle.rules.specs.Basic.{pick}
-use Rattle.rules.specs.Event as rules
 use Rattle.rules.specs.Units.{NamedUnit}
-use Rattle.rules.specs.Finding.{onlyParsed}
 use Rattle.rules.specs.Model.{Kind, ingredient, cookware}
-use Rattle.rules.specs.State.{State, tableOf, overLimits, Step, next, stop, Walk, going, failed, refused}
-use Rattle.rules.specs.Pass.{parserFindings, isErrorEvent, settle, onEvent, step}
+use Rattle.rules.specs.State.{State, tableOf, overLimits, Step, next, stop, going, refused}
+use Rattle.rules.specs.Pass.{settle, onEvent, step}
 use Rattle.rules.proofs.Chained as chained
 use Rattle.events.specs.Views.{eventIn}
 use Rattle.events.specs.declared.EventView.{EventView}
@@ -24,8 +21,7 @@ use Rattle.memory.specs.Pushes.{OverLimits}
 use Rattle.blocks.specs.Lined.{stepIn, SoundStep, RowsFit}
 use Rattle.blocks.specs.declared.Passed.{Passed}
 use Rattle.blocks.specs.declared.Passed.the-variants.{Next, Stop}
-use Rattle.component_lines.specs.Lines.{LineHere, Kept}
-use Rattle.pass.specs.Walks.{EventHere, Counted, Running, LineDone, EventDone, ErrorView, WentOn, WalkedAs, StepDone}
+use Rattle.pass.specs.Walks.{EventHere, Counted, Running, EventDone, ErrorView, WalkedAs, StepDone}
 use Rattle.pass.specs.declared.Walked.the-variants as walked
 use Rattle.pass.proofs.Counts.{CountedStep, event-counted, counted-blank, counted-more}
 

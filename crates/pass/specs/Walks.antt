@@ -9,7 +9,7 @@ use Rattle.rules.specs.Basic.{isSome}
 use Rattle.rules.specs.Units.{NamedUnit, readUnits}
 use Rattle.rules.specs.Event.{Event}
 use Rattle.rules.specs.Finding.{Finding}
-use Rattle.rules.specs.State.{State, firstState, Step, going, refused, Outcome, recipe, noRecipe, refusal}
+use Rattle.rules.specs.State.{State, firstState, Step, going, refused, recipe, noRecipe, refusal}
 use Rattle.rules.specs.Pass as rules
 use Rattle.rules.specs.Pass.{isErrorEvent, walk, ended, finish, parseEvents}
 use Rattle.unicode.specs.Tables.{unicodeTables}
@@ -63,7 +63,8 @@ pub record LineDone (f : State → Step) (sheet w₀ : List ℕ) (h₀ : Held) (
   pub sound : SoundStep w r
   pub fit : RowsFit sheet w r
 
--- a line in a step, a line in any block, a line between blocks, any line; what the recipe's text is does not matter
+-- a line in a step, a line in any block, a line between blocks, any line; what the recipe's text is does not matter,
+-- nor the units between blocks
 pub record InStep (us : List NamedUnit) (flags : ℕ) (sheet line : List ℕ) (e : Inside) (w₀ : List ℕ) (h₀ : Held) (w : List ℕ) (r : Passed) : Type 0 where
   pub done : LineDone (rules.inStepBlock us flags (insideIn line e) []) sheet w₀ h₀ w r
 
@@ -73,8 +74,8 @@ insideNow text us flags line e st = rules.onInside text us flags (insideIn line 
 pub record InsideDone (us : List NamedUnit) (flags : ℕ) (sheet line : List ℕ) (e : Inside) (w₀ : List ℕ) (h₀ : Held) (w : List ℕ) (r : Passed) : Type 0 where
   pub at : (text : List ℕ) → LineDone (insideNow text us flags line e) sheet w₀ h₀ w r
 
-pub record BetweenDone (us : List NamedUnit) (flags : ℕ) (line : List ℕ) (b : Between) (w₀ : List ℕ) (h₀ : Held) (w : List ℕ) (h : Held) : Type 0 where
-  pub at : (text : List ℕ) → Went (rules.onBetween text us flags (betweenIn line b)) w₀ h₀ w h
+pub record BetweenDone (flags : ℕ) (line : List ℕ) (b : Between) (w₀ : List ℕ) (h₀ : Held) (w : List ℕ) (h : Held) : Type 0 where
+  pub at : (text : List ℕ) (us : List NamedUnit) → Went (rules.onBetween text us flags (betweenIn line b)) w₀ h₀ w h
 
 pub record EventDone (us : List NamedUnit) (flags : ℕ) (sheet line : List ℕ) (v : EventView) (w₀ : List ℕ) (h₀ : Held) (w : List ℕ) (r : Passed) : Type 0 where
   pub at : (text : List ℕ) → LineDone (rules.onEvent text us flags (eventIn line v)) sheet w₀ h₀ w r

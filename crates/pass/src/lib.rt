@@ -3,7 +3,7 @@ ghost use mathlib.Core.Path.{_≡_};
 ghost use mathlib.Core.Bool.{true};
 ghost use mathlib.Core.Option.{some};
 ghost use mathlib.Core.List.{[]};
-ghost use Prim.Native.Nat.{_≤_};
+ghost use Prim.Native.Nat.{_≤_, _<_};
 ghost use lib.ListN.{length};
 ghost use lib.Seq.{slice};
 ghost use Rattle.rules.specs.Basic.{isSome, lf};
@@ -13,12 +13,13 @@ ghost use Rattle.rules.specs.Units.{readUnits};
 ghost use Rattle.rules.specs.Answer.{unitsOr, eventsOr, readSheet, events};
 ghost use Rattle.rules.proofs.Fields.{Without};
 ghost use Rattle.unicode.specs.Tables.{unicodeTables};
-ghost use Rattle.events.specs.Views.{componentEventIn, ComponentEventWithin};
+ghost use Rattle.events.specs.Views.{componentEventIn, BetweenWithin, ComponentEventWithin};
 ghost use Rattle.events.specs.declared.EventView.the-variants as event;
 ghost use Rattle.events.specs.declared.Inside.the-variants as inside;
 ghost use Rattle.events.specs.declared.ComponentEvent.the-variants as component;
 ghost use Rattle.known_events.specs.Fields.{ComponentEventFields};
 ghost use Rattle.known_events.specs.Known.{KnownEvent};
+ghost use Rattle.model.specs.Memory.{Sound};
 ghost use Rattle.component_lines.specs.Lines.{LineHere, Kept, ComponentDone};
 ghost use Rattle.pass.specs.Walks.{Lent, EventHere, Running, InStep, InsideDone, BetweenDone, EventDone, ErrorView, StepDone, Finished, RanAs};
 use blocks::Passed;
@@ -31,14 +32,35 @@ use model::Held;
 use model::Open;
 
 // STUB-BEGIN
-fn on_ingredient(t: &[u32], units: &[u8], flags: u32, sheet: &[u8], at: usize, end: usize, v: components::ComponentView, i: components::OptIntermediate, words: &mut [u32], h: Held) -> Passed
+fn on_ingredient(
+    t: &[u32],
+    units: &[u8],
+    flags: u32,
+    sheet: &[u8],
+    at: usize,
+    end: usize,
+    v: components::ComponentView,
+    i: components::OptIntermediate,
+    words: &mut [u32],
+    h: Held,
+) -> Passed
     requires { ⌜ (now t ≡ unicodeTables) × (isSome (readUnits (now units)) ≡ true) × LineHere (now sheet) at end (rules.inside (rules.componentEvent (componentEventIn (slice at end (now sheet)) (component.Ingredient v i)))) × ComponentEventWithin (slice at end (now sheet)) (component.Ingredient v i) × ComponentEventFields (slice at end (now sheet)) (component.Ingredient v i) × Kept (now sheet) (now words) h ⌝ }
     ensures { λ r. ⌜ ComponentDone (unitsOr (readUnits (now (units .entry)))) flags (now (sheet .entry)) (slice at end (now (sheet .entry))) (component.Ingredient v i) (now (words .entry)) h (now (words .exit)) r ⌝ }
 {
     Passed::Stop(1)
 }
 
-fn on_cookware(t: &[u32], units: &[u8], flags: u32, sheet: &[u8], at: usize, end: usize, v: components::ComponentView, words: &mut [u32], h: Held) -> Passed
+fn on_cookware(
+    t: &[u32],
+    units: &[u8],
+    flags: u32,
+    sheet: &[u8],
+    at: usize,
+    end: usize,
+    v: components::ComponentView,
+    words: &mut [u32],
+    h: Held,
+) -> Passed
     requires { ⌜ (now t ≡ unicodeTables) × (isSome (readUnits (now units)) ≡ true) × LineHere (now sheet) at end (rules.inside (rules.componentEvent (componentEventIn (slice at end (now sheet)) (component.Cookware v)))) × ComponentEventWithin (slice at end (now sheet)) (component.Cookware v) × ComponentEventFields (slice at end (now sheet)) (component.Cookware v) × Kept (now sheet) (now words) h ⌝ }
     ensures { λ r. ⌜ ComponentDone (unitsOr (readUnits (now (units .entry)))) flags (now (sheet .entry)) (slice at end (now (sheet .entry))) (component.Cookware v) (now (words .entry)) h (now (words .exit)) r ⌝ }
 {
@@ -63,7 +85,18 @@ fn on_component(
     ensures { λ r. ⌜ ComponentDone (unitsOr (readUnits (now (units .entry)))) flags (now (sheet .entry)) (now (line .entry)) c (now (words .entry)) h (now (words .exit)) r ⌝ }
 {
     match c {
-        ComponentEvent::Ingredient(v, i) => on_ingredient(t, units, flags, sheet, at, end, v, i, words, h),
+        ComponentEvent::Ingredient(v, i) => on_ingredient(
+            t,
+            units,
+            flags,
+            sheet,
+            at,
+            end,
+            v,
+            i,
+            words,
+            h,
+        ),
         ComponentEvent::Cookware(v) => on_cookware(t, units, flags, sheet, at, end, v, words, h),
         ComponentEvent::Timer(s, n, q) => {
             let k = timers::on_timer(t, units, flags, line, n, q, words, h);
@@ -123,20 +156,9 @@ fn on_inside(
     }
 }
 
-fn on_between(
-    t: &[u32],
-    units: &[u8],
-    flags: u32,
-    sheet: &[u8],
-    line: &[u8],
-    at: usize,
-    end: usize,
-    b: Between,
-    words: &mut [u32],
-    h: Held,
-) -> Held
-    requires { ⌜ Lent (now t) (now units) × EventHere (now sheet) (now line) at end (event.Between b) × Running (now sheet) (now words) h at ⌝ }
-    ensures { λ r. ⌜ BetweenDone (unitsOr (readUnits (now (units .entry)))) flags (now (line .entry)) b (now (words .entry)) h (now (words .exit)) r ⌝ }
+fn on_between(t: &[u32], flags: u32, line: &[u8], b: Between, words: &mut [u32], h: Held) -> Held
+    requires { ⌜ (now t ≡ unicodeTables) × BetweenWithin (now line) b × Sound (now words) h × (h .counts .findings < 1544) × (h .counts .old < 100000) × (h .counts .sections < 100000) ⌝ }
+    ensures { λ r. ⌜ BetweenDone flags (now (line .entry)) b (now (words .entry)) h (now (words .exit)) r ⌝ }
 {
     match b {
         Between::Meta(k, v) => metadata::on_meta(t, flags, line, k, v, words, h),
@@ -166,7 +188,7 @@ fn on_event(
             if blocks::is_open(h) {
                 return Passed::Stop(11);
             }
-            let k = on_between(t, units, flags, sheet, line, at, end, b, words, h);
+            let k = on_between(t, flags, line, b, words, h);
             Passed::Next(k)
         }
         EventView::Inside(e) => on_inside(t, units, flags, sheet, line, at, end, e, words, h),

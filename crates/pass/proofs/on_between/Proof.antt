@@ -1,7 +1,6 @@
 use borrow.Author.Needs.{needs}
 use native.Mathlib.Omega.{arith}
-use Rattle.pass.proofs.Lines.{meta-ready, between-meta, between-section, between-start}
-use Rattle.pass.proofs.Rooms.{room-section}
+use Rattle.pass.proofs.Lines.{meta-within, between-meta, between-section, between-start}
 use Rattle.pass.proofs.on_between.Statement.{statement}
 use Rattle.pass.proofs.on_between.Tie as tie
 use Rattle.pass.proofs.on_between.Reads as reads
@@ -16,7 +15,7 @@ enum-known-b c = search needs
 
 -- src/lib.rt:148:32
 on-meta-requires : tie.Need-on-meta-requires
-on-meta-requires c κs = meta-ready _ _ (c .before .before .b .given .1) (c .before .before .before .before .before .before .before .before .before .pre .0) (c .before .before .before .before .before .before .before .before .before .pre .1) (c .before .before .before .before .before .before .before .before .before .pre .2)
+on-meta-requires c κs = let y = meta-within _ _ (c .before .before .b .given .1) (c .before .before .before .before .before .before .before .pre .1) in ((c .before .before .before .before .before .before .before .pre .0), y .0, y .1, (c .before .before .before .before .before .before .before .pre .2), (c .before .before .before .before .before .before .before .pre .3), (c .before .before .before .before .before .before .before .pre .4))
 
 -- src/lib.rt:149:26
 enum-known-b-2 : tie.Need-enum-known-b-2
@@ -24,7 +23,7 @@ enum-known-b-2 c = search needs
 
 -- src/lib.rt:149:32
 on-section-requires : tie.Need-on-section-requires
-on-section-requires c κs = room-section (c .before .before .before .before .before .before .before .before .pre .1) (c .before .before .before .before .before .before .before .before .pre .2)
+on-section-requires c κs = (c .before .before .before .before .before .before .pre .5)
 
 -- src/lib.rt:150:24
 enum-known-b-3 : tie.Need-enum-known-b-3
@@ -44,11 +43,11 @@ returns c = between-meta _ _ (c .before .before .before .before .before .b .give
 
 -- src/lib.rt:132:1
 returns-2 : tie.Need-returns-2
-returns-2 c = between-section _ (c .before .before .b2 .given .1) (c .before .before .before .before .before .before .before .before .before .pre .2 .kept .sound) (c .on-section .ensures)
+returns-2 c = between-section _ (c .before .before .b2 .given .1) (c .before .before .before .before .before .before .before .pre .2) (c .on-section .ensures)
 
 -- src/lib.rt:132:1
 returns-3 : tie.Need-returns-3
-returns-3 c = between-start _ (c .before .before .b3 .given .1) (c .before .before .before .before .before .before .before .before .before .pre .2 .kept .sound) (c .on-start .ensures)
+returns-3 c = between-start _ (c .before .before .b3 .given .1) (c .before .before .before .before .before .before .before .pre .2) (c .on-start .ensures)
 
 pub on-between-spec : {M : Type 1} → statement M
 on-between-spec =

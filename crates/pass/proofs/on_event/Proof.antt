@@ -1,6 +1,6 @@
 use borrow.Author.Needs.{needs}
 use native.Mathlib.Omega.{arith}
-use Rattle.pass.proofs.Lines.{here-as, event-open, event-between, event-inside, event-finding}
+use Rattle.pass.proofs.Lines.{here-as, between-ready, event-open, event-between, event-inside, event-finding}
 use Rattle.pass.proofs.Rooms.{room-finding}
 use Rattle.pass.proofs.on_event.Statement.{statement}
 use Rattle.pass.proofs.on_event.Tie as tie
@@ -25,7 +25,7 @@ returns c = event-open _ (c .before .before .before .v .given .1) (c .before .is
 
 -- src/lib.rt:175:17
 on-between-requires : tie.Need-on-between-requires
-on-between-requires c κs = ((c .before .before .before .before .before .before .before .before .before .before .before .pre .0), here-as _ (c .before .before .before .before .v .given .1) (c .before .before .before .before .before .before .before .before .before .before .before .pre .1), (c .before .before .before .before .before .before .before .before .before .before .before .pre .2))
+on-between-requires c κs = between-ready _ (c .before .before .before .before .v .given .1) (c .before .before .before .before .before .before .before .before .before .before .before .pre .0) (c .before .before .before .before .before .before .before .before .before .before .before .pre .1) (c .before .before .before .before .before .before .before .before .before .before .before .pre .2)
 
 -- src/lib.rt:178:27
 enum-known-v-2 : tie.Need-enum-known-v-2
