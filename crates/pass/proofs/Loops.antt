@@ -39,7 +39,7 @@ use Rattle.pass.specs.declared.Walked.{Walked}
 use Rattle.pass.specs.declared.Walked.the-variants as walked
 use Rattle.pass.specs.declared.Ran.{Ran}
 use Rattle.pass.specs.declared.Ran.the-variants as ran
-use Rattle.pass.proofs.Counts.{first-counted, counted-blank}
+use Rattle.pass.proofs.Counts.{first-counted, counted-blank, counted-more}
 use Rattle.pass.proofs.Rooms.{bounded}
 use Rattle.pass.proofs.Steps.{sound-blank}
 
@@ -268,6 +268,7 @@ module _ {us : List NamedUnit} {flags : ℕ} {sheet text w₀ w : List ℕ} {h :
           is = finished ∙ d .1 sheet w (p .state) (p .memory);
           memory = p .memory;
           kept = p .running .kept;
+          counted = counted-more (stateIn sheet w h) (p .from) (p .running .counted);
         }
     ran-by ran.Failed d = absurd d
     ran-by (ran.Refused m k) d = finished ∙ d sheet w (p .state) (p .memory)

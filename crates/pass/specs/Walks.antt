@@ -119,6 +119,7 @@ pub record RanRecipe (text : List ℕ) (us : List NamedUnit) (flags : ℕ) (shee
   pub is : parseEvents text us flags es ≡ recipe (ended state)
   pub memory : stateIn sheet w h ≡ blank state
   pub kept : Kept sheet w h
+  pub counted : Counted (length sheet) (stateIn sheet w h)
 
 -- no recipe: an `error` line
 pub record RanFailed (text : List ℕ) (us : List NamedUnit) (flags : ℕ) (es : List Event) : Type 0 where
