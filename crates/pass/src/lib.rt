@@ -1,26 +1,15 @@
 // The pass over the lines of a sheet (`RecipeCollector::parse_events`): which line does what, the refusals 11, 12, 17 and 19.
 ghost use mathlib.Core.Path.{_≡_};
-ghost use mathlib.Core.Bool.{true};
-ghost use mathlib.Core.Option.{some};
-ghost use mathlib.Core.List.{[]};
 ghost use Prim.Native.Nat.{_≤_, _<_};
 ghost use lib.ListN.{length};
-ghost use lib.Seq.{slice};
-ghost use Rattle.rules.specs.Basic.{isSome, lf};
-ghost use Rattle.rules.specs.Event as rules;
-ghost use Rattle.rules.specs.Read.{parseLine};
 ghost use Rattle.rules.specs.Units.{readUnits};
 ghost use Rattle.rules.specs.Answer.{unitsOr, eventsOr, readSheet, events};
-ghost use Rattle.rules.proofs.Fields.{Without};
 ghost use Rattle.unicode.specs.Tables.{unicodeTables};
-ghost use Rattle.events.specs.Views.{componentEventIn, BetweenWithin, ComponentEventWithin};
+ghost use Rattle.events.specs.Views.{BetweenWithin};
 ghost use Rattle.events.specs.declared.EventView.the-variants as event;
 ghost use Rattle.events.specs.declared.Inside.the-variants as inside;
-ghost use Rattle.events.specs.declared.ComponentEvent.the-variants as component;
-ghost use Rattle.known_events.specs.Fields.{ComponentEventFields};
-ghost use Rattle.known_events.specs.Known.{KnownEvent};
 ghost use Rattle.model.specs.Memory.{Sound};
-ghost use Rattle.component_lines.specs.Lines.{LineHere, Kept, ComponentDone};
+ghost use Rattle.component_lines.specs.Lines.{ComponentDone};
 ghost use Rattle.pass.specs.Walks.{Lent, EventHere, Running, InStep, InsideDone, BetweenDone, EventDone, ErrorView, StepDone, Finished, RanAs};
 use blocks::Passed;
 use events::Between;
@@ -30,44 +19,6 @@ use events::Inside;
 use events::Severity;
 use model::Held;
 use model::Open;
-
-// STUB-BEGIN
-fn on_ingredient(
-    t: &[u32],
-    units: &[u8],
-    flags: u32,
-    sheet: &[u8],
-    at: usize,
-    end: usize,
-    v: components::ComponentView,
-    i: components::OptIntermediate,
-    words: &mut [u32],
-    h: Held,
-) -> Passed
-    requires { ⌜ (now t ≡ unicodeTables) × (isSome (readUnits (now units)) ≡ true) × LineHere (now sheet) at end (rules.inside (rules.componentEvent (componentEventIn (slice at end (now sheet)) (component.Ingredient v i)))) × ComponentEventWithin (slice at end (now sheet)) (component.Ingredient v i) × ComponentEventFields (slice at end (now sheet)) (component.Ingredient v i) × Kept (now sheet) (now words) h ⌝ }
-    ensures { λ r. ⌜ ComponentDone (unitsOr (readUnits (now (units .entry)))) flags (now (sheet .entry)) (slice at end (now (sheet .entry))) (component.Ingredient v i) (now (words .entry)) h (now (words .exit)) r ⌝ }
-{
-    Passed::Stop(1)
-}
-
-fn on_cookware(
-    t: &[u32],
-    units: &[u8],
-    flags: u32,
-    sheet: &[u8],
-    at: usize,
-    end: usize,
-    v: components::ComponentView,
-    words: &mut [u32],
-    h: Held,
-) -> Passed
-    requires { ⌜ (now t ≡ unicodeTables) × (isSome (readUnits (now units)) ≡ true) × LineHere (now sheet) at end (rules.inside (rules.componentEvent (componentEventIn (slice at end (now sheet)) (component.Cookware v)))) × ComponentEventWithin (slice at end (now sheet)) (component.Cookware v) × ComponentEventFields (slice at end (now sheet)) (component.Cookware v) × Kept (now sheet) (now words) h ⌝ }
-    ensures { λ r. ⌜ ComponentDone (unitsOr (readUnits (now (units .entry)))) flags (now (sheet .entry)) (slice at end (now (sheet .entry))) (component.Cookware v) (now (words .entry)) h (now (words .exit)) r ⌝ }
-{
-    Passed::Stop(1)
-}
-
-// STUB-END
 
 fn on_component(
     t: &[u32],
@@ -85,7 +36,7 @@ fn on_component(
     ensures { λ r. ⌜ ComponentDone (unitsOr (readUnits (now (units .entry)))) flags (now (sheet .entry)) (now (line .entry)) c (now (words .entry)) h (now (words .exit)) r ⌝ }
 {
     match c {
-        ComponentEvent::Ingredient(v, i) => on_ingredient(
+        ComponentEvent::Ingredient(v, i) => component_lines::on_ingredient(
             t,
             units,
             flags,
@@ -97,7 +48,7 @@ fn on_component(
             words,
             h,
         ),
-        ComponentEvent::Cookware(v) => on_cookware(t, units, flags, sheet, at, end, v, words, h),
+        ComponentEvent::Cookware(v) => component_lines::on_cookware(t, units, flags, sheet, at, end, v, words, h),
         ComponentEvent::Timer(s, n, q) => {
             let k = timers::on_timer(t, units, flags, line, n, q, words, h);
             Passed::Next(k)

@@ -5,8 +5,8 @@ use Rattle.pass.proofs.on_component.Statement.{statement}
 use Rattle.pass.proofs.on_component.Tie as tie
 use Rattle.pass.proofs.on_component.Reads as reads
 use Rattle.pass.proofs.on_component.Lts as lts
-use Rattle.pass.proofs.on_cookware.Reads as on-cookware-reads
-use Rattle.pass.proofs.on_ingredient.Reads as on-ingredient-reads
+use Rattle.component_lines.proofs.on_cookware.Reads as on-cookware-reads
+use Rattle.component_lines.proofs.on_ingredient.Reads as on-ingredient-reads
 use Rattle.timers.proofs.on_timer.Reads as on-timer-reads
 
 -- src/lib.rt:72:36

@@ -1,8 +1,0 @@
-// Lines of components.
-ghost use mathlib.Core.Path.{_≡_};
-
-fn one() -> u32
-    ensures { λ r. ⌜ r ≡ 1 ⌝ }
-{
-    1
-}
