@@ -1,8 +1,8 @@
 -- What the search found, what a component refers to, and their modifiers.
-use Prim.Native.Nat.{ℕ, _+_, _-_, _*_, _≤_, _<_}
+use Prim.Native.Nat.{ℕ, _-_, _≤_, _<_}
 use mathlib.Core.Path.{_≡_, refl, ap, sym, _∙_}
 use mathlib.Core.Bool.{Bool, true, false}
-use mathlib.Core.List.{List, []}
+use mathlib.Core.List.{List}
 use mathlib.Core.Option.{Option, none, some}
 use native.Mathlib.Omega.{arith}
 use lib.ListN.{length, take, drop}
@@ -15,20 +15,18 @@ use Rattle.rules.proofs.Basics.{some-inj, no-some}
 use Rattle.rules.proofs.Chained.{refers-same}
 use Rattle.components.specs.Views.{modifiersIn}
 use Rattle.components.specs.declared.Modifiers.{Modifiers}
-use Rattle.model.specs.Contracts.{foundOf}
 use Rattle.model.specs.Rows as rows
 use Rattle.model.specs.Rows.{rowAt, rowOf, entryIn, entryAs}
-use Rattle.model.specs.Memory.{windowsOf, Sound}
+use Rattle.model.specs.Memory.{Sound}
 use Rattle.model.specs.declared.Found.{Found}
 use Rattle.model.specs.declared.Found.the-variants as found
 use Rattle.model.specs.declared.Row.{Row}
 use Rattle.model.specs.declared.Held.{Held}
-use Rattle.memory.specs.Pushes.{countOf}
 use Rattle.lookup.specs.declared.Same.{Same}
 use Rattle.lookup.specs.declared.Same.the-variants.{At, Nothing}
 use Rattle.unit_checks.specs.Checked.{roomOf, SameBelow}
 use Rattle.unit_checks.proofs.Rows.{row-room, framed-earlier}
-use Rattle.lookup.specs.Names.{sameOf, kindOf, rowsIn, pairsIn, earlierIn, earlierAt, SameFound}
+use Rattle.lookup.specs.Names.{sameOf, kindOf, rowsIn, earlierIn, earlierAt, SameFound}
 use Rattle.lookup.proofs.Names.{part-slice}
 use Rattle.checks.proofs.Frames.{Framed, framed-count}
 use Rattle.reference_findings.specs.Reports.{oldIn, handsDown, SameAs}

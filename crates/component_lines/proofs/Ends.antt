@@ -1,7 +1,7 @@
 -- The two lines as the rules have them.
 use Prim.Native.Nat.{ℕ, _≤_}
 use mathlib.Core.Path.{_≡_, refl, ap, sym, _∙_}
-use mathlib.Core.Bool.{Bool, true, false}
+use mathlib.Core.Bool.{false}
 use mathlib.Core.List.{List, []}
 use mathlib.Core.Option.{Option, none, some}
 use borrow.Author.Tests.{eq-eqb, ne-eqb}
@@ -10,10 +10,9 @@ use Rattle.rules.specs.Basic.{pick}
 use Rattle.rules.specs.Event as rules
 use Rattle.rules.specs.Units.{NamedUnit}
 use Rattle.rules.specs.Model.{Kind, ingredient, cookware}
-use Rattle.rules.specs.State.{State, Step, next, stop, tableOf}
+use Rattle.rules.specs.State.{State, Step, next}
 use Rattle.rules.specs.Components.{Made, madeByName, madeIntermediate, makeIngredient, makeCookware, intermediateFault, refersToReference}
-use Rattle.rules.specs.Pass.{pushComponent, unlessFault, onMade, onComponent}
-use Rattle.rules.proofs.Chained as chained
+use Rattle.rules.specs.Pass.{unlessFault, onMade, onComponent}
 use Rattle.rules.proofs.Chained.{by-name-sound}
 use Rattle.components.specs.Views.{modifiersIn, componentIn, optIntermediateIn, intermediateIn}
 use Rattle.components.specs.declared.ComponentView.{ComponentView}
@@ -22,7 +21,7 @@ use Rattle.components.specs.declared.OptIntermediate.{OptIntermediate}
 use Rattle.components.specs.declared.OptIntermediate.the-variants as opt
 use Rattle.events.specs.Views.{componentEventIn}
 use Rattle.events.specs.declared.ComponentEvent.the-variants as event
-use Rattle.model.specs.Blank.{blank, blankStep}
+use Rattle.model.specs.Blank.{blankStep}
 use Rattle.model.specs.Memory.{stateIn}
 use Rattle.model.specs.declared.Held.{Held}
 use Rattle.blocks.specs.Lined.{stepIn, SoundStep}

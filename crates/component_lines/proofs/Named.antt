@@ -5,7 +5,7 @@ use mathlib.Core.Bool.{Bool, true, not}
 use mathlib.Core.List.{List, [], _++_}
 use mathlib.Core.Option.{Option, none, some}
 use native.Mathlib.Omega.{arith}
-use lib.ListN.{length, take, drop}
+use lib.ListN.{take, drop}
 use lib.Seq.{slice}
 use Rattle.rules.specs.Basic.{onSome}
 use Rattle.rules.specs.Event as rules
@@ -14,14 +14,13 @@ use Rattle.rules.specs.Model.{Kind, ingredient, isIngredient, amountOf, inherit
 use Rattle.rules.specs.Modes.{Modes, isComponents}
 use Rattle.rules.specs.Reference.{Earlier, sameNameOf, refersTo, referenceFindings, asReferring}
 use Rattle.rules.specs.State.{State, tableOf}
-use Rattle.rules.specs.Components.{lockFindings, newEntry, foundSame, checksAfter, Made, madeWith, madeByName}
-use Rattle.content.specs.Contents.{keptIn}
+use Rattle.rules.specs.Components.{lockFindings, newEntry, foundSame, checksAfter, madeWith, madeByName}
 use Rattle.parts.specs.Views.{optQuantityIn}
 use Rattle.components.specs.Views.{modifiersIn, componentIn, ComponentWithin}
 use Rattle.components.specs.declared.ComponentView.{ComponentView}
 use Rattle.model.specs.Contracts.{foundOf}
 use Rattle.model.specs.Rows.{entryAs}
-use Rattle.model.specs.Memory.{defineOf, duplicateOf, stateOf, stateIn, Sound}
+use Rattle.model.specs.Memory.{defineOf, stateOf, stateIn, Sound}
 use Rattle.model.specs.Fits.{AllFit}
 use Rattle.model.specs.declared.Found.{Found}
 use Rattle.model.specs.declared.Row.{Row}
@@ -33,13 +32,13 @@ use Rattle.lookup.specs.References.{modesOf, Marked, Refers}
 use Rattle.lookup.proofs.Names.{part-slice}
 use Rattle.checks.specs.Reports.{Reported}
 use Rattle.checks.proofs.Reports.{reported-seq, reported-sound, reported-fit}
-use Rattle.checks.proofs.Frames.{Framed, reported-framed, framed-pairs, framed-count, reported-table}
+use Rattle.checks.proofs.Frames.{Framed, reported-framed, framed-pairs, reported-table}
 use Rattle.unit_checks.specs.Checked.{SameBelow, ChecksDone}
 use Rattle.timers.specs.Timed.{LockChecked}
 use Rattle.reference_findings.specs.Reports.{oldIn, handsDown, SameAs, NewAs, ReferenceReported}
 use Rattle.reference_findings.specs.declared.Old.{Old}
 use Rattle.reference_findings.specs.declared.Old.the-variants as old
-use Rattle.component_lines.specs.Steps.{ComponentHere, NamePlaced, Roomy, SameSmall, FoundAs, OldRead, NamedReported, RowNamed, ReferredBelow, RowPut, MadePushed, NamedDone}
+use Rattle.component_lines.specs.Steps.{ComponentHere, NamePlaced, Roomy, SameSmall, FoundAs, OldRead, NamedReported, RowNamed, ReferredBelow, RowPut, NamedDone}
 use Rattle.component_lines.proofs.Places.{own-content, row-fits}
 use Rattle.component_lines.proofs.Rows.{entry-named}
 use Rattle.component_lines.proofs.Earlier.{old-referred, to-below, small-same, found-below, earliers-kept, below-kept, earlier-index}

@@ -1,11 +1,9 @@
 -- The line of a component, and its name in the sheet.
-use Prim.Native.Nat.{ℕ, _+_, _-_, _≤_}
-use mathlib.Core.Path.{_≡_, refl, ap, sym, _∙_}
-use mathlib.Core.Bool.{true}
-use mathlib.Core.List.{List, []}
-use mathlib.Core.Option.{some}
+use Prim.Native.Nat.{ℕ, _+_, _≤_}
+use mathlib.Core.Path.{_≡_, ap, sym, _∙_}
+use mathlib.Core.List.{List}
 use native.Mathlib.Omega.{arith}
-use lib.ListN.{length, take, drop}
+use lib.ListN.{length}
 use lib.Seq.{slice, length-slice}
 use Rattle.rules.specs.Event as rules
 use Rattle.rules.specs.Event.{inside, componentEvent}

@@ -1,6 +1,6 @@
 -- What one line can draw, and that there is room for it.
-use Prim.Native.Nat.{ℕ, _+_, _≤_, _<_}
-use mathlib.Core.Path.{_≡_, refl, ap, sym, _∙_}
+use Prim.Native.Nat.{ℕ, _+_, _≤_}
+use mathlib.Core.Path.{_≡_, refl, sym}
 use mathlib.Core.Bool.{Bool, true, false, _||_}
 use mathlib.Core.List.{List, [], _∷_, _++_}
 use mathlib.Core.Option.{Option, none, some}
@@ -8,22 +8,22 @@ use native.Mathlib.Omega.{arith}
 use borrow.Author.Tests.{ltb-false}
 use lib.Dec.{ltb}
 use lib.ListN.{length, length-append}
-use Rattle.rules.specs.Basic.{pick, when}
+use Rattle.rules.specs.Basic.{when}
 use Rattle.rules.specs.Event as rules
 use Rattle.rules.specs.Finding.{Finding}
-use Rattle.rules.specs.Model.{Kind, ingredient, cookware, Entry, inherits}
+use Rattle.rules.specs.Model.{Entry}
 use Rattle.rules.specs.Modes.{Modes}
 use Rattle.rules.specs.Reference.{Earlier, isExplicit, treatAsReference, redundantNew, redundantRef, conflictOrMissing, referenceFindings}
 use Rattle.rules.specs.Checks.{intermediateModifiers}
 use Rattle.rules.specs.State.{overLimits}
 use Rattle.rules.specs.Components.{lockFindings}
 use Rattle.rules.proofs.Basics.{pick-either, no-truth}
-use Rattle.model.specs.Memory.{stateIn, stateOf, Sound}
+use Rattle.model.specs.Memory.{stateIn, stateOf}
 use Rattle.model.specs.declared.Held.{Held}
 use Rattle.model.proofs.Tables.{entries-length, findings-length}
 use Rattle.checks.specs.Reports.{Reported}
 use Rattle.checks.proofs.Reports.{reported-count}
-use Rattle.checks.proofs.Frames.{Framed, reported-framed}
+use Rattle.checks.proofs.Frames.{Framed}
 use Rattle.component_lines.specs.Steps.{Roomy}
 
 -- ---- the counts before a line
@@ -70,12 +70,14 @@ pub limits-roomy : (sheet w : List ℕ) (h : Held) → overLimits (stateIn sheet
 unfolding overLimits
 limits-roomy sheet w h e =
     let st = stateIn sheet w h in
-    let z = over-counts (length (st .tables .ingredients)) (length (st .tables .cookware)) (length (st .tables .timers)) (length (st .kept .sections)) (st .kept .blocks) (st .kept .items) (length (st .tables .inline)) (length (st .findings)) e in
-    (record {
-      ingredients = rw (ingredients-count sheet w h) at (z .0);
-      cookware = rw (cookware-count sheet w h) at (z .1);
-      items = rw (items-count sheet w h) at (z .2);
-    }, rw (findings-count sheet w h) at (z .3))
+    let z = over-counts (length (st .tables .ingredients)) (length (st .tables .cookware)) (length (st .tables .timers)) (length (st .kept .sections)) (st .kept .blocks) (st .kept .items) (length (st .tables .inline)) (length (st .findings)) e in (
+      record {
+        ingredients = rw (ingredients-count sheet w h) at (z .0);
+        cookware = rw (cookware-count sheet w h) at (z .1);
+        items = rw (items-count sheet w h) at (z .2);
+      },
+      rw (findings-count sheet w h) at (z .3),
+    )
 
 -- findings leave them
 pub roomy-kept : {w w₁ : List ℕ} {h h₁ : Held} → Framed w h w₁ h₁ → Roomy h → Roomy h₁

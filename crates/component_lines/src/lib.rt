@@ -307,7 +307,20 @@ fn named_line(
     let in_step = !blocks::is_components(define);
     let row = row_named(at, end, p, in_step, m, to, old, is_ingredient);
     let found = found_of(to);
-    let k = named_reports(t, units, flags, sheet, at, end, v, old, to, is_ingredient, words, h);
+    let k = named_reports(
+        t,
+        units,
+        flags,
+        sheet,
+        at,
+        end,
+        v,
+        old,
+        to,
+        is_ingredient,
+        words,
+        h,
+    );
     put_row(words, k, row, found, is_ingredient)
 }
 

@@ -2,8 +2,7 @@
 use Prim.Native.Nat.{ℕ, zero, suc, _+_, _-_, _*_, _/_, _%_, _≤_, _<_}
 use mathlib.Core.Path.{_≡_, refl, ap, sym, _∙_}
 use mathlib.Core.Bool.{Bool, true, false, _&&_, not}
-use mathlib.Core.Option.{Option, none, some}
-use mathlib.Core.List.{List, [], _∷_, _++_, reverse}
+use mathlib.Core.List.{List, [], _∷_, _++_}
 use native.Mathlib.Omega.{arith}
 use lib.Dec.{eqb}
 use lib.ListN.{length, getD, take, drop, length-append, length-reverse}
@@ -21,24 +20,24 @@ use Rattle.parts.specs.declared.OptQuantity.{OptQuantity}
 use Rattle.parts.specs.Views.{optQuantityIn}
 use Rattle.components.specs.declared.ComponentView.{ComponentView}
 use Rattle.components.specs.Views.{componentIn, ComponentWithin}
-use Rattle.model.specs.Rows.{rowAt, rowOf, entryAs, entryIn, relationIn, relationAs, referrersIn}
+use Rattle.model.specs.Rows.{rowAt, rowOf, entryAs, relationIn, relationAs, referrersIn}
 use Rattle.model.specs.Memory.{windowsOf, stateIn, Sound}
-use Rattle.model.specs.Fits.{Fits, AllFit}
+use Rattle.model.specs.Fits.{AllFit}
 use Rattle.model.specs.declared.Relation.{Relation}
 use Rattle.model.specs.declared.Relation.the-variants.{Definition, Reference}
 use Rattle.model.specs.declared.Row.{Row}
 use Rattle.model.specs.declared.Held.{Held}
 use Rattle.model.proofs.Entries.{entry-relation}
 use Rattle.memory.specs.Pushes.{countOf, pairsOf}
-use Rattle.checks.specs.Reports.{Reported, nothing, NoteWithin, ReferenceChecked}
+use Rattle.checks.specs.Reports.{Reported, NoteWithin, ReferenceChecked}
 use Rattle.checks.proofs.Reports.{reported-seq, reported-sound, reported-fit, reported-count}
-use Rattle.checks.proofs.Frames.{Framed, framed-count, reported-framed}
+use Rattle.checks.proofs.Frames.{framed-count, reported-framed}
 use Rattle.checks.proofs.Laws.{none-found, said, note-read}
 use Rattle.lookup.specs.declared.Same.{Same}
 use Rattle.lookup.specs.declared.Same.the-variants.{At, Nothing}
-use Rattle.lookup.specs.Names.{kindOf, rowsIn, pairsIn, sameOf, earlierIn, earlierAt}
+use Rattle.lookup.specs.Names.{kindOf, rowsIn, pairsIn, sameOf, earlierAt}
 use Rattle.recall.specs.Recalls.{Recalled}
-use Rattle.unit_checks.specs.Checked.{InStep, SameBelow, QuantityOf, UnitChecked, UnitsAfter, NewOf, EntryChecked, ChecksDone}
+use Rattle.unit_checks.specs.Checked.{InStep, UnitChecked, UnitsAfter, EntryChecked, ChecksDone}
 use Rattle.unit_checks.proofs.Rows.{earlier-row, framed-earlier, row-fits, old-source, old-amount}
 use Rattle.unit_checks.proofs.Units.{sample, sample-of, against-few, referrers-none}
 

@@ -3,22 +3,21 @@ use Prim.Native.Nat.{ℕ, zero, suc, _+_, _-_, _*_, _≤_, _<_}
 use mathlib.Core.Path.{_≡_, refl, ap, sym, _∙_}
 use mathlib.Core.Bool.{Bool, true, false}
 use mathlib.Core.Option.{Option, none, some}
-use mathlib.Core.List.{List, [], _∷_}
+use mathlib.Core.List.{List}
 use native.Mathlib.Omega.{arith}
 use lib.ListN.{length, take, drop, length-drop}
 use lib.Seq.{slice, length-take-le}
 use borrow.Author.Tests.{ne-eqb}
 use Rattle.rules.specs.Basic.{isSome, onSome, lf}
-use Rattle.rules.specs.Event as rules
 use Rattle.rules.specs.Event.{Event, Component}
 use Rattle.rules.specs.Read.{parseLine}
-use Rattle.rules.specs.Model.{Kind, ingredient, cookware, isIngredient, amountOf, sourceOf, Source, Entry, entryWith, entryOf}
-use Rattle.rules.specs.Reference.{Earlier, entryAt}
+use Rattle.rules.specs.Model.{Kind, ingredient, cookware, isIngredient, amountOf, sourceOf, entryWith, entryOf}
+use Rattle.rules.specs.Reference.{entryAt}
 use Rattle.rules.specs.Checks.{isDefinedInStep}
 use Rattle.rules.specs.State.{tableOf}
 use Rattle.rules.proofs.Basics.{no-truth}
 use Rattle.rules.proofs.Fields.{Without}
-use Rattle.parts.specs.Views.{optQuantityIn, OptQuantityWithin}
+use Rattle.parts.specs.Views.{optQuantityIn}
 use Rattle.components.specs.declared.ComponentView.{ComponentView}
 use Rattle.components.specs.Views.{componentIn, ComponentWithin}
 use Rattle.model.specs.Rows.{rowAt, rowOf, componentOfLine, relationAs, relationIn, entryAs, entryIn, entriesIn, referrersIn}

@@ -1,7 +1,7 @@
 -- The unit check: one row, all referrers of a definition, the definition before them.
 use Prim.Native.Nat.{ℕ, zero, suc, _+_, _-_, _*_, _≤_, _<_}
 use mathlib.Core.Path.{_≡_, refl, ap, sym, _∙_}
-use mathlib.Core.Bool.{Bool, true, false}
+use mathlib.Core.Bool.{Bool, true}
 use mathlib.Core.Option.{Option, none, some}
 use mathlib.Core.List.{List, [], _∷_, _++_, append-nil}
 use native.Mathlib.Omega.{arith}
@@ -10,14 +10,14 @@ use Rattle.rules.specs.Basic.{onSome}
 use Rattle.rules.specs.Event as rules
 use Rattle.rules.specs.Read.{noModifiers}
 use Rattle.rules.specs.Units.{NamedUnit}
-use Rattle.rules.specs.Model.{Kind, ingredient, cookware, isIngredient, Amount, amountOf, sourceOf, Source, Entry, definition}
+use Rattle.rules.specs.Model.{Kind, ingredient, isIngredient, Amount, amountOf, sourceOf, Source, Entry, definition}
 use Rattle.rules.specs.Reference.{entryAt, referrers}
 use Rattle.rules.specs.Checks.{unitFinding, unitPair, unitAgainst, unitsAgainst, unitCheck}
 use Rattle.rules.specs.State.{tableOf}
 use Rattle.parts.specs.declared.OptQuantity.{OptQuantity}
 use Rattle.parts.specs.Views.{optQuantityIn, OptQuantityWithin}
 use Rattle.components.specs.declared.ComponentView.{ComponentView}
-use Rattle.components.specs.Views.{componentIn, ComponentWithin}
+use Rattle.components.specs.Views.{componentIn}
 use Rattle.model.specs.Blank.{blankSpan}
 use Rattle.model.specs.Rows.{rowAt, rowOf, entryAs, relationIn, relationAs, referrersIn, referrersFrom}
 use Rattle.model.specs.Memory.{windowsOf, stateIn, Sound}
@@ -27,15 +27,13 @@ use Rattle.model.specs.declared.Next.{Next}
 use Rattle.model.specs.declared.Next.the-variants.{Referrer, NoMore}
 use Rattle.model.specs.declared.Target.{Target}
 use Rattle.model.specs.declared.Target.the-variants.{Ingredient, Step, Section}
-use Rattle.model.specs.declared.Relation.{Relation}
 use Rattle.model.specs.declared.Relation.the-variants.{Definition, Reference}
-use Rattle.model.specs.declared.RelationRecord.{RelationRecord}
 use Rattle.model.specs.declared.Row.{Row}
 use Rattle.model.specs.declared.Held.{Held}
 use Rattle.model.proofs.Entries.{entry-relation}
 use Rattle.model.proofs.Searches.{referrers-oldest}
 use Rattle.memory.proofs.Whole.{long-ingredientPairs}
-use Rattle.checks.specs.Reports.{Reported, nothing, UnitsChecked}
+use Rattle.checks.specs.Reports.{Reported, UnitsChecked}
 use Rattle.checks.proofs.Reports.{reported-seq, reported-sound, reported-fit, reported-count}
 use Rattle.checks.proofs.Frames.{Framed, framed-none, framed-seq, framed-count, framed-pairs, reported-framed, reported-table}
 use Rattle.checks.proofs.Laws.{none-found, said}
