@@ -48,7 +48,17 @@ fn on_component(
             words,
             h,
         ),
-        ComponentEvent::Cookware(v) => component_lines::on_cookware(t, units, flags, sheet, at, end, v, words, h),
+        ComponentEvent::Cookware(v) => component_lines::on_cookware(
+            t,
+            units,
+            flags,
+            sheet,
+            at,
+            end,
+            v,
+            words,
+            h,
+        ),
         ComponentEvent::Timer(s, n, q) => {
             let k = timers::on_timer(t, units, flags, line, n, q, words, h);
             Passed::Next(k)
