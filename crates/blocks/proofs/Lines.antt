@@ -52,7 +52,7 @@ use Rattle.memory.proofs.Smalls.{state-blank, with-block}
 use Rattle.memory.proofs.Bounds.{fit-block}
 use Rattle.blocks.specs.declared.Passed.{Passed}
 use Rattle.blocks.specs.declared.Passed.the-variants.{Next, Stop}
-use Rattle.blocks.specs.Lined.{Told, Went, stepIn, SoundStep, RowsFit, Stepped, startBlock, OpenNow, SectionDone, ItemsPushed, SpanOf, InTextBlock, InTextMode, kindOpen, StepEnded, ComponentInText}
+use Rattle.blocks.specs.Lined.{Told, Went, stepIn, SoundStep, FitStep, Stepped, startBlock, OpenNow, SectionDone, ItemsPushed, SpanOf, InTextBlock, InTextMode, kindOpen, StepEnded, ComponentInText}
 
 -- ---- another open block, and other items
 
@@ -329,11 +329,11 @@ module _ {w : List ℕ} {h₀ h : Held} {b : Bool} (e : b ≡ isComponents (defi
 -- ---- lines in a block
 
 pub stepped : {f : State → State} {w₀ w : List ℕ} {h₀ h : Held} → Went f w₀ h₀ w h → Stepped (λ st. next (f st)) w₀ h₀ w (Next h)
-unfolding stepIn SoundStep RowsFit blankStep
+unfolding stepIn SoundStep FitStep blankStep
 stepped g = record { is = λ sheet. ap next (g .is sheet); sound = g .sound; fit = g .fit }
 
 pub stopped : {w₀ w : List ℕ} {h₀ : Held} (n : ℕ) → Stepped (λ st. stop n) w₀ h₀ w (Stop n)
-unfolding stepIn SoundStep RowsFit blankStep
+unfolding stepIn SoundStep FitStep blankStep
 stopped n = record { is = λ sheet. refl; sound = tt; fit = λ sheet a. tt }
 
 module _ {w₀ w : List ℕ} {h₀ : Held} {k : BlockKind} where

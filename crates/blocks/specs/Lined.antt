@@ -47,14 +47,14 @@ unfoldable pub SoundStep : List ℕ → Passed → Type 0
 SoundStep w (Next h) = Sound w h
 SoundStep w (Stop n) = Unit
 
-unfoldable pub RowsFit : List ℕ → List ℕ → Passed → Type 0
-RowsFit sheet w (Next h) = AllFit sheet w h
-RowsFit sheet w (Stop n) = Unit
+unfoldable pub FitStep : List ℕ → List ℕ → Passed → Type 0
+FitStep sheet w (Next h) = AllFit sheet w h
+FitStep sheet w (Stop n) = Unit
 
 pub record Stepped (f : State → Step) (w₀ : List ℕ) (h₀ : Held) (w : List ℕ) (r : Passed) : Type 0 where
   pub is : (sheet : List ℕ) → stepIn sheet w r ≡ blankStep (f (stateIn sheet w₀ h₀))
   pub sound : SoundStep w r
-  pub fit : (sheet : List ℕ) → AllFit sheet w₀ h₀ → RowsFit sheet w r
+  pub fit : (sheet : List ℕ) → AllFit sheet w₀ h₀ → FitStep sheet w r
 
 -- ---- the lines
 

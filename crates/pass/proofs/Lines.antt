@@ -40,7 +40,7 @@ use Rattle.model.specs.Fits.{AllFit}
 use Rattle.model.specs.declared.Open.{Open}
 use Rattle.model.specs.declared.Open.the-variants.{Nothing, Step as StepBlock, Text as TextBlock, TextMode}
 use Rattle.model.specs.declared.Held.{Held}
-use Rattle.blocks.specs.Lined.{Told, Went, stepIn, SoundStep, RowsFit, Stepped, startBlock, OpenNow, SectionDone, StepEnded, InTextBlock, InTextMode}
+use Rattle.blocks.specs.Lined.{Told, Went, stepIn, SoundStep, FitStep, Stepped, startBlock, OpenNow, SectionDone, StepEnded, InTextBlock, InTextMode}
 use Rattle.blocks.specs.declared.Passed.{Passed}
 use Rattle.blocks.specs.declared.Passed.the-variants.{Next, Stop}
 use Rattle.blocks.proofs.Lines.{went-told, stepped, stopped}
@@ -48,7 +48,7 @@ use Rattle.blocks.proofs.Fitting.{told-fit}
 use Rattle.timers.specs.Timed.{TimerDone}
 use Rattle.step_texts.specs.Texts.{TextDone}
 use Rattle.metadata.specs.Metas.{MetaDone}
-use Rattle.component_lines.specs.Lines.{LineHere, Kept, FitStep, ComponentDone}
+use Rattle.component_lines.specs.Lines.{LineHere, Kept, ComponentDone}
 use Rattle.pass.specs.Walks.{Lent, EventHere, Running, LineDone, InStep, insideNow, InsideDone, BetweenDone, EventDone, ErrorView}
 use Rattle.pass.proofs.Rooms.{line-short, room}
 
@@ -91,11 +91,6 @@ timer-done {sheet = sheet} s n q e a p = rw e record { is = ap next (p .went .is
 
 -- ---- lines in a step
 
-fit-as : (sheet w : List ℕ) (r : Passed) → FitStep sheet w r → RowsFit sheet w r
-unfolding FitStep RowsFit
-fit-as sheet w (Next h) f = f
-fit-as sheet w (Stop n) f = tt
-
 module _ {us : List NamedUnit} {flags : ℕ} {sheet line w₀ w : List ℕ} {e : Inside} {h₀ : Held} where
   pub step-end : {r : Passed} (k : BlockKind) → e ≡ inside.End k → AllFit sheet w₀ h₀ → StepEnded k w₀ h₀ w r → InStep us flags sheet line e w₀ h₀ w r
   unfolding insideIn
@@ -107,7 +102,7 @@ module _ {us : List NamedUnit} {flags : ℕ} {sheet line w₀ w : List ℕ} {e :
 
   pub step-component : {r : Passed} (c : ComponentEvent) → e ≡ inside.Component c → ComponentDone us flags sheet line c w₀ h₀ w r → InStep us flags sheet line e w₀ h₀ w r
   unfolding insideIn inStepBlock
-  step-component {r} c q p = rw q record { done = record { is = p .is; sound = p .sound; fit = fit-as sheet w r (p .fit) } }
+  step-component c q p = rw q record { done = record { is = p .is; sound = p .sound; fit = p .fit } }
 
 pub text-ready : {t list sheet line w : List ℕ} {at end : ℕ} {h : Held} {e : Inside} (v : TextView) → e ≡ inside.Text v → Lent t list → EventHere sheet line at end (event.Inside e) → Running sheet w h at
     → (t ≡ unicodeTables) × (isSome (readUnits list) ≡ true) × TextWithin line v × Field (partOf line (v .content)) × Sound w h × (h .counts .findings < 1544) × (h .counts .items + length line < 100000) × (h .counts .inline + length line < 100000)
@@ -209,11 +204,11 @@ between-ready b q l z r =
 module _ {us : List NamedUnit} {flags : ℕ} {sheet line w₀ w : List ℕ} {v : EventView} {h₀ : Held} where
   -- 11
   pub event-open : {o : Bool} (b : Between) → v ≡ event.Between b → OpenNow h₀ o → o ≡ true → EventDone us flags sheet line v w₀ h₀ w (Stop 11)
-  unfolding onEvent eventIn stepIn blankStep SoundStep RowsFit
+  unfolding onEvent eventIn stepIn blankStep SoundStep FitStep
   event-open b q p t = rw q record { at = λ text. record { is = rw (sym (p .is sheet w₀) ∙ t); sound = tt; fit = tt } }
 
   pub event-between : {o : Bool} {k : Held} (b : Between) → v ≡ event.Between b → OpenNow h₀ o → o ≡ false → AllFit sheet w₀ h₀ → BetweenDone flags line b w₀ h₀ w k → EventDone us flags sheet line v w₀ h₀ w (Next k)
-  unfolding onEvent eventIn stepIn blankStep SoundStep RowsFit
+  unfolding onEvent eventIn stepIn blankStep SoundStep FitStep
   event-between b q p t a d = rw q record { at = λ text. record { is = rw (sym (p .is sheet w₀) ∙ t) (ap next (d .at text us .is sheet)); sound = d .at text us .sound; fit = d .at text us .fit sheet a } }
 
   pub event-inside : {r : Passed} (e : Inside) → v ≡ event.Inside e → InsideDone us flags sheet line e w₀ h₀ w r → EventDone us flags sheet line v w₀ h₀ w r

@@ -18,7 +18,7 @@ use Rattle.model.specs.Fits.{AllFit}
 use Rattle.model.specs.declared.Held.{Held}
 use Rattle.model.proofs.Blanks.{over-blank}
 use Rattle.memory.specs.Pushes.{OverLimits}
-use Rattle.blocks.specs.Lined.{stepIn, SoundStep, RowsFit}
+use Rattle.blocks.specs.Lined.{stepIn, SoundStep, FitStep}
 use Rattle.blocks.specs.declared.Passed.{Passed}
 use Rattle.blocks.specs.declared.Passed.the-variants.{Next, Stop}
 use Rattle.pass.specs.Walks.{EventHere, Counted, Running, EventDone, ErrorView, WalkedAs, StepDone}
@@ -103,8 +103,8 @@ module _ {us : List NamedUnit} {flags : ℕ} {sheet line w₀ w : List ℕ} {v :
       unfolding SoundStep
       sound-after s = rw e at s
 
-      fit-after : RowsFit sheet w r → AllFit sheet w k
-      unfolding RowsFit
+      fit-after : FitStep sheet w r → AllFit sheet w k
+      unfolding FitStep
       fit-after s = rw e at s
 
       running-after : {at end : ℕ} → b ≡ false → EventHere sheet line at end v → Running sheet w₀ h₀ at → Running sheet w k (end + 1)

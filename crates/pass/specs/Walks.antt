@@ -21,7 +21,7 @@ use Rattle.known_events.specs.Fields.{EventFields}
 use Rattle.model.specs.Blank.{blank, blankStep, blankWalk}
 use Rattle.model.specs.Memory.{stateIn}
 use Rattle.model.specs.declared.Held.{Held}
-use Rattle.blocks.specs.Lined.{stepIn, SoundStep, RowsFit, Went}
+use Rattle.blocks.specs.Lined.{stepIn, SoundStep, FitStep, Went}
 use Rattle.blocks.specs.declared.Passed.{Passed}
 use Rattle.component_lines.specs.Lines.{LineHere, Kept}
 use Rattle.pass.specs.declared.Walked.{Walked}
@@ -61,7 +61,7 @@ pub record Running (sheet w : List ℕ) (h : Held) (n : ℕ) : Type 0 where
 pub record LineDone (f : State → Step) (sheet w₀ : List ℕ) (h₀ : Held) (w : List ℕ) (r : Passed) : Type 0 where
   pub is : stepIn sheet w r ≡ blankStep (f (stateIn sheet w₀ h₀))
   pub sound : SoundStep w r
-  pub fit : RowsFit sheet w r
+  pub fit : FitStep sheet w r
 
 -- a line in a step, a line in any block, a line between blocks, any line; what the recipe's text is does not matter,
 -- nor the units between blocks
