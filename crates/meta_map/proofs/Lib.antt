@@ -1,0 +1,4 @@
+pub mod Chains
+pub mod Stored
+pub mod Printed
+pub mod Walks
