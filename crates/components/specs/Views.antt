@@ -1,14 +1,14 @@
 -- What the views of components stand for, by the rules, and what holds of a view that was read.
 use Prim.Native.Nat.{ℕ, _≤_}
 use mathlib.Core.Path.{_≡_}
-use mathlib.Core.List.{List}
+use mathlib.Core.List.{List, _∷_, _++_}
 use lib.ListN.{drop}
 use mathlib.Core.Option.{Option, none, some}
 use Rattle.rules.specs.Words as words
 use Rattle.rules.specs.Sheet as sheets
 use Rattle.rules.specs.Event as rules
 use Rattle.rules.specs.Read.{past}
-use Rattle.parts.specs.Views.{spanIn, SpanWithin, textIn, TextWithin, optTextIn, OptTextWithin, optQuantityIn, OptQuantityWithin}
+use Rattle.parts.specs.Views.{spanIn, SpanWithin, textIn, TextWithin, optTextIn, OptTextWithin, optQuantityIn, OptQuantityWithin, partOf, rawOptText, rawOptQuantity}
 use Rattle.components.specs.declared.Modifiers.{Modifiers}
 use Rattle.components.specs.declared.Letters.{Letters}
 use Rattle.components.specs.declared.Letters.the-variants as letters
@@ -76,3 +76,8 @@ optIntermediateIn (intermediate.Present v) = some (intermediateIn v)
 unfoldable pub OptIntermediateWithin : OptIntermediate → Type 0
 OptIntermediateWithin intermediate.Absent = Unit
 OptIntermediateWithin (intermediate.Present v) = IntermediateWithin v
+
+-- the contents that a component holds, as they stand in the line
+abbrev pub rawComponent : List ℕ → ComponentView → List (List ℕ)
+rawComponent line v =
+    partOf line (v .name .content) ∷ (rawOptText line (v .alias) ++ (rawOptQuantity line (v .quantity) ++ rawOptText line (v .note)))

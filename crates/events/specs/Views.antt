@@ -1,10 +1,10 @@
 -- What the view of a line stands for, by the rules, and what holds of a view that was read.
 use Prim.Native.Nat.{ℕ, _≤_}
-use mathlib.Core.List.{List}
+use mathlib.Core.List.{List, [], _++_}
 use Rattle.rules.specs.Words as words
 use Rattle.rules.specs.Event as rules
-use Rattle.parts.specs.Views.{spanIn, SpanWithin, textIn, TextWithin, optTextIn, OptTextWithin, optQuantityIn, OptQuantityWithin}
-use Rattle.components.specs.Views.{componentIn, ComponentWithin, optIntermediateIn, OptIntermediateWithin}
+use Rattle.parts.specs.Views.{spanIn, SpanWithin, textIn, TextWithin, optTextIn, OptTextWithin, optQuantityIn, OptQuantityWithin, rawText, rawOptText, rawOptQuantity}
+use Rattle.components.specs.Views.{componentIn, ComponentWithin, rawComponent, optIntermediateIn, OptIntermediateWithin}
 use Rattle.events.specs.declared.BlockKind.{BlockKind}
 use Rattle.events.specs.declared.BlockKind.the-variants as block
 use Rattle.events.specs.declared.Between.{Between}
@@ -67,3 +67,25 @@ unfoldable pub EventWithin : List ℕ → EventView → Type 0
 EventWithin line (event.Between b) = BetweenWithin line b
 EventWithin line (event.Inside i) = InsideWithin line i
 EventWithin line (event.Finding s n) = n ≤ 65535
+
+-- ---- the contents that the view holds, as they stand in the line
+
+abbrev pub rawBetween : List ℕ → Between → List (List ℕ)
+rawBetween line (between.Meta k v) = rawText line k ++ rawText line v
+rawBetween line (between.Section n) = rawOptText line n
+rawBetween line (between.Start k) = []
+
+abbrev pub rawComponentEvent : List ℕ → ComponentEvent → List (List ℕ)
+rawComponentEvent line (component.Ingredient c i) = rawComponent line c
+rawComponentEvent line (component.Cookware c) = rawComponent line c
+rawComponentEvent line (component.Timer s n q) = rawOptText line n ++ rawOptQuantity line q
+
+abbrev pub rawInside : List ℕ → Inside → List (List ℕ)
+rawInside line (inside.End k) = []
+rawInside line (inside.Text t) = rawText line t
+rawInside line (inside.Component c) = rawComponentEvent line c
+
+abbrev pub rawEvent : List ℕ → EventView → List (List ℕ)
+rawEvent line (event.Between b) = rawBetween line b
+rawEvent line (event.Inside i) = rawInside line i
+rawEvent line (event.Finding s n) = []

@@ -32,7 +32,7 @@ use Rattle.parts.specs.declared.GotKind.the-variants as kind
 use Rattle.parts.specs.declared.Dash.the-variants as dash
 use Rattle.parts.specs.declared.Part.{Part}
 use Rattle.parts.specs.Views.{partOf, orEmpty, bytesIn, contentIn, kindIn}
-use Rattle.parts.specs.Got.{ReadAt, NumberRead, ContentRead, KindRead, dashAs, DashAt}
+use Rattle.parts.specs.Got.{Among, among-end, among-past, among-one, ReadAt, noContents, NumberRead, ContentRead, KindRead, dashAs, DashAt}
 use Rattle.parts.proofs.Sequence.{reads, fails}
 
 -- ---- the fields that are left
@@ -67,19 +67,27 @@ field-part line at {f} h e =
     rw (k, q) (front (drop at line))
 
 -- ---- one field, and what it says
-module _ {View A : Type 0} {means : View → A} {Good : View → Type 0} (p : List ℕ → Option A) {line : List ℕ} {at : ℕ} where
-  pub leaf-past : length line < at → ReadAt means Good (field >>= (λ (f : List ℕ). saying (p f))) line at none
+leaf-is : {A : Type 0} (p : List ℕ → Option A) (line : List ℕ) (at : ℕ) {f : List ℕ} {a : A} → at ≤ length line → f ≡ fieldAt line at → p f ≡ some a → (field >>= (λ (f : List ℕ). saying (p f))) (fieldsFrom line at) ≡ some (a, fieldsFrom line (at + length f + 1))
+unfolding _>>=_ goOn field saying
+leaf-is p line at h e q = rw (field-here line at h e, q)
+
+module _ {View A : Type 0} {means : View → A} {Good : View → Type 0} {raw : View → Fields} (p : List ℕ → Option A) {line : List ℕ} {at : ℕ} where
+  pub leaf-past : length line < at → ReadAt means Good raw (field >>= (λ (f : List ℕ). saying (p f))) line at none
   unfolding _>>=_ goOn field
   leaf-past h = fails (rw (no-fields line at h))
 
   module _ {f : List ℕ} (h : at ≤ length line) (e : f ≡ fieldAt line at) where
-    pub leaf-bad : p f ≡ none → ReadAt means Good (field >>= (λ (f : List ℕ). saying (p f))) line at none
+    pub leaf-bad : p f ≡ none → ReadAt means Good raw (field >>= (λ (f : List ℕ). saying (p f))) line at none
     unfolding _>>=_ goOn field saying
     leaf-bad q = fails (rw (field-here line at h e, q))
 
-    pub leaf-got : {v : View} → p f ≡ some (means v) → Good v → ReadAt means Good (field >>= (λ (f : List ℕ). saying (p f))) line at (some (v, at + length f + 1))
-    unfolding _>>=_ goOn field saying
-    leaf-got q g = reads (rw (field-here line at h e, q)) g
+    pub leaf-content : {v : View} → p f ≡ some (means v) → Good v → raw v ≡ f ∷ [] → ReadAt means Good raw (field >>= (λ (f : List ℕ). saying (p f))) line at (some (v, at + length f + 1))
+    leaf-content q g k = reads (record { is = leaf-is p line at h e q; among = rw (k, field-here line at h e) (among-one among-end) }) g
+
+-- which holds no content
+module _ {View A : Type 0} {means : View → A} {Good : View → Type 0} (p : List ℕ → Option A) {line : List ℕ} {at : ℕ} {f : List ℕ} (h : at ≤ length line) (e : f ≡ fieldAt line at) where
+  pub leaf-got : {v : View} → p f ≡ some (means v) → Good v → ReadAt means Good noContents (field >>= (λ (f : List ℕ). saying (p f))) line at (some (v, at + length f + 1))
+  leaf-got q g = reads (record { is = leaf-is p line at h e q; among = rw (field-here line at h e) (among-past among-end) }) g
 
 -- ---- numbers
 most-of : (m : ℕ) (o : Option ℕ) {n : ℕ} → atMost m o ≡ some n → n ≤ m
@@ -140,7 +148,7 @@ module _ (line : List ℕ) (at : ℕ) {f : List ℕ} (h : at ≤ length line) (e
 
   pub content-got : w ≡ true → ContentRead line at (content.Got (record { from = at; to = at + length f }) (at + length f + 1))
   unfolding readContent
-  content-got q = leaf-got contentOf h e (content-is q) (record { ordered = omega arith; ends = rw (sym e) at (field-within line at h); well = content-well q })
+  content-got q = leaf-content contentOf h e (content-is q) (record { ordered = omega arith; ends = rw (sym e) at (field-within line at h); well = content-well q }) (rw (field-part line at h e))
 
 -- ---- words
 -- what a word that was told says of the option behind it
@@ -179,16 +187,16 @@ module _ {line : List ℕ} {at : ℕ} {f : List ℕ} (h : at ≤ length line) (e
 
 -- a table of two words
 module _ {View A : Type 0} {means : View → A} {Good : View → Type 0} (a b : List ℕ × A) {line : List ℕ} {at : ℕ} {f : List ℕ} (h : at ≤ length line) (e : f ≡ fieldAt line at) where
-  pub two-first : {t : Bool} {v : View} → t ≡ eqList f (a .0) → t ≡ true → a .1 ≡ means v → Good v → ReadAt means Good (word (a ∷ b ∷ [])) line at (some (v, at + length f + 1))
+  pub two-first : {t : Bool} {v : View} → t ≡ eqList f (a .0) → t ≡ true → a .1 ≡ means v → Good v → ReadAt means Good noContents (word (a ∷ b ∷ [])) line at (some (v, at + length f + 1))
   unfolding word
   two-first p q m g = leaf-got (λ (f : List ℕ). wordIn f (a ∷ b ∷ [])) h e (sym (hit f a (b ∷ []) refl p q) ∙ ap some m) g
 
   module _ {t : Bool} (p : t ≡ eqList f (a .0)) (q : t ≡ false) {u : Bool} (l : u ≡ eqList f (b .0)) where
-    pub two-second : {v : View} → u ≡ true → b .1 ≡ means v → Good v → ReadAt means Good (word (a ∷ b ∷ [])) line at (some (v, at + length f + 1))
+    pub two-second : {v : View} → u ≡ true → b .1 ≡ means v → Good v → ReadAt means Good noContents (word (a ∷ b ∷ [])) line at (some (v, at + length f + 1))
     unfolding word
     two-second k m g = leaf-got (λ (f : List ℕ). wordIn f (a ∷ b ∷ [])) h e (sym (hit f b [] (miss f a (b ∷ []) refl p q) l k) ∙ ap some m) g
 
-    pub two-neither : u ≡ false → ReadAt means Good (word (a ∷ b ∷ [])) line at none
+    pub two-neither : u ≡ false → ReadAt means Good noContents (word (a ∷ b ∷ [])) line at none
     unfolding word wordIn
     two-neither k = leaf-bad (λ (f : List ℕ). wordIn f (a ∷ b ∷ [])) h e (sym (miss f b [] (miss f a (b ∷ []) refl p q) l k))
 

@@ -1,7 +1,7 @@
 -- What the views of a line stand for, by the rules, and what holds of a view that was read.
 use Prim.Native.Nat.{ℕ, _-_, _≤_}
 use mathlib.Core.Path.{_≡_}
-use mathlib.Core.List.{List, []}
+use mathlib.Core.List.{List, [], _∷_}
 use mathlib.Core.Option.{Option, none, some}
 use lib.ListN.{length, take, drop}
 use Rattle.rules.specs.Utf8.{chars}
@@ -91,3 +91,22 @@ optQuantityIn line (quantity.Present v) = some (quantityIn line v)
 unfoldable pub OptQuantityWithin : List ℕ → OptQuantity → Type 0
 OptQuantityWithin line quantity.Absent = Unit
 OptQuantityWithin line (quantity.Present v) = QuantityWithin line v
+
+-- ---- the contents that a view holds, as they stand in the line, still escaped
+
+abbrev pub rawPart : List ℕ → Part → List (List ℕ)
+rawPart line p = partOf line p ∷ []
+
+abbrev pub rawText : List ℕ → TextView → List (List ℕ)
+rawText line v = partOf line (v .content) ∷ []
+
+abbrev pub rawOptText : List ℕ → OptText → List (List ℕ)
+rawOptText line text.Absent = []
+rawOptText line (text.Present v) = rawText line v
+
+abbrev pub rawQuantity : List ℕ → QuantityView → List (List ℕ)
+rawQuantity line v = partOf line (v .value) ∷ rawOptText line (v .unit)
+
+abbrev pub rawOptQuantity : List ℕ → OptQuantity → List (List ℕ)
+rawOptQuantity line quantity.Absent = []
+rawOptQuantity line (quantity.Present v) = rawQuantity line v

@@ -20,17 +20,17 @@ use Rattle.sheet.specs.Lines.{fieldsFrom, fieldAt}
 use Rattle.utf8.specs.declared.Checked.{Checked}
 use Rattle.utf8.specs.declared.Checked.the-variants.{Valid, Fault}
 use Rattle.utf8.specs.Checking.{checkedOf}
-use Rattle.parts.specs.Got.{ReadAt}
-use Rattle.parts.proofs.Sequence.{fails, step, stop, good-of}
+use Rattle.parts.specs.Got.{Among, among-past, ReadAt}
+use Rattle.parts.proofs.Sequence.{fails, step, stop, good-of, whole-of}
 use Rattle.parts.proofs.Leaves.{no-fields, field-here}
 use Rattle.events.specs.declared.GotEvent.{GotEvent}
 use Rattle.events.specs.declared.GotEvent.the-variants as event
 use Rattle.events.specs.declared.EventView.{EventView}
 use Rattle.reading.specs.declared.ReadEvent.{ReadEvent}
 use Rattle.reading.specs.declared.ReadEvent.the-variants as answer
-use Rattle.events.specs.Views.{eventIn, EventWithin}
+use Rattle.events.specs.Views.{eventIn, EventWithin, rawEvent}
 use Rattle.events.specs.Got.{EventRead, eventGot}
-use Rattle.reading.specs.Answers.{wordOf, afterWord, readWord, eventAs, IfEvent, EventOf, LineOf}
+use Rattle.reading.specs.Answers.{wordOf, afterWord, readWord, eventAs, IfEvent, IfWhole, EventOf, LineOf}
 
 -- ---- the first word
 word-is : (o : Option EventWord) → wordOf (wordAs o) ≡ o
@@ -47,7 +47,7 @@ word-is (some words.timerWord) = refl
 word-is (some words.errorWord) = refl
 word-is (some words.warningWord) = refl
 
-pub after-is : {w k : Word} {line : List ℕ} {at : ℕ} {o : Option (EventView × ℕ)} → w ≡ k → ReadAt (eventIn line) (EventWithin line) (readWord k) line at o → ReadAt (eventIn line) (EventWithin line) (readWord w) line at o
+pub after-is : {w k : Word} {line : List ℕ} {at : ℕ} {o : Option (EventView × ℕ)} → w ≡ k → ReadAt (eventIn line) (EventWithin line) (rawEvent line) (readWord k) line at o → ReadAt (eventIn line) (EventWithin line) (rawEvent line) (readWord w) line at o
 after-is q p = rw q p
 
 pub after-unknown : {line : List ℕ} {at : ℕ} → EventRead (readWord first.Unknown) line at event.Ill
@@ -87,17 +87,20 @@ module _ (line : List ℕ) {f : List ℕ} (e : f ≡ fieldAt line 0) {w : Word} 
 
   module _ {g : GotEvent} (p : EventRead (readWord w) line (length f + 1) g) where
     pub in-ill : g ≡ event.Ill → EventOf line answer.Ill
-    unfolding eventAs IfEvent firstRead
-    in-ill k = record { is = sym (ap firstRead (split ∙ stop p (ap eventGot k) _)); within = tt }
+    unfolding eventAs IfEvent IfWhole firstRead
+    in-ill k = record { is = sym (ap firstRead (split ∙ stop p (ap eventGot k) _)); within = tt; whole = tt }
 
     module _ {v : EventView} {m : ℕ} (k : g ≡ event.Got v m) where
       pub in-more : m ≤ length line → EventOf line answer.Ill
-      unfolding eventAs IfEvent firstRead
-      in-more h = record { is = sym (ap firstRead (split ∙ step p (ap eventGot k) _ (end-more (eventIn line v) (field-here line m h refl)))); within = tt }
+      unfolding eventAs IfEvent IfWhole firstRead
+      in-more h = record { is = sym (ap firstRead (split ∙ step p (ap eventGot k) _ (end-more (eventIn line v) (field-here line m h refl)))); within = tt; whole = tt }
+
+      in-whole : length line < m → Among (rawEvent line v) (fieldsOf line) []
+      in-whole h = rw (line-fields line e) (among-past (rw (no-fields line m h) at (whole-of p (ap eventGot k))))
 
       pub in-got : length line < m → EventOf line (answer.Event v)
-      unfolding eventAs IfEvent firstRead
-      in-got h = record { is = sym (ap firstRead (split ∙ step p (ap eventGot k) _ (end-is (eventIn line v) (no-fields line m h)))); within = good-of p (ap eventGot k) }
+      unfolding eventAs IfEvent IfWhole firstRead
+      in-got h = record { is = sym (ap firstRead (split ∙ step p (ap eventGot k) _ (end-is (eventIn line v) (no-fields line m h)))); within = good-of p (ap eventGot k); whole = in-whole h }
 
 -- ---- UTF-8
 valid-none : (o : Option ℕ) → Valid ≡ checkedOf o → o ≡ none
@@ -113,11 +116,11 @@ fault-some (some m) e = cc
 module _ {line : List ℕ} {c : Checked} (t : c ≡ checkedOf (firstFault line)) where
   pub line-valid : c ≡ Valid → {r : ReadEvent} → EventOf line r → LineOf line r
   unfolding parseLine isUtf8 isSome
-  line-valid q p = record { is = rw (valid-none _ (sym q ∙ t)) (p .is); within = p .within }
+  line-valid q p = record { is = rw (valid-none _ (sym q ∙ t)) (p .is); within = p .within; whole = p .whole }
 
   pub line-fault : {n : ℕ} → c ≡ Fault n → LineOf line answer.Ill
-  unfolding parseLine isUtf8 isSome eventAs IfEvent
-  line-fault q = record { is = rw (fault-some _ (sym q ∙ t)); within = tt }
+  unfolding parseLine isUtf8 isSome eventAs IfEvent IfWhole
+  line-fault q = record { is = rw (fault-some _ (sym q ∙ t)); within = tt; whole = tt }
 
 -- ---- what a line's answer says
 module _ {line : List ℕ} {r : ReadEvent} (p : LineOf line r) where
@@ -133,3 +136,7 @@ module _ {line : List ℕ} {r : ReadEvent} (p : LineOf line r) where
     pub line-within : EventWithin line v
     unfolding IfEvent
     line-within = rw q at (p .within)
+
+    pub line-whole : Among (rawEvent line v) (fieldsOf line) []
+    unfolding IfWhole
+    line-whole = rw q at (p .whole)

@@ -10,7 +10,8 @@ use Rattle.rules.specs.Event.{Event}
 use Rattle.rules.specs.Read.{Reader, readAfter, readEvent, firstRead, parseLine}
 use Rattle.sheet.specs.declared.Word.{Word}
 use Rattle.sheet.specs.declared.Word.the-variants as told
-use Rattle.events.specs.Views.{eventIn, EventWithin}
+use Rattle.parts.specs.Got.{Among}
+use Rattle.events.specs.Views.{eventIn, EventWithin, rawEvent}
 use Rattle.rules.specs.Answer.{Reading, events, unread, readLine, readSheet}
 use Rattle.reading.specs.declared.ReadEvent.{ReadEvent}
 use Rattle.reading.specs.declared.ReadEvent.the-variants as answer
@@ -50,14 +51,21 @@ unfoldable pub IfEvent : List ℕ → ReadEvent → Type 0
 IfEvent line (answer.Event v) = EventWithin line v
 IfEvent line answer.Ill = Unit
 
+-- the contents that the view holds are whole fields of the line, in their order
+unfoldable pub IfWhole : List ℕ → ReadEvent → Type 0
+IfWhole line (answer.Event v) = Among (rawEvent line v) (fieldsOf line) []
+IfWhole line answer.Ill = Unit
+
 -- what `event_in` and `event_at` answer
 pub record EventOf (line : List ℕ) (r : ReadEvent) : Type 0 where
   pub is : eventAs line r ≡ firstRead (readEvent (fieldsOf line))
   pub within : IfEvent line r
+  pub whole : IfWhole line r
 
 pub record LineOf (line : List ℕ) (r : ReadEvent) : Type 0 where
   pub is : eventAs line r ≡ parseLine line
   pub within : IfEvent line r
+  pub whole : IfWhole line r
 
 -- the refusal of a reading and its line
 unfoldable pub faultOf : Reading → Option (ℕ × ℕ)

@@ -1,14 +1,10 @@
 -- A line that is a component, read again.
 use Prim.Native.Nat.{ℕ}
-use mathlib.Core.Path.{_≡_, refl, ap, sym, _∙_}
-use mathlib.Core.Bool.{Bool, true, false}
-use mathlib.Core.Option.{Option, none, some}
+use mathlib.Core.Path.{_≡_, refl}
+use mathlib.Core.Bool.{true}
+use mathlib.Core.Option.{some}
 use mathlib.Core.List.{List}
-use Rattle.rules.specs.Basic.{pick}
-use Rattle.rules.specs.Utf8.{isUtf8}
-use Rattle.rules.specs.Sheet.{fieldsOf}
-use Rattle.rules.specs.Event.{Event}
-use Rattle.rules.specs.Read.{parseLine, firstRead, readEvent}
+use Rattle.rules.specs.Read.{parseLine}
 use Rattle.rules.specs.Model.{Kind, ingredient, cookware}
 use Rattle.rules.proofs.Basics.{no-truth}
 use Rattle.components.specs.declared.ComponentView.{ComponentView}
@@ -20,25 +16,11 @@ use Rattle.events.specs.declared.Inside.the-variants as inside
 use Rattle.events.specs.declared.ComponentEvent.{ComponentEvent}
 use Rattle.events.specs.declared.ComponentEvent.the-variants as component
 use Rattle.events.specs.Views.{eventIn, insideIn, componentEventIn, EventWithin, InsideWithin, ComponentEventWithin}
-use Rattle.reading.specs.declared.ReadEvent.{ReadEvent}
-use Rattle.reading.specs.declared.ReadEvent.the-variants as answer
-use Rattle.reading.specs.Answers.{eventAs, IfEvent, EventOf}
+use Rattle.known_events.specs.Fields.{ComponentFields, ComponentEventFields, InsideFields, EventFields}
+use Rattle.known_events.specs.Known.{KnownEvent}
 use Rattle.model.specs.Rows.{componentIn, componentInside, componentAs, componentOfLine}
 use Rattle.model.specs.Fits.{isOfKind, isInsideOf, isComponentOf}
 use Rattle.recall.specs.Recalls.{blankView, viewOf, viewInside, viewIn, Recalled}
-
--- a line of a kind is UTF-8, so that it is what its fields are
-kind-read : (k : Kind) (t : Bool) (o : Option Event) → isOfKind k (pick t o none) ≡ true → pick t o none ≡ o
-kind-read k true o h = refl
-kind-read k false o h = unfold isOfKind in no-truth h
-
-no-kind : {P : Type 0} (k : Kind) → isOfKind k none ≡ true → P
-unfolding isOfKind
-no-kind k h = no-truth h
-
-line-read : (k : Kind) (line : List ℕ) → isOfKind k (parseLine line) ≡ true → parseLine line ≡ firstRead (readEvent (fieldsOf line))
-unfolding parseLine
-line-read k line h = kind-read k (isUtf8 line) (firstRead (readEvent (fieldsOf line))) h
 
 -- what an event that was read stands for
 module _ (line : List ℕ) where
@@ -74,29 +56,30 @@ module _ (line : List ℕ) where
   event-within k (event.Inside (inside.Component c)) h w = component-within k c h w
   event-within k (event.Finding s n) h w = no-truth h
 
-module _ {line : List ℕ} {r : ReadEvent} (o : EventOf line r) where
-  as-read : (k : Kind) → isOfKind k (parseLine line) ≡ true → eventAs line r ≡ parseLine line
-  as-read k h = o .is ∙ sym (line-read k line h)
+  component-fields : (k : Kind) (c : ComponentEvent) → isComponentOf k (componentEventIn line c) ≡ true → ComponentEventFields line c → ComponentFields line (viewOf c)
+  unfolding isComponentOf componentEventIn viewOf ComponentEventFields
+  component-fields k (component.Ingredient v i) h w = w
+  component-fields k (component.Cookware v) h w = w
+  component-fields ingredient (component.Timer s n q) h w = no-truth h
+  component-fields cookware (component.Timer s n q) h w = no-truth h
 
-  no-line : {P : Type 0} (k : Kind) → r ≡ answer.Ill → isOfKind k (parseLine line) ≡ true → P
-  unfolding eventAs
-  no-line k e h = let q = as-read k h in no-kind k (rw (← q, e) at h)
+  event-fields : (k : Kind) (e : EventView) → isOfKind k (some (eventIn line e)) ≡ true → EventFields line e → ComponentFields line (viewIn e)
+  unfolding isOfKind isInsideOf eventIn insideIn viewIn viewInside EventFields InsideFields
+  event-fields k (event.Between b) h w = no-truth h
+  event-fields k (event.Inside (inside.End b)) h w = no-truth h
+  event-fields k (event.Inside (inside.Text t)) h w = no-truth h
+  event-fields k (event.Inside (inside.Component c)) h w = component-fields k c h w
+  event-fields k (event.Finding s n) h w = no-truth h
 
-  pub recall-ill : (v : ComponentView) → r ≡ answer.Ill → Recalled line v
-  recall-ill v e = record { is = λ k h. no-line k e h; within = λ k h. no-line k e h }
+module _ {line : List ℕ} {v : EventView} (o : KnownEvent line v) where
+  of-kind : (k : Kind) → isOfKind k (parseLine line) ≡ true → isOfKind k (some (eventIn line v)) ≡ true
+  of-kind k h = rw (o .is) at h
 
-  module _ (v : EventView) (e : r ≡ answer.Event v) where
-    of-kind : (k : Kind) → isOfKind k (parseLine line) ≡ true → isOfKind k (some (eventIn line v)) ≡ true
-    unfolding eventAs
-    of-kind k h = let q = as-read k h in rw (← q, e) at h
+  recall-is : (k : Kind) → isOfKind k (parseLine line) ≡ true → views.componentIn line (viewIn v) ≡ componentOfLine k line
+  unfolding componentOfLine
+  recall-is k h = rw (o .is) (event-view line k v (of-kind k h))
 
-    recall-is : (k : Kind) → isOfKind k (parseLine line) ≡ true → views.componentIn line (viewIn v) ≡ componentOfLine k line
-    unfolding eventAs componentOfLine
-    recall-is k h = let q = as-read k h in rw (← q, e) (event-view line k v (of-kind k h))
-
-    recall-within : (k : Kind) → isOfKind k (parseLine line) ≡ true → ComponentWithin line (viewIn v)
-    unfolding IfEvent
-    recall-within k h = event-within line k v (of-kind k h) (let w = o .within in rw e at w)
-
-    pub recall-event : {c : ComponentView} → c ≡ viewIn v → Recalled line c
-    recall-event x = rw x (record { is = recall-is; within = recall-within })
+  pub recall-event : {c : ComponentView} → c ≡ viewIn v → Recalled line c
+  recall-event x =
+      rw x
+      (record { is = recall-is; within = λ k h. event-within line k v (of-kind k h) (o .within); fields = λ k h. event-fields line k v (of-kind k h) (o .fields) })

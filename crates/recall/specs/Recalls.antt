@@ -15,6 +15,7 @@ use Rattle.events.specs.declared.Inside.{Inside}
 use Rattle.events.specs.declared.Inside.the-variants as inside
 use Rattle.events.specs.declared.ComponentEvent.{ComponentEvent}
 use Rattle.events.specs.declared.ComponentEvent.the-variants as component
+use Rattle.known_events.specs.Fields.{ComponentFields}
 use Rattle.model.specs.Rows.{componentOfLine}
 use Rattle.model.specs.Fits.{isOfKind}
 
@@ -47,7 +48,8 @@ viewIn (event.Between b) = blankView
 viewIn (event.Inside i) = viewInside i
 viewIn (event.Finding s n) = blankView
 
--- where the line is a component of a kind, the view stands for that component
+-- where the line is a component of a kind, the view stands for that component, and its contents are whole fields of the line
 pub record Recalled (line : List ℕ) (v : ComponentView) : Type 0 where
   pub is : (k : Kind) → isOfKind k (parseLine line) ≡ true → componentIn line v ≡ componentOfLine k line
   pub within : (k : Kind) → isOfKind k (parseLine line) ≡ true → ComponentWithin line v
+  pub fields : (k : Kind) → isOfKind k (parseLine line) ≡ true → ComponentFields line v

@@ -2,6 +2,10 @@
 use components::ComponentView;
 use components::Modifiers;
 ghost use mathlib.Core.Path.{_≡_};
+ghost use mathlib.Core.Bool.{true};
+ghost use Rattle.rules.specs.Basic.{lf, isSome};
+ghost use Rattle.rules.specs.Read.{parseLine};
+ghost use Rattle.rules.proofs.Fields.{Without};
 ghost use Rattle.recall.specs.Recalls.{blankView, viewOf, viewInside, viewIn, Recalled};
 
 // A view of nothing.
@@ -60,10 +64,9 @@ fn of_event(e: events::EventView) -> ComponentView
 
 // The ingredient or the piece of cookware of a line that is one.
 pub fn component_in(line: &[u8]) -> ComponentView
+    requires { ⌜ (isSome (parseLine (now line)) ≡ true) × Without lf (now line) ⌝ }
     ensures { λ r. ⌜ Recalled (now (line .entry)) r ⌝ }
 {
-    let reading::ReadEvent::Event(e) = reading::event_in(line) else {
-        return blank_view();
-    };
+    let e = known_events::event_of(line);
     of_event(e)
 }

@@ -5,7 +5,7 @@ use Rattle.parts.specs.Got.{spanGot, textGot, optTextGot, optQuantityGot}
 use Rattle.components.specs.Got.{modifiersGot}
 use Rattle.components.specs.Views.{componentIn}
 use Rattle.rules.specs.Read.{readComponent}
-use Rattle.parts.proofs.Sequence.{gives, reads, fails, good-of, step, stop}
+use Rattle.parts.proofs.Sequence.{gives, reads, fails, good-of, step, goes, ends, stop}
 use Rattle.components.proofs.read_component.Statement.{statement}
 use Rattle.components.proofs.read_component.Tie as tie
 use Rattle.components.proofs.read_component.Reads as reads
@@ -138,7 +138,7 @@ returns-7 c = fails (step (c .before .before .before .before .before .before .be
 -- src/lib.rt:143:1
 returns-8 : tie.Need-returns-8
 unfolding readComponent componentIn
-returns-8 c = reads (step (c .before .before .before .before .before .before .before .before .before .before .before .before .before .before .before .before .before .before .before .before .before .before .before .before .before .before .before .read-span .ensures) (ap spanGot (c .before .before .before .before .before .before .before .before .before .before .before .before .before .before .before .before .before .before .before .before .before .before .before .before .before .span .given .1)) _ (step (c .before .before .before .before .before .before .before .before .before .before .before .before .before .before .before .before .before .before .before .before .before .before .before .read-text .ensures) (ap textGot (c .before .before .before .before .before .before .before .before .before .before .before .before .before .before .before .before .before .before .before .before .before .name .given .1)) _ (step (c .before .before .before .before .before .before .before .before .before .before .before .before .before .before .before .before .before .before .before .read-opt-text .ensures) (ap optTextGot (c .before .before .before .before .before .before .before .before .before .before .before .before .before .before .before .before .before .alias .given .1)) _ (step (c .before .before .before .before .before .before .before .before .before .before .before .before .before .before .before .read-opt-quantity .ensures) (ap optQuantityGot (c .before .before .before .before .before .before .before .before .before .before .before .before .before .quantity .given .1)) _ (step (c .before .before .before .before .before .before .before .before .before .before .before .read-opt-text2 .ensures) (ap optTextGot (c .before .before .before .before .before .before .before .before .before .note .given .1)) _ (step (c .before .before .before .before .before .before .before .read-modifiers .ensures) (ap modifiersGot (c .before .before .before .before .before .modifiers .given .1)) _ (step (c .before .before .before .read-span2 .ensures) (ap spanGot (c .before .modifiers-span .given .1)) _ (gives _ _)))))))) (record { span = good-of (c .before .before .before .before .before .before .before .before .before .before .before .before .before .before .before .before .before .before .before .before .before .before .before .before .before .before .before .read-span .ensures) (ap spanGot (c .before .before .before .before .before .before .before .before .before .before .before .before .before .before .before .before .before .before .before .before .before .before .before .before .before .span .given .1)); name = good-of (c .before .before .before .before .before .before .before .before .before .before .before .before .before .before .before .before .before .before .before .before .before .before .before .read-text .ensures) (ap textGot (c .before .before .before .before .before .before .before .before .before .before .before .before .before .before .before .before .before .before .before .before .before .name .given .1)); alias = good-of (c .before .before .before .before .before .before .before .before .before .before .before .before .before .before .before .before .before .before .before .read-opt-text .ensures) (ap optTextGot (c .before .before .before .before .before .before .before .before .before .before .before .before .before .before .before .before .before .alias .given .1)); quantity = good-of (c .before .before .before .before .before .before .before .before .before .before .before .before .before .before .before .read-opt-quantity .ensures) (ap optQuantityGot (c .before .before .before .before .before .before .before .before .before .before .before .before .before .quantity .given .1)); note = good-of (c .before .before .before .before .before .before .before .before .before .before .before .read-opt-text2 .ensures) (ap optTextGot (c .before .before .before .before .before .before .before .before .before .note .given .1)); «modifiers_span» = good-of (c .before .before .before .read-span2 .ensures) (ap spanGot (c .before .modifiers-span .given .1)) })
+returns-8 c = reads (goes (c .before .before .before .before .before .before .before .before .before .before .before .before .before .before .before .before .before .before .before .before .before .before .before .before .before .before .before .read-span .ensures) (ap spanGot (c .before .before .before .before .before .before .before .before .before .before .before .before .before .before .before .before .before .before .before .before .before .before .before .before .before .span .given .1)) _ (goes (c .before .before .before .before .before .before .before .before .before .before .before .before .before .before .before .before .before .before .before .before .before .before .before .read-text .ensures) (ap textGot (c .before .before .before .before .before .before .before .before .before .before .before .before .before .before .before .before .before .before .before .before .before .name .given .1)) _ (goes (c .before .before .before .before .before .before .before .before .before .before .before .before .before .before .before .before .before .before .before .read-opt-text .ensures) (ap optTextGot (c .before .before .before .before .before .before .before .before .before .before .before .before .before .before .before .before .before .alias .given .1)) _ (goes (c .before .before .before .before .before .before .before .before .before .before .before .before .before .before .before .read-opt-quantity .ensures) (ap optQuantityGot (c .before .before .before .before .before .before .before .before .before .before .before .before .before .quantity .given .1)) _ (ends (c .before .before .before .before .before .before .before .before .before .before .before .read-opt-text2 .ensures) (ap optTextGot (c .before .before .before .before .before .before .before .before .before .note .given .1)) _ (goes (c .before .before .before .before .before .before .before .read-modifiers .ensures) (ap modifiersGot (c .before .before .before .before .before .modifiers .given .1)) _ (goes (c .before .before .before .read-span2 .ensures) (ap spanGot (c .before .modifiers-span .given .1)) _ (gives _ _)))))))) (record { span = good-of (c .before .before .before .before .before .before .before .before .before .before .before .before .before .before .before .before .before .before .before .before .before .before .before .before .before .before .before .read-span .ensures) (ap spanGot (c .before .before .before .before .before .before .before .before .before .before .before .before .before .before .before .before .before .before .before .before .before .before .before .before .before .span .given .1)); name = good-of (c .before .before .before .before .before .before .before .before .before .before .before .before .before .before .before .before .before .before .before .before .before .before .before .read-text .ensures) (ap textGot (c .before .before .before .before .before .before .before .before .before .before .before .before .before .before .before .before .before .before .before .before .before .name .given .1)); alias = good-of (c .before .before .before .before .before .before .before .before .before .before .before .before .before .before .before .before .before .before .before .read-opt-text .ensures) (ap optTextGot (c .before .before .before .before .before .before .before .before .before .before .before .before .before .before .before .before .before .alias .given .1)); quantity = good-of (c .before .before .before .before .before .before .before .before .before .before .before .before .before .before .before .read-opt-quantity .ensures) (ap optQuantityGot (c .before .before .before .before .before .before .before .before .before .before .before .before .before .quantity .given .1)); note = good-of (c .before .before .before .before .before .before .before .before .before .before .before .read-opt-text2 .ensures) (ap optTextGot (c .before .before .before .before .before .before .before .before .before .note .given .1)); «modifiers_span» = good-of (c .before .before .before .read-span2 .ensures) (ap spanGot (c .before .modifiers-span .given .1)) })
 
 pub read-component-spec : {M : Type 1} → statement M
 read-component-spec =

@@ -5,7 +5,7 @@ use Rattle.parts.specs.Got.{flagGot, spanGot}
 use Rattle.components.specs.Got.{targetGot, signedGot}
 use Rattle.components.specs.Views.{intermediateIn}
 use Rattle.rules.specs.Read.{readIntermediate}
-use Rattle.parts.proofs.Sequence.{gives, reads, fails, good-of, step, stop}
+use Rattle.parts.proofs.Sequence.{gives, reads, fails, good-of, step, goes, stop}
 use Rattle.components.proofs.read_intermediate.Statement.{statement}
 use Rattle.components.proofs.read_intermediate.Tie as tie
 use Rattle.components.proofs.read_intermediate.Reads as reads
@@ -86,7 +86,7 @@ returns-4 c = fails (step (c .before .before .before .before .before .before .be
 -- src/lib.rt:256:1
 returns-5 : tie.Need-returns-5
 unfolding readIntermediate intermediateIn
-returns-5 c = reads (step (c .before .before .before .before .before .before .before .before .before .before .before .before .before .before .before .read-reference .ensures) (ap flagGot (c .before .before .before .before .before .before .before .before .before .before .before .before .before .relative .given .1)) _ (step (c .before .before .before .before .before .before .before .before .before .before .before .read-target .ensures) (ap targetGot (c .before .before .before .before .before .before .before .before .before .target .given .1)) _ (step (c .before .before .before .before .before .before .before .read-value .ensures) (ap signedGot (c .before .before .before .before .before .value .given .1)) _ (step (c .before .before .before .read-span .ensures) (ap spanGot (c .before .span .given .1)) _ (gives _ _))))) (record { value = good-of (c .before .before .before .before .before .before .before .read-value .ensures) (ap signedGot (c .before .before .before .before .before .value .given .1)); span = good-of (c .before .before .before .read-span .ensures) (ap spanGot (c .before .span .given .1)) })
+returns-5 c = reads (goes (c .before .before .before .before .before .before .before .before .before .before .before .before .before .before .before .read-reference .ensures) (ap flagGot (c .before .before .before .before .before .before .before .before .before .before .before .before .before .relative .given .1)) _ (goes (c .before .before .before .before .before .before .before .before .before .before .before .read-target .ensures) (ap targetGot (c .before .before .before .before .before .before .before .before .before .target .given .1)) _ (goes (c .before .before .before .before .before .before .before .read-value .ensures) (ap signedGot (c .before .before .before .before .before .value .given .1)) _ (goes (c .before .before .before .read-span .ensures) (ap spanGot (c .before .span .given .1)) _ (gives _ _))))) (record { value = good-of (c .before .before .before .before .before .before .before .read-value .ensures) (ap signedGot (c .before .before .before .before .before .value .given .1)); span = good-of (c .before .before .before .read-span .ensures) (ap spanGot (c .before .span .given .1)) })
 
 pub read-intermediate-spec : {M : Type 1} → statement M
 read-intermediate-spec =

@@ -4,7 +4,7 @@ use mathlib.Core.Path.{ap}
 use Rattle.components.specs.Got.{componentGot}
 use Rattle.events.specs.Views.{eventIn, insideIn, EventWithin, InsideWithin, componentEventIn, ComponentEventWithin}
 use Rattle.rules.specs.Read.{readCookware}
-use Rattle.parts.proofs.Sequence.{gives, reads, fails, good-of, step, stop}
+use Rattle.parts.proofs.Sequence.{gives, reads, fails, good-of, ends, stop}
 use Rattle.events.proofs.read_cookware.Statement.{statement}
 use Rattle.events.proofs.read_cookware.Tie as tie
 use Rattle.events.proofs.read_cookware.Reads as reads
@@ -26,7 +26,7 @@ returns c = fails (stop (c .before .before .read-component .ensures) (ap compone
 
 returns-2 : tie.Need-returns-2
 unfolding readCookware eventIn insideIn EventWithin InsideWithin componentEventIn ComponentEventWithin
-returns-2 c = reads (step (c .before .before .before .read-component .ensures) (ap componentGot (c .before .component .given .1)) _ (gives _ _)) (good-of (c .before .before .before .read-component .ensures) (ap componentGot (c .before .component .given .1)))
+returns-2 c = reads (ends (c .before .before .before .read-component .ensures) (ap componentGot (c .before .component .given .1)) _ (gives _ _)) (good-of (c .before .before .before .read-component .ensures) (ap componentGot (c .before .component .given .1)))
 
 pub read-cookware-spec : {M : Type 1} → statement M
 read-cookware-spec =

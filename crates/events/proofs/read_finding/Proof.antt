@@ -4,7 +4,7 @@ use mathlib.Core.Path.{ap}
 use Rattle.parts.specs.Got.{numberGot}
 use Rattle.events.specs.Views.{eventIn, EventWithin}
 use Rattle.rules.specs.Read.{readFinding}
-use Rattle.parts.proofs.Sequence.{gives, reads, fails, good-of, step, stop}
+use Rattle.parts.proofs.Sequence.{gives, reads, fails, good-of, goes, stop}
 use Rattle.events.proofs.read_finding.Statement.{statement}
 use Rattle.events.proofs.read_finding.Tie as tie
 use Rattle.events.proofs.read_finding.Reads as reads
@@ -26,7 +26,7 @@ returns c = fails (stop (c .before .before .read-number .ensures) (ap numberGot 
 
 returns-2 : tie.Need-returns-2
 unfolding readFinding eventIn EventWithin
-returns-2 c = reads (step (c .before .before .before .read-number .ensures) (ap numberGot (c .before .number .given .1)) _ (gives _ _)) (good-of (c .before .before .before .read-number .ensures) (ap numberGot (c .before .number .given .1)))
+returns-2 c = reads (goes (c .before .before .before .read-number .ensures) (ap numberGot (c .before .number .given .1)) _ (gives _ _)) (good-of (c .before .before .before .read-number .ensures) (ap numberGot (c .before .number .given .1)))
 
 pub read-finding-spec : {M : Type 1} → statement M
 read-finding-spec =

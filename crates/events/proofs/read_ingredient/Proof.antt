@@ -4,7 +4,7 @@ use mathlib.Core.Path.{ap}
 use Rattle.components.specs.Got.{componentGot, optIntermediateGot}
 use Rattle.events.specs.Views.{eventIn, insideIn, EventWithin, InsideWithin, componentEventIn, ComponentEventWithin}
 use Rattle.rules.specs.Read.{readIngredient}
-use Rattle.parts.proofs.Sequence.{gives, reads, fails, good-of, step, stop}
+use Rattle.parts.proofs.Sequence.{gives, reads, fails, good-of, step, goes, ends, stop}
 use Rattle.events.proofs.read_ingredient.Statement.{statement}
 use Rattle.events.proofs.read_ingredient.Tie as tie
 use Rattle.events.proofs.read_ingredient.Reads as reads
@@ -40,7 +40,7 @@ returns-2 c = fails (step (c .before .before .before .before .before .before .re
 
 returns-3 : tie.Need-returns-3
 unfolding readIngredient eventIn insideIn EventWithin InsideWithin componentEventIn ComponentEventWithin
-returns-3 c = reads (step (c .before .before .before .before .before .before .before .read-component .ensures) (ap componentGot (c .before .before .before .before .before .component .given .1)) _ (step (c .before .before .before .read-opt-intermediate .ensures) (ap optIntermediateGot (c .before .intermediate .given .1)) _ (gives _ _))) (good-of (c .before .before .before .before .before .before .before .read-component .ensures) (ap componentGot (c .before .before .before .before .before .component .given .1)), good-of (c .before .before .before .read-opt-intermediate .ensures) (ap optIntermediateGot (c .before .intermediate .given .1)))
+returns-3 c = reads (ends (c .before .before .before .before .before .before .before .read-component .ensures) (ap componentGot (c .before .before .before .before .before .component .given .1)) _ (goes (c .before .before .before .read-opt-intermediate .ensures) (ap optIntermediateGot (c .before .intermediate .given .1)) _ (gives _ _))) (good-of (c .before .before .before .before .before .before .before .read-component .ensures) (ap componentGot (c .before .before .before .before .before .component .given .1)), good-of (c .before .before .before .read-opt-intermediate .ensures) (ap optIntermediateGot (c .before .intermediate .given .1)))
 
 pub read-ingredient-spec : {M : Type 1} → statement M
 read-ingredient-spec =

@@ -4,7 +4,7 @@ use mathlib.Core.Path.{ap}
 use Rattle.parts.specs.Got.{textGot}
 use Rattle.events.specs.Views.{eventIn, betweenIn, EventWithin, BetweenWithin}
 use Rattle.rules.specs.Read.{readMeta}
-use Rattle.parts.proofs.Sequence.{gives, reads, fails, good-of, step, stop}
+use Rattle.parts.proofs.Sequence.{gives, reads, fails, good-of, step, goes, stop}
 use Rattle.events.proofs.read_meta.Statement.{statement}
 use Rattle.events.proofs.read_meta.Tie as tie
 use Rattle.events.proofs.read_meta.Reads as reads
@@ -39,7 +39,7 @@ returns-2 c = fails (step (c .before .before .before .before .before .before .re
 
 returns-3 : tie.Need-returns-3
 unfolding readMeta eventIn betweenIn EventWithin BetweenWithin
-returns-3 c = reads (step (c .before .before .before .before .before .before .before .read-text .ensures) (ap textGot (c .before .before .before .before .before .key .given .1)) _ (step (c .before .before .before .read-text2 .ensures) (ap textGot (c .before .value .given .1)) _ (gives _ _))) (good-of (c .before .before .before .before .before .before .before .read-text .ensures) (ap textGot (c .before .before .before .before .before .key .given .1)), good-of (c .before .before .before .read-text2 .ensures) (ap textGot (c .before .value .given .1)))
+returns-3 c = reads (goes (c .before .before .before .before .before .before .before .read-text .ensures) (ap textGot (c .before .before .before .before .before .key .given .1)) _ (goes (c .before .before .before .read-text2 .ensures) (ap textGot (c .before .value .given .1)) _ (gives _ _))) (good-of (c .before .before .before .before .before .before .before .read-text .ensures) (ap textGot (c .before .before .before .before .before .key .given .1)), good-of (c .before .before .before .read-text2 .ensures) (ap textGot (c .before .value .given .1)))
 
 pub read-meta-spec : {M : Type 1} → statement M
 read-meta-spec =

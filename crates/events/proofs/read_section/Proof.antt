@@ -4,7 +4,7 @@ use mathlib.Core.Path.{ap}
 use Rattle.parts.specs.Got.{optTextGot}
 use Rattle.events.specs.Views.{eventIn, betweenIn, EventWithin, BetweenWithin}
 use Rattle.rules.specs.Read.{readSection}
-use Rattle.parts.proofs.Sequence.{gives, reads, fails, good-of, step, stop}
+use Rattle.parts.proofs.Sequence.{gives, reads, fails, good-of, ends, stop}
 use Rattle.events.proofs.read_section.Statement.{statement}
 use Rattle.events.proofs.read_section.Tie as tie
 use Rattle.events.proofs.read_section.Reads as reads
@@ -26,7 +26,7 @@ returns c = fails (stop (c .before .before .read-opt-text .ensures) (ap optTextG
 
 returns-2 : tie.Need-returns-2
 unfolding readSection eventIn betweenIn EventWithin BetweenWithin
-returns-2 c = reads (step (c .before .before .before .read-opt-text .ensures) (ap optTextGot (c .before .name .given .1)) _ (gives _ _)) (good-of (c .before .before .before .read-opt-text .ensures) (ap optTextGot (c .before .name .given .1)))
+returns-2 c = reads (ends (c .before .before .before .read-opt-text .ensures) (ap optTextGot (c .before .name .given .1)) _ (gives _ _)) (good-of (c .before .before .before .read-opt-text .ensures) (ap optTextGot (c .before .name .given .1)))
 
 pub read-section-spec : {M : Type 1} → statement M
 read-section-spec =

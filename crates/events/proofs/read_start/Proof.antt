@@ -4,7 +4,7 @@ use mathlib.Core.Path.{ap}
 use Rattle.events.specs.Got.{blockGot}
 use Rattle.events.specs.Views.{eventIn, betweenIn, EventWithin, BetweenWithin}
 use Rattle.rules.specs.Read.{readStart}
-use Rattle.parts.proofs.Sequence.{gives, reads, fails, step, stop}
+use Rattle.parts.proofs.Sequence.{gives, reads, fails, goes, stop}
 use Rattle.events.proofs.read_start.Statement.{statement}
 use Rattle.events.proofs.read_start.Tie as tie
 use Rattle.events.proofs.read_start.Reads as reads
@@ -26,7 +26,7 @@ returns c = fails (stop (c .before .before .read-block .ensures) (ap blockGot (c
 
 returns-2 : tie.Need-returns-2
 unfolding readStart eventIn betweenIn EventWithin BetweenWithin
-returns-2 c = reads (step (c .before .before .before .read-block .ensures) (ap blockGot (c .before .kind .given .1)) _ (gives _ _)) (tt)
+returns-2 c = reads (goes (c .before .before .before .read-block .ensures) (ap blockGot (c .before .kind .given .1)) _ (gives _ _)) (tt)
 
 pub read-start-spec : {M : Type 1} → statement M
 read-start-spec =

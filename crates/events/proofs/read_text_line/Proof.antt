@@ -4,7 +4,7 @@ use mathlib.Core.Path.{ap}
 use Rattle.parts.specs.Got.{textGot}
 use Rattle.events.specs.Views.{eventIn, insideIn, EventWithin, InsideWithin}
 use Rattle.rules.specs.Read.{readTextLine}
-use Rattle.parts.proofs.Sequence.{gives, reads, fails, good-of, step, stop}
+use Rattle.parts.proofs.Sequence.{gives, reads, fails, good-of, goes, stop}
 use Rattle.events.proofs.read_text_line.Statement.{statement}
 use Rattle.events.proofs.read_text_line.Tie as tie
 use Rattle.events.proofs.read_text_line.Reads as reads
@@ -26,7 +26,7 @@ returns c = fails (stop (c .before .before .read-text .ensures) (ap textGot (c .
 
 returns-2 : tie.Need-returns-2
 unfolding readTextLine eventIn insideIn EventWithin InsideWithin
-returns-2 c = reads (step (c .before .before .before .read-text .ensures) (ap textGot (c .before .text .given .1)) _ (gives _ _)) (good-of (c .before .before .before .read-text .ensures) (ap textGot (c .before .text .given .1)))
+returns-2 c = reads (goes (c .before .before .before .read-text .ensures) (ap textGot (c .before .text .given .1)) _ (gives _ _)) (good-of (c .before .before .before .read-text .ensures) (ap textGot (c .before .text .given .1)))
 
 pub read-text-line-spec : {M : Type 1} → statement M
 read-text-line-spec =

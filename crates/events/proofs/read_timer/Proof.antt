@@ -4,7 +4,7 @@ use mathlib.Core.Path.{ap}
 use Rattle.parts.specs.Got.{optQuantityGot, optTextGot, spanGot}
 use Rattle.events.specs.Views.{eventIn, insideIn, EventWithin, InsideWithin, componentEventIn, ComponentEventWithin}
 use Rattle.rules.specs.Read.{readTimer}
-use Rattle.parts.proofs.Sequence.{gives, reads, fails, good-of, step, stop}
+use Rattle.parts.proofs.Sequence.{gives, reads, fails, good-of, step, goes, ends, stop}
 use Rattle.events.proofs.read_timer.Statement.{statement}
 use Rattle.events.proofs.read_timer.Tie as tie
 use Rattle.events.proofs.read_timer.Reads as reads
@@ -54,7 +54,7 @@ returns-3 c = fails (step (c .before .before .before .before .before .before .be
 
 returns-4 : tie.Need-returns-4
 unfolding readTimer eventIn insideIn EventWithin InsideWithin componentEventIn ComponentEventWithin
-returns-4 c = reads (step (c .before .before .before .before .before .before .before .before .before .before .before .read-span .ensures) (ap spanGot (c .before .before .before .before .before .before .before .before .before .span .given .1)) _ (step (c .before .before .before .before .before .before .before .read-opt-text .ensures) (ap optTextGot (c .before .before .before .before .before .name .given .1)) _ (step (c .before .before .before .read-opt-quantity .ensures) (ap optQuantityGot (c .before .quantity .given .1)) _ (gives _ _)))) (good-of (c .before .before .before .before .before .before .before .before .before .before .before .read-span .ensures) (ap spanGot (c .before .before .before .before .before .before .before .before .before .span .given .1)), good-of (c .before .before .before .before .before .before .before .read-opt-text .ensures) (ap optTextGot (c .before .before .before .before .before .name .given .1)), good-of (c .before .before .before .read-opt-quantity .ensures) (ap optQuantityGot (c .before .quantity .given .1)))
+returns-4 c = reads (goes (c .before .before .before .before .before .before .before .before .before .before .before .read-span .ensures) (ap spanGot (c .before .before .before .before .before .before .before .before .before .span .given .1)) _ (goes (c .before .before .before .before .before .before .before .read-opt-text .ensures) (ap optTextGot (c .before .before .before .before .before .name .given .1)) _ (ends (c .before .before .before .read-opt-quantity .ensures) (ap optQuantityGot (c .before .quantity .given .1)) _ (gives _ _)))) (good-of (c .before .before .before .before .before .before .before .before .before .before .before .read-span .ensures) (ap spanGot (c .before .before .before .before .before .before .before .before .before .span .given .1)), good-of (c .before .before .before .before .before .before .before .read-opt-text .ensures) (ap optTextGot (c .before .before .before .before .before .name .given .1)), good-of (c .before .before .before .read-opt-quantity .ensures) (ap optQuantityGot (c .before .quantity .given .1)))
 
 pub read-timer-spec : {M : Type 1} → statement M
 read-timer-spec =

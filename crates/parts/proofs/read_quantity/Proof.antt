@@ -4,7 +4,7 @@ use mathlib.Core.Path.{ap}
 use Rattle.parts.specs.Views.{quantityIn}
 use Rattle.rules.specs.Read.{readQuantity}
 use Rattle.parts.specs.Got.{contentGot, flagGot, kindGot, optTextGot, spanGot}
-use Rattle.parts.proofs.Sequence.{gives, reads, fails, good-of, step, stop}
+use Rattle.parts.proofs.Sequence.{gives, reads, fails, good-of, step, goes, ends, stop}
 use Rattle.parts.proofs.read_quantity.Statement.{statement}
 use Rattle.parts.proofs.read_quantity.Tie as tie
 use Rattle.parts.proofs.read_quantity.Reads as reads
@@ -120,7 +120,7 @@ returns-6 c = fails (step (c .before .before .before .before .before .before .be
 -- src/lib.rt:251:1
 returns-7 : tie.Need-returns-7
 unfolding readQuantity quantityIn
-returns-7 c = reads (step (c .before .before .before .before .before .before .before .before .before .before .before .before .before .before .before .before .before .before .before .before .before .before .before .read-span .ensures) (ap spanGot (c .before .before .before .before .before .before .before .before .before .before .before .before .before .before .before .before .before .before .before .before .before .span .given .1)) _ (step (c .before .before .before .before .before .before .before .before .before .before .before .before .before .before .before .before .before .before .before .read-kind .ensures) (ap kindGot (c .before .before .before .before .before .before .before .before .before .before .before .before .before .before .before .before .before .kind .given .1)) _ (step (c .before .before .before .before .before .before .before .before .before .before .before .before .before .before .before .read-span2 .ensures) (ap spanGot (c .before .before .before .before .before .before .before .before .before .before .before .before .before .value-span .given .1)) _ (step (c .before .before .before .before .before .before .before .before .before .before .before .read-content .ensures) (ap contentGot (c .before .before .before .before .before .before .before .before .before .value .given .1)) _ (step (c .before .before .before .before .before .before .before .read-lock .ensures) (ap flagGot (c .before .before .before .before .before .lock .given .1)) _ (step (c .before .before .before .read-opt-text .ensures) (ap optTextGot (c .before .unit .given .1)) _ (gives _ _))))))) (record { span = good-of (c .before .before .before .before .before .before .before .before .before .before .before .before .before .before .before .before .before .before .before .before .before .before .before .read-span .ensures) (ap spanGot (c .before .before .before .before .before .before .before .before .before .before .before .before .before .before .before .before .before .before .before .before .before .span .given .1)); «value_span» = good-of (c .before .before .before .before .before .before .before .before .before .before .before .before .before .before .before .read-span2 .ensures) (ap spanGot (c .before .before .before .before .before .before .before .before .before .before .before .before .before .value-span .given .1)); value = good-of (c .before .before .before .before .before .before .before .before .before .before .before .read-content .ensures) (ap contentGot (c .before .before .before .before .before .before .before .before .before .value .given .1)); unit = good-of (c .before .before .before .read-opt-text .ensures) (ap optTextGot (c .before .unit .given .1)) })
+returns-7 c = reads (goes (c .before .before .before .before .before .before .before .before .before .before .before .before .before .before .before .before .before .before .before .before .before .before .before .read-span .ensures) (ap spanGot (c .before .before .before .before .before .before .before .before .before .before .before .before .before .before .before .before .before .before .before .before .before .span .given .1)) _ (goes (c .before .before .before .before .before .before .before .before .before .before .before .before .before .before .before .before .before .before .before .read-kind .ensures) (ap kindGot (c .before .before .before .before .before .before .before .before .before .before .before .before .before .before .before .before .before .kind .given .1)) _ (goes (c .before .before .before .before .before .before .before .before .before .before .before .before .before .before .before .read-span2 .ensures) (ap spanGot (c .before .before .before .before .before .before .before .before .before .before .before .before .before .value-span .given .1)) _ (goes (c .before .before .before .before .before .before .before .before .before .before .before .read-content .ensures) (ap contentGot (c .before .before .before .before .before .before .before .before .before .value .given .1)) _ (goes (c .before .before .before .before .before .before .before .read-lock .ensures) (ap flagGot (c .before .before .before .before .before .lock .given .1)) _ (ends (c .before .before .before .read-opt-text .ensures) (ap optTextGot (c .before .unit .given .1)) _ (gives _ _))))))) (record { span = good-of (c .before .before .before .before .before .before .before .before .before .before .before .before .before .before .before .before .before .before .before .before .before .before .before .read-span .ensures) (ap spanGot (c .before .before .before .before .before .before .before .before .before .before .before .before .before .before .before .before .before .before .before .before .before .span .given .1)); «value_span» = good-of (c .before .before .before .before .before .before .before .before .before .before .before .before .before .before .before .read-span2 .ensures) (ap spanGot (c .before .before .before .before .before .before .before .before .before .before .before .before .before .value-span .given .1)); value = good-of (c .before .before .before .before .before .before .before .before .before .before .before .read-content .ensures) (ap contentGot (c .before .before .before .before .before .before .before .before .before .value .given .1)); unit = good-of (c .before .before .before .read-opt-text .ensures) (ap optTextGot (c .before .unit .given .1)) })
 
 pub read-quantity-spec : {M : Type 1} → statement M
 read-quantity-spec =

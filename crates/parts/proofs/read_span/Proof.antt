@@ -4,7 +4,7 @@ use mathlib.Core.Path.{ap}
 use Rattle.parts.specs.Views.{spanIn}
 use Rattle.rules.specs.Read.{readSpan}
 use Rattle.parts.specs.Got.{numberGot}
-use Rattle.parts.proofs.Sequence.{gives, reads, fails, good-of, step, stop}
+use Rattle.parts.proofs.Sequence.{gives, reads, fails, good-of, step, goes, stop}
 use Rattle.parts.proofs.read_span.Statement.{statement}
 use Rattle.parts.proofs.read_span.Tie as tie
 use Rattle.parts.proofs.read_span.Reads as reads
@@ -48,7 +48,7 @@ returns-2 c = fails (step (c .before .before .before .before .before .before .re
 -- src/lib.rt:135:1
 returns-3 : tie.Need-returns-3
 unfolding readSpan spanIn
-returns-3 c = reads (step (c .before .before .before .before .before .before .before .read-number .ensures) (ap numberGot (c .before .before .before .before .before .start .given .1)) _ (step (c .before .before .before .read-number2 .ensures) (ap numberGot (c .before .end .given .1)) _ (gives _ _))) (record { start = good-of (c .before .before .before .before .before .before .before .read-number .ensures) (ap numberGot (c .before .before .before .before .before .start .given .1)); end = good-of (c .before .before .before .read-number2 .ensures) (ap numberGot (c .before .end .given .1)) })
+returns-3 c = reads (goes (c .before .before .before .before .before .before .before .read-number .ensures) (ap numberGot (c .before .before .before .before .before .start .given .1)) _ (goes (c .before .before .before .read-number2 .ensures) (ap numberGot (c .before .end .given .1)) _ (gives _ _))) (record { start = good-of (c .before .before .before .before .before .before .before .read-number .ensures) (ap numberGot (c .before .before .before .before .before .start .given .1)); end = good-of (c .before .before .before .read-number2 .ensures) (ap numberGot (c .before .end .given .1)) })
 
 pub read-span-spec : {M : Type 1} → statement M
 read-span-spec =

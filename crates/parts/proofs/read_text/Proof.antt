@@ -4,7 +4,7 @@ use mathlib.Core.Path.{ap}
 use Rattle.parts.specs.Views.{textIn}
 use Rattle.rules.specs.Read.{readText}
 use Rattle.parts.specs.Got.{contentGot, spanGot}
-use Rattle.parts.proofs.Sequence.{gives, reads, fails, good-of, step, stop}
+use Rattle.parts.proofs.Sequence.{gives, reads, fails, good-of, step, goes, stop}
 use Rattle.parts.proofs.read_text.Statement.{statement}
 use Rattle.parts.proofs.read_text.Tie as tie
 use Rattle.parts.proofs.read_text.Reads as reads
@@ -49,7 +49,7 @@ returns-2 c = fails (step (c .before .before .before .before .before .before .re
 -- src/lib.rt:171:1
 returns-3 : tie.Need-returns-3
 unfolding readText textIn
-returns-3 c = reads (step (c .before .before .before .before .before .before .before .read-span .ensures) (ap spanGot (c .before .before .before .before .before .span .given .1)) _ (step (c .before .before .before .read-content .ensures) (ap contentGot (c .before .content .given .1)) _ (gives _ _))) (record { span = good-of (c .before .before .before .before .before .before .before .read-span .ensures) (ap spanGot (c .before .before .before .before .before .span .given .1)); content = good-of (c .before .before .before .read-content .ensures) (ap contentGot (c .before .content .given .1)) })
+returns-3 c = reads (goes (c .before .before .before .before .before .before .before .read-span .ensures) (ap spanGot (c .before .before .before .before .before .span .given .1)) _ (goes (c .before .before .before .read-content .ensures) (ap contentGot (c .before .content .given .1)) _ (gives _ _))) (record { span = good-of (c .before .before .before .before .before .before .before .read-span .ensures) (ap spanGot (c .before .before .before .before .before .span .given .1)); content = good-of (c .before .before .before .read-content .ensures) (ap contentGot (c .before .content .given .1)) })
 
 pub read-text-spec : {M : Type 1} → statement M
 read-text-spec =
