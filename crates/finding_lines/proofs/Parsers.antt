@@ -31,7 +31,7 @@ use Rattle.events.specs.declared.EventView.the-variants as event
 use Rattle.events.specs.Views.{eventIn, severityIn}
 use Rattle.reading.specs.declared.ReadEvent.{ReadEvent}
 use Rattle.reading.specs.declared.ReadEvent.the-variants as answer
-use Rattle.reading.specs.Answers.{eventAs, IfEvent, EventOf, LineOf}
+use Rattle.reading.specs.Answers.{eventAs, IfEvent, IfWhole, EventOf, LineOf}
 use Rattle.reading.proofs.Passes.{Rest, First, rest-ends, rest-ended, rest-read, rest-event}
 use Rattle.output.specs.Put.{Put}
 use Rattle.output.proofs.Puts.{Leads, starts, turn, step as leads-step}
@@ -59,13 +59,13 @@ event-lines (between b) fs = sym (append-nil _)
 event-lines (inside i) fs = sym (append-nil _)
 event-lines (parserEvent s n) fs = table-more findingLine (parsed s n) fs ∙ ap (λ (l : List ℕ). tableLines findingLine fs ++ l) (lines-of (length fs) s n)
 
-next-inj : {a b : State} → next a ≡ next b → a ≡ b
+pub next-inj : {a b : State} → next a ≡ next b → a ≡ b
 next-inj e = cc
 
-stop-next : {P : Type 0} {n : ℕ} {a : State} → stop n ≡ next a → P
+pub stop-next : {P : Type 0} {n : ℕ} {a : State} → stop n ≡ next a → P
 stop-next e = absurd (let z : _≡_ {A = ℕ} 0 1 = cc in omega arith)
 
-aside-next : {st a : State} (s : Step) → AsideStep st s → s ≡ next a → Aside st a
+pub aside-next : {st a : State} (s : Step) → AsideStep st s → s ≡ next a → Aside st a
 aside-next {st} {a} (next b) p e = rw (next-inj e) at p
 aside-next (stop n) p e = stop-next e
 
@@ -183,9 +183,9 @@ module _ {text bytes : List ℕ} {from number : ℕ} {es : List Event} (w : Rest
   line-known {a} p = go (isUtf8 (take (end - from) (drop from bytes))) refl
     where
       go : (t : Bool) → isUtf8 (take (end - from) (drop from bytes)) ≡ t → LineOf (take (end - from) (drop from bytes)) a
-      go true e = record { is = rw e (p .is); within = p .within }
+      go true e = record { is = rw e (p .is); within = p .within; whole = p .whole }
       go false e =
-          let z : LineOf (take (end - from) (drop from bytes)) answer.Ill = record { is = unfold eventAs in rw e; within = unfold IfEvent in tt } in
+          let z : LineOf (take (end - from) (drop from bytes)) answer.Ill = record { is = unfold eventAs in rw e; within = unfold IfEvent in tt; whole = unfold IfWhole in tt } in
           rest-read w l q z refl
 
 module _ {text bytes o₀ : List ℕ} {at : ℕ} {o : List ℕ} {m from : ℕ} (w : Writing text bytes o₀ at o m from) where

@@ -67,6 +67,14 @@ module _ (keys : ℕ → List ℕ) where
       go true e p ih = let z : j ≡ i = omega arith in ap (λ (x : ℕ). hashOf (keys x)) (sym z) ∙ eqb-true (hashOf (keys j)) b e
       go false e p ih = ih p
 
+  find-hit : (k : List ℕ) (i : ℕ) → eqList k (keys i) ≡ true → findIn keys k (suc i) ≡ some i
+  unfolding findIn
+  find-hit k i e = rw e
+
+  find-miss : (k : List ℕ) (i : ℕ) → eqList k (keys i) ≡ false → findIn keys k (suc i) ≡ findIn keys k i
+  unfolding findIn
+  find-miss k i e = rw e
+
   find-skip : (k : List ℕ) (n i : ℕ) → headIn keys (hashOf k) n ≡ suc i → findIn keys k n ≡ findIn keys k (suc i)
   unfolding headIn
   find-skip k zero i q = absurd (omega arith)
@@ -74,7 +82,7 @@ module _ (keys : ℕ → List ℕ) where
     where
       go : (t : Bool) → eqb (hashOf (keys j)) (hashOf k) ≡ t → pick t (suc j) (headIn keys (hashOf k) j) ≡ suc i → (headIn keys (hashOf k) j ≡ suc i → findIn keys k j ≡ findIn keys k (suc i)) → findIn keys k (suc j) ≡ findIn keys k (suc i)
       go true e p ih = let z : j ≡ i = omega arith in ap (λ (x : ℕ). findIn keys k (suc x)) z
-      go false e p ih = (unfold findIn in ap (λ (t : Bool). pick t (some j) (findIn keys k j)) (other-key k j e)) ∙ ih p
+      go false e p ih = find-miss k j (other-key k j e) ∙ ih p
 
   find-gone : (k : List ℕ) (n : ℕ) → headIn keys (hashOf k) n ≡ 0 → findIn keys k n ≡ none
   unfolding headIn findIn
@@ -84,14 +92,6 @@ module _ (keys : ℕ → List ℕ) where
       go : (t : Bool) → eqb (hashOf (keys j)) (hashOf k) ≡ t → pick t (suc j) (headIn keys (hashOf k) j) ≡ 0 → (headIn keys (hashOf k) j ≡ 0 → findIn keys k j ≡ none) → pick (eqList k (keys j)) (some j) (findIn keys k j) ≡ none
       go true e p ih = absurd (omega arith)
       go false e p ih = ap (λ (t : Bool). pick t (some j) (findIn keys k j)) (other-key k j e) ∙ ih p
-
-  find-hit : (k : List ℕ) (i : ℕ) → eqList k (keys i) ≡ true → findIn keys k (suc i) ≡ some i
-  unfolding findIn
-  find-hit k i e = rw e
-
-  find-miss : (k : List ℕ) (i : ℕ) → eqList k (keys i) ≡ false → findIn keys k (suc i) ≡ findIn keys k i
-  unfolding findIn
-  find-miss k i e = rw e
 
   -- a row that is found
   pub find-below : (k : List ℕ) (n i : ℕ) → findIn keys k n ≡ some i → i < n

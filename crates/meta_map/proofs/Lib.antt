@@ -2,3 +2,4 @@ pub mod Chains
 pub mod Stored
 pub mod Printed
 pub mod Walks
+pub mod Metas

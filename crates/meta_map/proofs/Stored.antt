@@ -177,3 +177,161 @@ module _ {sheet m : List ℕ} {n : ℕ} (x : Indexed sheet m n) {ka ke va ve : �
             let b : cell (withNew m i va ve) j 3 ≡ ve = let e : j * 5 + 3 ≡ i * 5 + 2 + 1 = omega arith in ap (λ (p : ℕ). getD (withNew m i va ve) p 0) e ∙ value-own m i va ve 1 (omega arith) room in
             rw (key-cell m i va ve j 0 (omega arith), key-cell m i va ve j 1 (omega arith), a, b)
             record { keyOrder = y .keyOrder; keyMost = y .keyMost; valueOrder = r .valueOrder; valueMost = r .valueMost; key = y .key; value = r .value }
+
+-- ---- one key more
+
+split-last : {P : Type 0} (i n : ℕ) → i < suc n → (i < n → P) → (i ≡ n → P) → P
+split-last i n l a b = by-order n i (λ h. b (omega arith)) (λ h. a h)
+
+module _ (m : List ℕ) (n b ka ke va ve x : ℕ) (few : n < 4096) (long : length m ≡ 21504) where
+  abbrev words : List ℕ
+  words = ka ∷ ke ∷ va ∷ ve ∷ head m b ∷ []
+
+  abbrev stored : List ℕ
+  stored = sets m (n * 5) words
+
+  abbrev withKey : List ℕ
+  withKey = set stored (20480 + b) x
+
+  old-cell : (i c : ℕ) → i < n → c < 5 → cell withKey i c ≡ cell m i c
+  old-cell i c l g = getD-set-other stored (20480 + b) (i * 5 + c) x 0 (λ q. omega arith) ∙ getD-sets-other m (n * 5) words (i * 5 + c) (omega arith)
+
+  new-cell : (c : ℕ) → c < 5 → cell withKey n c ≡ getD words c 0
+  new-cell c g = getD-set-other stored (20480 + b) (n * 5 + c) x 0 (λ q. omega arith) ∙ getD-sets-own m (n * 5) words c (omega arith) g
+
+  own-head : b < 1024 → head withKey b ≡ x
+  own-head l = getD-set-same stored (20480 + b) x 0 (omega (arith, length-sets m (n * 5) words))
+
+  other-head : (d : ℕ) → (d ≡ b → ⊥) → head withKey d ≡ head m d
+  other-head d g = getD-set-other stored (20480 + b) (20480 + d) x 0 (λ q. g (omega arith)) ∙ getD-sets-after m (n * 5) words (20480 + d) (omega arith)
+
+  old-key : (sheet : List ℕ) (i : ℕ) → i < n → keyAt sheet m i ≡ keyAt sheet withKey i
+  old-key sheet i l = cells-key sheet m withKey i (sym (old-cell i 0 l (omega arith))) (sym (old-cell i 1 l (omega arith)))
+
+  old-value : (sheet : List ℕ) (i : ℕ) → i < n → valueAt sheet m i ≡ valueAt sheet withKey i
+  old-value sheet i l = cells-value sheet m withKey i (sym (old-cell i 2 l (omega arith))) (sym (old-cell i 3 l (omega arith)))
+
+  own-key : (sheet : List ℕ) → keyAt sheet withKey n ≡ keptIn (partAt sheet ka ke)
+  unfolding keyAt
+  own-key sheet = rw (new-cell 0 (omega arith), new-cell 1 (omega arith))
+
+  own-value : (sheet : List ℕ) → valueAt sheet withKey n ≡ contentIn (partAt sheet va ve)
+  unfolding valueAt
+  own-value sheet = rw (new-cell 2 (omega arith), new-cell 3 (omega arith))
+
+  old-row : (sheet : List ℕ) (i : ℕ) → i < n → RowIn sheet (cell m i 0) (cell m i 1) (cell m i 2) (cell m i 3)
+      → RowIn sheet (cell withKey i 0) (cell withKey i 1) (cell withKey i 2) (cell withKey i 3)
+  old-row sheet i l y = rw (old-cell i 0 l (omega arith), old-cell i 1 l (omega arith), old-cell i 2 l (omega arith), old-cell i 3 l (omega arith)) y
+
+  own-row : (sheet : List ℕ) (i : ℕ) → i ≡ n → RowIn sheet ka ke va ve → RowIn sheet (cell withKey i 0) (cell withKey i 1) (cell withKey i 2) (cell withKey i 3)
+  own-row sheet i e y = rw (e, new-cell 0 (omega arith), new-cell 1 (omega arith), new-cell 2 (omega arith), new-cell 3 (omega arith)) y
+
+  module _ {sheet : List ℕ} (z : Indexed sheet m n) (row : RowIn sheet ka ke va ve) (small : b < 1024) (hash : b ≡ hashOf (keptIn (partAt sheet ka ke))) (e : x ≡ suc n)
+      (gone : findIn (keyAt sheet m) (keptIn (partAt sheet ka ke)) n ≡ none) where
+    abbrev keys : ℕ → List ℕ
+    keys = keyAt sheet m
+
+    abbrev now : ℕ → List ℕ
+    now = keyAt sheet withKey
+
+    heads-now : (d : ℕ) → d < 1024 → head withKey d ≡ headIn now d (suc n)
+    unfolding headIn
+    heads-now d l = go (eqb (hashOf (now n)) d) refl
+      where
+        go : (t : Bool) → eqb (hashOf (now n)) d ≡ t → head withKey d ≡ pick (eqb (hashOf (now n)) d) (suc n) (headIn now d n)
+        go true q =
+            let h : d ≡ b = sym (eqb-true (hashOf (now n)) d q) ∙ ap hashOf (own-key sheet) ∙ sym hash in
+            rw (q, h) (own-head small ∙ e)
+        go false q =
+            rw q (other-head d (λ h. eqb-false (hashOf (now n)) d q (ap hashOf (own-key sheet) ∙ sym hash ∙ sym h)) ∙ z .heads d l ∙ head-same keys now d n (old-key sheet))
+
+    next-old : (i : ℕ) → i < n → cell withKey i 4 ≡ headIn now (hashOf (now i)) i
+    next-old i l =
+        old-cell i 4 l (omega arith) ∙ z .nexts i l ∙ head-same keys now (hashOf (keys i)) i (λ j g. old-key sheet j (omega arith))
+        ∙ ap (λ (k : List ℕ). headIn now (hashOf k) i) (old-key sheet i l)
+
+    next-new : cell withKey n 4 ≡ headIn now (hashOf (now n)) n
+    next-new =
+        new-cell 4 (omega arith) ∙ z .heads b small ∙ head-same keys now b n (old-key sheet)
+        ∙ ap (λ (d : ℕ). headIn now d n) (hash ∙ ap hashOf (sym (own-key sheet)))
+
+    once-old : (i : ℕ) → i < n → findIn now (now i) i ≡ none
+    once-old i l = sym (find-same keys now (now i) i (λ j g. old-key sheet j (omega arith))) ∙ ap (λ (k : List ℕ). findIn keys k i) (sym (old-key sheet i l)) ∙ z .once i l
+
+    once-new : findIn now (now n) n ≡ none
+    once-new = sym (find-same keys now (now n) n (old-key sheet)) ∙ ap (λ (k : List ℕ). findIn keys k n) (own-key sheet) ∙ gone
+
+    map-now : mapIn sheet withKey (suc n) ≡ record { key = keptIn (partAt sheet ka ke); value = contentIn (partAt sheet va ve) } ∷ mapIn sheet m n
+    unfolding mapIn
+    map-now = rw (own-key sheet, own-value sheet, sym (map-same sheet m withKey n (old-key sheet) (old-value sheet)))
+
+    key-inserted : Inserted sheet m n ka ke va ve withKey (suc n)
+    key-inserted =
+        record {
+          map = map-now ∙ sym (map-none sheet m (keptIn (partAt sheet ka ke)) (contentIn (partAt sheet va ve)) n gone);
+          count = omega arith;
+          indexed =
+              record {
+                long = length-set stored (20480 + b) x ∙ length-sets m (n * 5) words ∙ long;
+                few = omega arith;
+                row = λ i l. split-last i n l (λ g. old-row sheet i g (z .row i g)) (λ q. own-row sheet i q row);
+                heads = heads-now;
+                nexts = λ i l. split-last i n l (next-old i) (λ q. rw q next-new);
+                once = λ i l. split-last i n l (once-old i) (λ q. rw q once-new);
+              };
+        }
+
+-- ---- what the functions leave
+
+module _ {sheet m₀ : List ℕ} {n ka ke va ve : ℕ} (z : Indexed sheet m₀ n) (row : RowIn sheet ka ke va ve) {f : KeyRow} (p : RowFound sheet m₀ n (partAt sheet ka ke) f) where
+  pub inserted-value : {m : List ℕ} {i : ℕ} → f ≡ At i → ValueSet m₀ i va ve m → Inserted sheet m₀ n ka ke va ve m n
+  unfolding rowAs
+  inserted-value {m} {i} e s = rw (s .is) (value-inserted z row i (sym (p .is) ∙ ap rowAs e))
+
+  pub found-below : {i : ℕ} → f ≡ At i → i < 4096
+  unfolding rowAs
+  found-below {i} e = omega (arith, find-below (keyAt sheet m₀) (keptIn (partAt sheet ka ke)) n i (sym (p .is) ∙ ap rowAs e), z .few)
+
+  pub inserted-key : {m : List ℕ} {b : ℕ} → n < 4096 → Hashed (partAt sheet ka ke) b → f ≡ Nothing → KeyPushed m₀ n b ka ke va ve m → Inserted sheet m₀ n ka ke va ve m (n + 1)
+  unfolding rowAs
+  inserted-key {m} {b} l h e s =
+      let k : Inserted sheet m₀ n ka ke va ve (withKey m₀ n b ka ke va ve (n + 1) l (z .long)) (suc n) = key-inserted m₀ n b ka ke va ve (n + 1) l (z .long) z row (h .small) (h .is) (add-one n) (sym (p .is) ∙ ap rowAs e) in
+      let q : n + 1 ≡ suc n = add-one n in
+      at-count (n + 1) (sym q) (rw (s .is) k)
+    where
+      at-count : {w : List ℕ} (r : ℕ) → suc n ≡ r → Inserted sheet m₀ n ka ke va ve w (suc n) → Inserted sheet m₀ n ka ke va ve w r
+      at-count r q y = rw q at y
+
+-- ---- no rows
+
+pub record Clearing (m₀ m : List ℕ) (b : ℕ) : Type 0 where
+  pub most : b ≤ 1024
+  pub long : length m ≡ length m₀
+  pub heads : (d : ℕ) → d < b → head m d ≡ 0
+
+pub clear-starts : (m : List ℕ) → Clearing m m 0
+clear-starts m = record { most = omega arith; long = refl; heads = λ d l. absurd (omega arith) }
+
+module _ {m₀ m : List ℕ} {b : ℕ} (v : Clearing m₀ m b) where
+  pub clear-on : b < 1024 → length m₀ ≡ 21504 → Clearing m₀ (set m (20480 + b) 0) (b + 1)
+  clear-on l h =
+      record {
+        most = omega arith;
+        long = length-set m (20480 + b) 0 ∙ v .long;
+        heads = λ d g. by-order b d (λ k. let e : d ≡ b = omega arith in rw e (getD-set-same m (20480 + b) 0 0 (omega (arith, v .long)))) (λ k. getD-set-other m (20480 + b) (20480 + d) 0 0 (λ q. omega arith) ∙ v .heads d k);
+      }
+
+  pub clear-ends : 1024 ≤ b → Cleared m₀ m
+  clear-ends h = record { long = v .long; heads = λ d l. v .heads d (omega arith) }
+
+pub indexed-none : (sheet : List ℕ) {m₀ m : List ℕ} → length m₀ ≡ 21504 → Cleared m₀ m → Indexed sheet m 0
+unfolding headIn
+indexed-none sheet h c =
+    record {
+      long = c .long ∙ h;
+      few = omega arith;
+      row = λ i l. absurd (omega arith);
+      heads = λ b l. c .heads b l;
+      nexts = λ i l. absurd (omega arith);
+      once = λ i l. absurd (omega arith);
+    }

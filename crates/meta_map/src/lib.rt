@@ -1,11 +1,23 @@
 // The map of metadata: one row for each key, at its first arrival's place and with its last value. The rows stand in a window
 // of work memory, with the heads of their chains behind them (docs/MEMORY.md).
 ghost use mathlib.Core.Path.{_≡_};
-ghost use Prim.Native.Nat.{_+_, _*_, _≤_, _<_};
+ghost use Prim.Native.Nat.{_+_, _*_, _%_, _≤_, _<_};
 ghost use lib.ListN.{length, getD};
+ghost use lib.ListN.{take, drop};
+ghost use Rattle.rules.specs.Answer.{events, eventsOr, readSheet};
 ghost use Rattle.content.specs.Contents.{keptIn};
 ghost use Rattle.content.specs.Parts.{Field};
-ghost use Rattle.meta_map.specs.Index.{cell, head, RowIn, Indexed, Hashed, RowFound, ValueSet, KeyPushed, Inserted, Cleared, MetaPut, MetasPut};
+ghost use Rattle.unicode.specs.Tables.{unicodeTables};
+ghost use Rattle.parts.specs.Views.{TextWithin};
+ghost use Rattle.known_events.specs.Fields.{TextField};
+ghost use Rattle.known_events.specs.Known.{KnownEvent};
+ghost use Rattle.meta_map.specs.Index.{cell, head, RowIn, Indexed, Hashed, RowFound, ValueSet, KeyPushed, Inserted, Cleared, MetaPut, MetasPut, partAt};
+ghost use Rattle.meta_map.specs.Maps.{TrimmedPart, HeededKey, MetaIndexed, EventIndexed, SheetIndexed, indexOf, WordsIndexed};
+use events::Between;
+use events::EventView;
+use parts::Part;
+use parts::TextView;
+use text::Dropped;
 
 // The row of a key.
 pub enum KeyRow {
@@ -111,6 +123,126 @@ fn clear_heads(m: &mut [u32])
     }
 }
 
+// ---- the lines of a sheet
+
+// Whether a key sets a mode: such a line stays out of the map.
+fn is_heeded(t: &[u32], flags: u32, f: &[u8]) -> bool
+    requires { ⌜ now t ≡ unicodeTables ⌝ }
+    ensures { λ r. ⌜ HeededKey flags (now (f .entry)) r ⌝ }
+{
+    let odd = flags % 2;
+    if odd == 1 {
+        match config_keys::key_of(t, f) {
+            config_keys::Key::Define => {
+                return true;
+            }
+            config_keys::Key::Duplicate => {
+                return true;
+            }
+            config_keys::Key::Unknown => {
+                return false;
+            }
+            config_keys::Key::Ordinary => {
+                return false;
+            }
+        }
+    }
+    false
+}
+
+// The part of a field without White_Space at its ends.
+fn trim_part(t: &[u32], line: &[u8], p: Part) -> Part
+    requires { ⌜ (now t ≡ unicodeTables) × (p .from ≤ p .to) × (p .to ≤ length (now line)) ⌝ }
+    ensures { λ r. ⌜ TrimmedPart (now (line .entry)) p r ⌝ }
+{
+    let from = p.from;
+    let to = p.to;
+    let f = &line[from..to];
+    let a = text::start_of(t, f, Dropped::White);
+    let e = text::end_of(t, &f[a..], Dropped::White);
+    let start = from + a;
+    let end = start + e;
+    Part {
+        from: start,
+        to: end,
+    }
+}
+
+// A `meta` line of the sheet, from `from` to `end`.
+fn index_meta(
+    t: &[u32],
+    flags: u32,
+    sheet: &[u8],
+    from: usize,
+    end: usize,
+    key: TextView,
+    value: TextView,
+    m: &mut [u32],
+    n: usize,
+) -> usize
+    requires { ⌜ (now t ≡ unicodeTables) × Indexed (now sheet) (now m) n × (n < 4096) × (length (now sheet) ≤ 65536) × (from ≤ end) × (end ≤ length (now sheet)) × TextWithin (partAt (now sheet) from end) key × TextWithin (partAt (now sheet) from end) value × TextField (partAt (now sheet) from end) key × TextField (partAt (now sheet) from end) value ⌝ }
+    ensures { λ r. ⌜ MetaIndexed flags (now (sheet .entry)) (partAt (now (sheet .entry)) from end) (now (m .entry)) n key value (now (m .exit)) r ⌝ }
+{
+    let line = &sheet[from..end];
+    let kp = key.content;
+    let vp = value.content;
+    let kf = kp.from;
+    let kt = kp.to;
+    if is_heeded(t, flags, &line[kf..kt]) {
+        return n;
+    }
+    let a = trim_part(t, line, kp);
+    let b = trim_part(t, line, vp);
+    let ka = from + a.from;
+    let ke = from + a.to;
+    let va = from + b.from;
+    let ve = from + b.to;
+    insert_meta(sheet, m, n, ka, ke, va, ve)
+}
+
+// A line of the sheet: only `meta` lines count.
+fn index_event(t: &[u32], flags: u32, sheet: &[u8], from: usize, end: usize, v: EventView, m: &mut [u32], n: usize) -> usize
+    requires { ⌜ (now t ≡ unicodeTables) × Indexed (now sheet) (now m) n × (n < 4096) × (length (now sheet) ≤ 65536) × (from ≤ end) × (end ≤ length (now sheet)) × KnownEvent (partAt (now sheet) from end) v ⌝ }
+    ensures { λ r. ⌜ EventIndexed flags (now (sheet .entry)) (partAt (now (sheet .entry)) from end) (now (m .entry)) n v (now (m .exit)) r ⌝ }
+{
+    match v {
+        EventView::Between(b) => match b {
+            Between::Meta(key, value) => index_meta(t, flags, sheet, from, end, key, value, m, n),
+            Between::Section(name) => n,
+            Between::Start(kind) => n,
+        },
+        EventView::Inside(i) => n,
+        EventView::Finding(s, k) => n,
+    }
+}
+
+// The index of a sheet that was read: how many keys it has.
+fn fill_index(t: &[u32], flags: u32, sheet: &[u8], text: &[u8], m: &mut [u32]) -> usize
+    requires { ⌜ (now t ≡ unicodeTables) × (length (now sheet) ≤ 65536) × (length (now m) ≡ 21504) × (readSheet (now text) (now sheet) ≡ events (eventsOr (readSheet (now text) (now sheet)))) ⌝ }
+    ensures { λ r. ⌜ SheetIndexed flags (now (text .entry)) (now (sheet .entry)) (now (m .exit)) r ⌝ }
+{
+    clear_heads(m);
+    let mut n = 0;
+    let mut from = 0;
+    while from < sheet.len() {
+        let sheet::LineEnd::At(end) = sheet::line_end(sheet, from) else {
+            return n;
+        };
+        let v = known_events::event_of(&sheet[from..end]);
+        n = index_event(t, flags, sheet, from, end, v, m, n);
+        from = end + 1;
+    }
+    n
+}
+
+// The same in the window of work memory.
+pub fn index_metadata(t: &[u32], flags: u32, sheet: &[u8], text: &[u8], words: &mut [u32]) -> usize
+    requires { ⌜ (now t ≡ unicodeTables) × (length (now sheet) ≤ 65536) × (45661 ≤ length (now words)) × (readSheet (now text) (now sheet) ≡ events (eventsOr (readSheet (now text) (now sheet)))) ⌝ }
+    ensures { λ r. ⌜ WordsIndexed flags (now (text .entry)) (now (sheet .entry)) (now (words .entry)) (now (words .exit)) r ⌝ }
+{
+    fill_index(t, flags, sheet, text, &mut words[24157..45661])
+}
+
 // ---- the page's lines
 
 // The line of a key and its value, which are fields as they stand in the sheet.
@@ -118,11 +250,12 @@ pub fn meta_line(rest: &mut [u8], key: &[u8], value: &[u8]) -> usize
     requires { ⌜ Field (now key) × Field (now value) ⌝ }
     ensures { λ r. ⌜ MetaPut (now (key .entry)) (now (value .entry)) (now (rest .entry)) 0 (now (rest .exit)) r ⌝ }
 {
-    let a = output::put_bytes(rest, 0, b"meta\t");
-    let b = text::put_kept(rest, a, key);
-    let c = output::put_byte(rest, b, b'\t');
-    let d = output::put_bytes(rest, c, value);
-    output::put_byte(rest, d, b'\n')
+    let a = output::put_bytes(rest, 0, b"meta");
+    let b = output::put_byte(rest, a, b'\t');
+    let c = text::put_kept(rest, b, key);
+    let d = output::put_byte(rest, c, b'\t');
+    let e = output::put_bytes(rest, d, value);
+    output::put_byte(rest, e, b'\n')
 }
 
 fn put_meta(out: &mut [u8], at: usize, key: &[u8], value: &[u8]) -> usize
@@ -136,7 +269,7 @@ fn put_meta(out: &mut [u8], at: usize, key: &[u8], value: &[u8]) -> usize
 }
 
 // The lines of the first n rows of an index.
-fn index_lines(sheet: &[u8], m: &[u32], n: usize, out: &mut [u8], at: usize) -> usize
+fn row_lines(sheet: &[u8], m: &[u32], n: usize, out: &mut [u8], at: usize) -> usize
     requires { ⌜ Indexed (now sheet) (now m) n ⌝ }
     ensures { λ r. ⌜ MetasPut (now (sheet .entry)) (now (m .entry)) n (now (out .entry)) at (now (out .exit)) r ⌝ }
 {
@@ -152,4 +285,12 @@ fn index_lines(sheet: &[u8], m: &[u32], n: usize, out: &mut [u8], at: usize) -> 
         i += 1;
     }
     c
+}
+
+// The `meta` lines of the page.
+pub fn meta_lines(sheet: &[u8], words: &[u32], n: usize, out: &mut [u8], at: usize) -> usize
+    requires { ⌜ (45661 ≤ length (now words)) × Indexed (now sheet) (indexOf (now words)) n ⌝ }
+    ensures { λ r. ⌜ MetasPut (now (sheet .entry)) (indexOf (now (words .entry))) n (now (out .entry)) at (now (out .exit)) r ⌝ }
+{
+    row_lines(sheet, &words[24157..45661], n, out, at)
 }
