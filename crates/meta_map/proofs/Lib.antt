@@ -1,4 +1,5 @@
 pub mod Chains
+pub mod Found
 pub mod Stored
 pub mod Printed
 pub mod Walks

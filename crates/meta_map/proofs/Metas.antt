@@ -144,10 +144,10 @@ module _ (sheet : List ℕ) (from end : ℕ) {k : TextView} (kz : TextWithin (pa
 
   module _ {v : TextView} (vz : TextWithin (partAt sheet from end) v) (ends : end ≤ length sheet) (order : from ≤ end) {a b : Part} (x : TrimmedPart (partAt sheet from end) (k .content) a) (y : TrimmedPart (partAt sheet from end) (v .content) b) where
     key-part : partAt sheet (from + a .from) (from + a .to) ≡ partOf (partAt sheet from end) a
-    key-part = part-of-(partAt sheet from end) sheet from end a (x .order) (omega (arith, x .most, kz .content .ends, line-long sheet from end ends))
+    key-part = part-of-line sheet from end a (x .order) (omega (arith, x .most, kz .content .ends, line-long sheet from end ends))
 
     value-part : partAt sheet (from + b .from) (from + b .to) ≡ partOf (partAt sheet from end) b
-    value-part = part-of-(partAt sheet from end) sheet from end b (y .order) (omega (arith, y .most, vz .content .ends, line-long sheet from end ends))
+    value-part = part-of-line sheet from end b (y .order) (omega (arith, y .most, vz .content .ends, line-long sheet from end ends))
 
     pub meta-row : TextField (partAt sheet from end) k → TextField (partAt sheet from end) v → RowIn sheet (from + a .from) (from + a .to) (from + b .from) (from + b .to)
     unfolding TextField

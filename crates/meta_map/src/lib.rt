@@ -31,6 +31,23 @@ fn wide(x: u32) -> usize
     x as usize
 }
 
+// A word of a row, and the head of a chain.
+fn cell_at(m: &[u32], i: usize, j: usize) -> usize
+    requires { ⌜ (i < 4096) × (j < 5) × (length (now m) ≡ 21504) ⌝ }
+    ensures { λ r. ⌜ r ≡ cell (now (m .entry)) i j ⌝ }
+{
+    let at = i * 5 + j;
+    wide(m[at])
+}
+
+fn head_at(m: &[u32], b: usize) -> usize
+    requires { ⌜ (b < 1024) × (length (now m) ≡ 21504) ⌝ }
+    ensures { λ r. ⌜ r ≡ head (now (m .entry)) b ⌝ }
+{
+    let at = 20480 + b;
+    wide(m[at])
+}
+
 fn mixed(h: usize, c: u32) -> usize
     requires { ⌜ h < 1024 ⌝ }
     ensures { λ r. ⌜ (r ≡ (h * 31 + c) % 1024) × (r < 1024) ⌝ }
@@ -57,16 +74,15 @@ pub fn find_row(sheet: &[u8], m: &[u32], n: usize, key: &[u8], b: usize) -> KeyR
     requires { ⌜ Indexed (now sheet) (now m) n × Hashed (now key) b ⌝ }
     ensures { λ r. ⌜ RowFound (now (sheet .entry)) (now (m .entry)) n (now (key .entry)) r ⌝ }
 {
-    let mut p = wide(m[20480 + b]);
+    let mut p = head_at(m, b);
     while p != 0 {
         let i = p - 1;
-        let at = i * 5;
-        let from = wide(m[at]);
-        let to = wide(m[at + 1]);
+        let from = cell_at(m, i, 0);
+        let to = cell_at(m, i, 1);
         if content::same_parts(key, &sheet[from..to]) {
             return KeyRow::At(i);
         }
-        p = wide(m[at + 4]);
+        p = cell_at(m, i, 4);
     }
     KeyRow::Nothing
 }
@@ -85,11 +101,12 @@ fn push_key(m: &mut [u32], n: usize, b: usize, ka: u32, ke: u32, va: u32, ve: u3
     requires { ⌜ (n < 4096) × (b < 1024) × (length (now m) ≡ 21504) ⌝ }
     ensures { λ _. ⌜ KeyPushed (now (m .entry)) n b ka ke va ve (now (m .exit)) ⌝ }
 {
-    let next = m[20480 + b];
+    let first = 20480 + b;
+    let next = m[first];
     let at = n * 5;
     model::copy_words(m, at, &[ka, ke, va, ve, next]);
     let more = (n + 1) as u32;
-    m[20480 + b] = more;
+    m[first] = more;
 }
 
 // A key and its value, both trimmed, by their places in the sheet.
@@ -118,7 +135,8 @@ fn clear_heads(m: &mut [u32])
 {
     let mut b = 0;
     while b < 1024 {
-        m[20480 + b] = 0;
+        let first = 20480 + b;
+        m[first] = 0;
         b += 1;
     }
 }
@@ -276,11 +294,10 @@ fn row_lines(sheet: &[u8], m: &[u32], n: usize, out: &mut [u8], at: usize) -> us
     let mut c = finding_lines::begin(out, at);
     let mut i = 0;
     while i < n {
-        let row = i * 5;
-        let ka = wide(m[row]);
-        let ke = wide(m[row + 1]);
-        let va = wide(m[row + 2]);
-        let ve = wide(m[row + 3]);
+        let ka = cell_at(m, i, 0);
+        let ke = cell_at(m, i, 1);
+        let va = cell_at(m, i, 2);
+        let ve = cell_at(m, i, 3);
         c = put_meta(out, c, &sheet[ka..ke], &sheet[va..ve]);
         i += 1;
     }

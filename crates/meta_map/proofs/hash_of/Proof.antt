@@ -38,11 +38,11 @@ loop-less c = search needs
 
 -- src/lib.rt:47:5
 loop-again : tie.Need-loop-again Inv-loop μ-loop
-loop-again c = search needs
+loop-again c = hash-on (c .before .before .before .before .loop .inv) (c .before .before .kept-char .ensures) (c .before .mixed .ensures .0) (c .before .mixed .ensures .1)
 
 -- src/lib.rt:42:1
 returns : tie.Need-returns Inv-loop μ-loop
-returns c = search needs
+returns c = hash-ends (c .before .loop .inv) (c .loop-test .left)
 
 pub hash-of-spec : {M : Type 1} → statement M
 hash-of-spec =

@@ -1,5 +1,6 @@
 use borrow.Author.Needs.{needs}
 use native.Mathlib.Omega.{arith}
+use Rattle.meta_map.proofs.Metas.{heeded-off, heeded-define, heeded-duplicate, heeded-unknown, heeded-ordinary}
 use Rattle.meta_map.proofs.is_heeded.Statement.{statement}
 use Rattle.meta_map.proofs.is_heeded.Tie as tie
 use Rattle.meta_map.proofs.is_heeded.Reads as reads
@@ -16,7 +17,7 @@ enum-told c = search needs
 
 -- src/lib.rt:137:17
 returns : tie.Need-returns
-returns c = search needs
+returns c = heeded-define _ (c .before .before .before .if1 .taken) (c .before .before .key-of .ensures) (c .enum-told .given .1)
 
 -- src/lib.rt:140:17
 enum-told-2 : tie.Need-enum-told-2
@@ -24,7 +25,7 @@ enum-told-2 c = search needs
 
 -- src/lib.rt:140:17
 returns-2 : tie.Need-returns-2
-returns-2 c = search needs
+returns-2 c = heeded-duplicate _ (c .before .before .before .if1 .taken) (c .before .before .key-of .ensures) (c .enum-told2 .given .1)
 
 -- src/lib.rt:143:17
 enum-told-3 : tie.Need-enum-told-3
@@ -32,7 +33,7 @@ enum-told-3 c = search needs
 
 -- src/lib.rt:143:17
 returns-3 : tie.Need-returns-3
-returns-3 c = search needs
+returns-3 c = heeded-unknown _ (c .before .before .before .if1 .taken) (c .before .before .key-of .ensures) (c .enum-told3 .given .1)
 
 -- src/lib.rt:146:17
 enum-told-4 : tie.Need-enum-told-4
@@ -40,11 +41,11 @@ enum-told-4 c = search needs
 
 -- src/lib.rt:146:17
 returns-4 : tie.Need-returns-4
-returns-4 c = search needs
+returns-4 c = heeded-ordinary _ (c .before .before .before .if1 .taken) (c .before .before .key-of .ensures) (c .enum-told4 .given .1)
 
 -- src/lib.rt:129:1
 returns-5 : tie.Need-returns-5
-returns-5 c = search needs
+returns-5 c = heeded-off (c .if1 .left)
 
 pub is-heeded-spec : {M : Type 1} → statement M
 is-heeded-spec =

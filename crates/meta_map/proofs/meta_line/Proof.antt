@@ -1,5 +1,6 @@
 use borrow.Author.Needs.{needs}
 use native.Mathlib.Omega.{arith}
+use Rattle.meta_map.proofs.Printed.{meta-put}
 use Rattle.meta_map.proofs.meta_line.Statement.{statement}
 use Rattle.meta_map.proofs.meta_line.Tie as tie
 use Rattle.meta_map.proofs.meta_line.Reads as reads
@@ -42,7 +43,7 @@ same-length c = search needs
 
 -- src/lib.rt:117:1
 returns : tie.Need-returns
-returns c = search needs
+returns c = meta-put (c .before .before .before .before .before .before .before .before .before .before .before .before .before .before .before .before .before .before .before .before .before .before .before .before .before .before .before .before .pre .0) (c .before .before .before .before .before .before .before .before .before .before .before .before .before .before .before .before .before .before .before .before .before .before .before .before .before .before .before .before .pre .1) (c .before .before .before .before .before .before .before .before .before .before .before .before .before .before .before .before .before .before .before .before .before .before .put-bytes .ensures) (c .before .before .before .before .before .before .before .before .before .before .before .before .before .before .before .before .before .before .put-byte .ensures) (c .before .before .before .before .before .before .before .before .before .before .before .before .before .before .put-kept .ensures) (c .before .before .before .before .before .before .before .before .before .before .put-byte2 .ensures) (c .before .before .before .before .before .before .put-bytes2 .ensures) (c .before .before .put-byte3 .ensures)
 
 pub meta-line-spec : {M : Type 1} → statement M
 meta-line-spec =

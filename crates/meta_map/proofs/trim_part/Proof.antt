@@ -1,5 +1,6 @@
 use borrow.Author.Needs.{needs}
 use native.Mathlib.Omega.{arith}
+use Rattle.meta_map.proofs.Metas.{trimmed-part}
 use Rattle.meta_map.proofs.trim_part.Statement.{statement}
 use Rattle.meta_map.proofs.trim_part.Tie as tie
 use Rattle.meta_map.proofs.trim_part.Reads as reads
@@ -49,7 +50,7 @@ add-end c = search needs
 
 -- src/lib.rt:154:1
 returns : tie.Need-returns
-returns c = search needs
+returns c = trimmed-part (c .before .before .before .before .before .before .args .line .now) (c .before .before .before .before .before .before .args .p) _ _ (c .before .before .before .before .before .before .pre .1 .0) (c .before .before .before .before .before .before .pre .1 .1) (c .before .before .start-of .ensures) (c .end-of .ensures)
 
 pub trim-part-spec : {M : Type 1} → statement M
 trim-part-spec =
