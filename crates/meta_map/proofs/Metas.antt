@@ -173,7 +173,7 @@ module _ (sheet : List ℕ) (from end : ℕ) {k : TextView} (kz : TextWithin (pa
     unfolding mapMeta
     meta-entered {flags} {m₀} {n} e h g i =
         record {
-          map = i .map ∙ (ap (λ (x : List ℕ). insertMeta x _ (mapIn sheet m₀ n)) key-is ∙ (ap (λ (x : List ℕ). insertMeta (keyText (textIn (partAt sheet from end) k)) x (mapIn sheet m₀ n)) value-is
+          map = i .map ∙ (ap (λ (x : List ℕ). insertMeta x (contents.contentIn (partAt sheet (from + b .from) (from + b .to))) (mapIn sheet m₀ n)) key-is ∙ (ap (λ (x : List ℕ). insertMeta (keyText (textIn (partAt sheet from end) k)) x (mapIn sheet m₀ n)) value-is
               ∙ sym (key-entered (textIn (partAt sheet from end) k) (textIn (partAt sheet from end) v) (mapIn sheet m₀ n) (hasModes flags) _ (sym (heeded-key e h) ∙ g))));
           indexed = i .indexed;
           count = i .count;

@@ -335,3 +335,6 @@ indexed-none sheet h c =
       nexts = λ i l. absurd (omega arith);
       once = λ i l. absurd (omega arith);
     }
+
+pub key-pushed : {m₀ m₁ : List ℕ} (n b ka ke va ve : ℕ) → m₁ ≡ sets m₀ (n * 5) (ka ∷ ke ∷ va ∷ ve ∷ head m₀ b ∷ []) → KeyPushed m₀ n b ka ke va ve (set m₁ (20480 + b) (n + 1))
+key-pushed n b ka ke va ve e = record { is = rw e }

@@ -50,7 +50,7 @@ add-end c = search needs
 
 -- src/lib.rt:154:1
 returns : tie.Need-returns
-returns c = trimmed-part (c .before .before .before .before .before .before .args .line .now) (c .before .before .before .before .before .before .args .p) _ _ (c .before .before .before .before .before .before .pre .1 .0) (c .before .before .before .before .before .before .pre .1 .1) (c .before .before .start-of .ensures) (c .end-of .ensures)
+returns c = trimmed-part (c .before .before .before .before .before .before .args .line .now) (c .before .before .before .before .before .before .args .p) _ _ (c .before .before .before .before .before .before .pre .1) (c .before .before .before .before .before .before .pre .2) (c .before .before .start-of .ensures) (c .end-of .ensures)
 
 pub trim-part-spec : {M : Type 1} → statement M
 trim-part-spec =
