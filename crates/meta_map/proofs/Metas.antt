@@ -181,12 +181,12 @@ module _ (sheet : List ℕ) (from end : ℕ) {k : TextView} (kz : TextWithin (pa
 
 -- ---- any line
 
-pub meta-within : {line : List ℕ} {v : EventView} {b : Between} {k w : TextView} → KnownEvent line v → v ≡ event.Between b → b ≡ between.Meta k w → (TextWithin line k × TextWithin line w) × (TextField line k × TextField line w)
+pub meta-within : {line : List ℕ} {v : EventView} {b : Between} {k w : TextView} → KnownEvent line v → v ≡ event.Between b → b ≡ between.Meta k w → TextWithin line k × TextWithin line w × TextField line k × TextField line w
 unfolding EventWithin BetweenWithin EventFields BetweenFields
 meta-within x e f =
     let p = rw (e, f) at (x .within) in
     let q = rw (e, f) at (x .fields) in
-    ((p .0, p .1), (q .0, q .1))
+    (p .0, p .1, q .0, q .1)
 
 module _ {flags : ℕ} {sheet line m₀ : List ℕ} {n : ℕ} {v : EventView} where
   pub event-meta : {b : Between} {k w : TextView} {m : List ℕ} {r : ℕ} → v ≡ event.Between b → b ≡ between.Meta k w → MetaIndexed flags sheet line m₀ n k w m r → EventIndexed flags sheet line m₀ n v m r

@@ -1,5 +1,8 @@
 use borrow.Author.Needs.{needs}
 use native.Mathlib.Omega.{arith}
+use mathlib.Core.Path.{refl}
+use Rattle.parts.specs.Views.{partOf}
+use Rattle.meta_map.proofs.Metas.{meta-heeded, meta-row, meta-entered}
 use Rattle.meta_map.proofs.index_meta.Statement.{statement}
 use Rattle.meta_map.proofs.index_meta.Tie as tie
 use Rattle.meta_map.proofs.index_meta.Reads as reads
@@ -38,7 +41,8 @@ is-heeded-requires c κs = search needs
 
 -- src/lib.rt:210:9
 returns : tie.Need-returns
-returns c = search needs
+unfolding partOf
+returns c = meta-heeded (c .before .before .before .before .before .before .before .before .before .args .sheet .now) (c .before .before .before .before .before .before .before .before .before .args .from) (c .before .before .before .before .before .before .before .before .before .args .end) (c .before .before .before .before .before .before .before .before .before .pre .6) (c .before .before .before .before .before .before .before .before .before .args .value) (c .before .before .before .before .before .before .before .before .before .pre .1) refl (c .before .is-heeded .ensures) (c .if1 .taken)
 
 -- src/lib.rt:212:9
 trim-part-requires : tie.Need-trim-part-requires
@@ -62,11 +66,11 @@ add-va c = search needs
 
 -- src/lib.rt:217:14
 add-ve : tie.Need-add-ve
-add-ve c = search needs
+add-ve c = search (needs, (meta-row (c .before .before .before .before .before .before .before .before .before .before .before .before .before .before .before .args .sheet .now) (c .before .before .before .before .before .before .before .before .before .before .before .before .before .before .before .args .from) (c .before .before .before .before .before .before .before .before .before .before .before .before .before .before .before .args .end) (c .before .before .before .before .before .before .before .before .before .before .before .before .before .before .before .pre .6) (c .before .before .before .before .before .before .before .before .before .before .before .before .before .before .before .pre .7) (c .before .before .before .before .before .before .before .before .before .before .before .before .before .before .before .pre .5) (c .before .before .before .before .before .before .before .before .before .before .before .before .before .before .before .pre .4) (c .before .before .before .before .before .trim-part .ensures) (c .before .before .before .before .trim-part2 .ensures) (c .before .before .before .before .before .before .before .before .before .before .before .before .before .before .before .pre .8) (c .before .before .before .before .before .before .before .before .before .before .before .before .before .before .before .pre .9)) .valueMost)
 
 -- src/lib.rt:218:5
 insert-meta-requires : tie.Need-insert-meta-requires
-insert-meta-requires c κs = search needs
+insert-meta-requires c κs = (c .before .before .before .before .before .before .before .before .before .before .before .before .before .before .before .before .pre .1, c .before .before .before .before .before .before .before .before .before .before .before .before .before .before .before .before .pre .2, c .before .before .before .before .before .before .before .before .before .before .before .before .before .before .before .before .pre .3, meta-row (c .before .before .before .before .before .before .before .before .before .before .before .before .before .before .before .before .args .sheet .now) (c .before .before .before .before .before .before .before .before .before .before .before .before .before .before .before .before .args .from) (c .before .before .before .before .before .before .before .before .before .before .before .before .before .before .before .before .args .end) (c .before .before .before .before .before .before .before .before .before .before .before .before .before .before .before .before .pre .6) (c .before .before .before .before .before .before .before .before .before .before .before .before .before .before .before .before .pre .7) (c .before .before .before .before .before .before .before .before .before .before .before .before .before .before .before .before .pre .5) (c .before .before .before .before .before .before .before .before .before .before .before .before .before .before .before .before .pre .4) (c .before .before .before .before .before .before .trim-part .ensures) (c .before .before .before .before .before .trim-part2 .ensures) (c .before .before .before .before .before .before .before .before .before .before .before .before .before .before .before .before .pre .8) (c .before .before .before .before .before .before .before .before .before .before .before .before .before .before .before .before .pre .9))
 
 -- src/lib.rt:190:1
 same-length : tie.Need-same-length
@@ -74,7 +78,8 @@ same-length c = search needs
 
 -- src/lib.rt:190:1
 returns-2 : tie.Need-returns-2
-returns-2 c = search needs
+unfolding partOf
+returns-2 c = meta-entered (c .before .before .before .before .before .before .before .before .before .before .before .before .before .before .before .before .before .before .before .args .sheet .now) (c .before .before .before .before .before .before .before .before .before .before .before .before .before .before .before .before .before .before .before .args .from) (c .before .before .before .before .before .before .before .before .before .before .before .before .before .before .before .before .before .before .before .args .end) (c .before .before .before .before .before .before .before .before .before .before .before .before .before .before .before .before .before .before .before .pre .6) (c .before .before .before .before .before .before .before .before .before .before .before .before .before .before .before .before .before .before .before .pre .7) (c .before .before .before .before .before .before .before .before .before .before .before .before .before .before .before .before .before .before .before .pre .5) (c .before .before .before .before .before .before .before .before .before .before .before .before .before .before .before .before .before .before .before .pre .4) (c .before .before .before .before .before .before .before .before .before .trim-part .ensures) (c .before .before .before .before .before .before .before .before .trim-part2 .ensures) refl (c .before .before .before .before .before .before .before .before .before .before .before .is-heeded .ensures) (c .before .before .before .before .before .before .before .before .before .before .if1 .left) (c .before .before .insert-meta .ensures)
 
 pub index-meta-spec : {M : Type 1} → statement M
 index-meta-spec =

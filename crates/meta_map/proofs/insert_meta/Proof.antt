@@ -1,5 +1,6 @@
 use borrow.Author.Needs.{needs}
 use native.Mathlib.Omega.{arith}
+use Rattle.meta_map.proofs.Stored.{found-below, inserted-value, inserted-key}
 use Rattle.meta_map.proofs.insert_meta.Statement.{statement}
 use Rattle.meta_map.proofs.insert_meta.Tie as tie
 use Rattle.meta_map.proofs.insert_meta.Reads as reads
@@ -43,7 +44,7 @@ cast-set-value-2 c = search needs
 
 -- src/lib.rt:121:13
 set-value-requires : tie.Need-set-value-requires
-set-value-requires c κs = search needs
+set-value-requires c κs = (found-below (c .before .before .before .before .before .before .before .before .before .before .pre .0) (c .before .before .before .before .before .before .before .before .before .before .pre .3) (c .before .before .before .before .find-row .ensures) (c .before .before .i .given .1), c .before .before .before .before .before .before .before .before .before .before .pre .0 .long)
 
 -- src/lib.rt:125:22
 enum-told : tie.Need-enum-told
@@ -79,7 +80,7 @@ same-length c = search needs
 
 -- src/lib.rt:113:1
 returns : tie.Need-returns
-returns c = search needs
+returns c = inserted-value (c .before .before .before .before .before .before .before .before .before .before .before .before .before .pre .0) (c .before .before .before .before .before .before .before .before .before .before .before .before .before .pre .3) (c .before .before .before .before .before .before .before .find-row .ensures) (c .before .before .before .before .before .i .given .1) (c .before .before .set-value .ensures)
 
 -- src/lib.rt:113:1
 same-length-2 : tie.Need-same-length-2
@@ -87,7 +88,7 @@ same-length-2 c = search needs
 
 -- src/lib.rt:113:1
 returns-2 : tie.Need-returns-2
-returns-2 c = search needs
+returns-2 c = inserted-key (c .before .before .before .before .before .before .before .before .before .before .before .before .pre .0) (c .before .before .before .before .before .before .before .before .before .before .before .before .pre .3) (c .before .before .before .before .before .before .find-row .ensures) (c .before .before .before .before .before .before .before .before .before .before .before .before .pre .1) (c .before .before .before .before .before .before .before .before .hash-of .ensures) (c .before .before .before .before .enum-told .given .1) (c .before .before .push-key .ensures)
 
 pub insert-meta-spec : {M : Type 1} → statement M
 insert-meta-spec =
