@@ -79,9 +79,9 @@ trimmed-part line p a e h g x y =
     let l : length (take (p .to - p .from) (drop (p .from) line)) ≡ p .to - p .from = line-long line (p .from) (p .to) g in
     let k : e ≤ length (take (p .to - p .from) (drop (p .from) line)) - a = omega (arith, y .most, length-take (length (take (p .to - p .from) (drop (p .from) line)) - a) (drop a (take (p .to - p .from) (drop (p .from) line)))) in
     let same : take e (take (length (take (p .to - p .from) (drop (p .from) line)) - a) (drop a (take (p .to - p .from) (drop (p .from) line)))) ≡ take (p .from + a + e - (p .from + a)) (drop (p .from + a) line) =
-        take-take e (length (take (p .to - p .from) (drop (p .from) line)) - a) (drop a (take (p .to - p .from) (drop (p .from) line))) k
-        ∙ (part-in line (p .from) (p .to) a e (omega (arith, x .most)) ∙ ap (λ (n : ℕ). take n (drop (p .from + a) line)) d)
-        in
+    take-take e (length (take (p .to - p .from) (drop (p .from) line)) - a) (drop a (take (p .to - p .from) (drop (p .from) line))) k
+    ∙ (part-in line (p .from) (p .to) a e (omega (arith, x .most)) ∙ ap (λ (n : ℕ). take n (drop (p .from + a) line)) d)
+    in
     record {
       order = omega arith;
       most = omega (arith, x .most);

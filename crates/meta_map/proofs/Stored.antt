@@ -128,7 +128,7 @@ module _ (m : List ℕ) (i va ve : ℕ) where
       go : (t : Bool) → eqList k (keyAt sheet m j) ≡ t → pick t (some j) (findIn (keyAt sheet m) k j) ≡ some i
           → (findIn (keyAt sheet m) k j ≡ some i → mapIn sheet withNew j ≡ each (withValue k (contentIn (partAt sheet va ve))) (mapIn sheet m j))
           → _≡_ {A = List MetaEntry} (record { key = keyAt sheet withNew j; value = valueAt sheet withNew j } ∷ mapIn sheet withNew j)
-              (record { key = keyAt sheet m j; value = pick (eqList k (keyAt sheet m j)) (contentIn (partAt sheet va ve)) (valueAt sheet m j) } ∷ each (withValue k (contentIn (partAt sheet va ve))) (mapIn sheet m j))
+          (record { key = keyAt sheet m j; value = pick (eqList k (keyAt sheet m j)) (contentIn (partAt sheet va ve)) (valueAt sheet m j) } ∷ each (withValue k (contentIn (partAt sheet va ve))) (mapIn sheet m j))
       go true e p ih =
           let z : j ≡ i = some-inj p in
           let f : findIn (keyAt sheet m) k j ≡ none = ap (λ (x : List ℕ). findIn (keyAt sheet m) x j) (eq-true k (keyAt sheet m j) e) ∙ o j (omega arith) in

@@ -110,7 +110,15 @@ fn push_key(m: &mut [u32], n: usize, b: usize, ka: u32, ke: u32, va: u32, ve: u3
 }
 
 // A key and its value, both trimmed, by their places in the sheet.
-pub fn insert_meta(sheet: &[u8], m: &mut [u32], n: usize, ka: usize, ke: usize, va: usize, ve: usize) -> usize
+pub fn insert_meta(
+    sheet: &[u8],
+    m: &mut [u32],
+    n: usize,
+    ka: usize,
+    ke: usize,
+    va: usize,
+    ve: usize,
+) -> usize
     requires { ⌜ Indexed (now sheet) (now m) n × (n < 4096) × (length (now sheet) ≤ 65536) × RowIn (now sheet) ka ke va ve ⌝ }
     ensures { λ r. ⌜ Inserted (now (sheet .entry)) (now (m .entry)) n ka ke va ve (now (m .exit)) r ⌝ }
 {
@@ -219,7 +227,16 @@ fn index_meta(
 }
 
 // A line of the sheet: only `meta` lines count.
-fn index_event(t: &[u32], flags: u32, sheet: &[u8], from: usize, end: usize, v: EventView, m: &mut [u32], n: usize) -> usize
+fn index_event(
+    t: &[u32],
+    flags: u32,
+    sheet: &[u8],
+    from: usize,
+    end: usize,
+    v: EventView,
+    m: &mut [u32],
+    n: usize,
+) -> usize
     requires { ⌜ (now t ≡ unicodeTables) × Indexed (now sheet) (now m) n × (n < 4096) × (length (now sheet) ≤ 65536) × (from ≤ end) × (end ≤ length (now sheet)) × KnownEvent (partAt (now sheet) from end) v ⌝ }
     ensures { λ r. ⌜ EventIndexed flags (now (sheet .entry)) (partAt (now (sheet .entry)) from end) (now (m .entry)) n v (now (m .exit)) r ⌝ }
 {

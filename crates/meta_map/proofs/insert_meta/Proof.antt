@@ -44,7 +44,7 @@ cast-set-value-2 c = search needs
 
 -- src/lib.rt:121:13
 set-value-requires : tie.Need-set-value-requires
-set-value-requires c κs = (found-below (c .before .before .before .before .before .before .before .before .before .before .pre .0) (c .before .before .before .before .before .before .before .before .before .before .pre .3) (c .before .before .before .before .find-row .ensures) (c .before .before .i .given .1), c .before .before .before .before .before .before .before .before .before .before .pre .0 .long)
+set-value-requires c κs = omega (arith, found-below (c .before .before .before .before .before .before .before .before .before .before .pre .0) (c .before .before .before .before .before .before .before .before .before .before .pre .3) (c .before .before .before .before .find-row .ensures) (c .before .before .i .given .1), c .before .before .before .before .before .before .before .before .before .before .pre .1, c .before .before .before .before .before .before .before .before .before .before .pre .0 .long)
 
 -- src/lib.rt:125:22
 enum-told : tie.Need-enum-told
