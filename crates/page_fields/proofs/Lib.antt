@@ -1,0 +1,4 @@
+pub mod Tables
+pub mod Contents
+pub mod Amounts
+pub mod Letters
