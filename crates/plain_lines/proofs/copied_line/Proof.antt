@@ -1,5 +1,4 @@
 use borrow.Author.Needs.{needs}
-use native.Mathlib.Omega.{arith}
 use Rattle.output.proofs.Puts.{put-seq}
 use Rattle.plain_lines.proofs.copied_line.Statement.{statement}
 use Rattle.plain_lines.proofs.copied_line.Tie as tie

@@ -1,5 +1,4 @@
 use borrow.Author.Needs.{needs}
-use native.Mathlib.Omega.{arith}
 use Rattle.plain_lines.proofs.Lines.{end-put}
 use Rattle.plain_lines.proofs.end_text_line.Statement.{statement}
 use Rattle.plain_lines.proofs.end_text_line.Tie as tie

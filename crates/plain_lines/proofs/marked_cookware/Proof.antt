@@ -1,5 +1,4 @@
 use borrow.Author.Needs.{needs}
-use native.Mathlib.Omega.{arith}
 use Rattle.plain_lines.proofs.Lines.{cookware-put}
 use Rattle.plain_lines.proofs.marked_cookware.Statement.{statement}
 use Rattle.plain_lines.proofs.marked_cookware.Tie as tie

@@ -1,5 +1,4 @@
 use borrow.Author.Needs.{needs}
-use native.Mathlib.Omega.{arith}
 use Rattle.plain_lines.proofs.Lines.{ingredient-put}
 use Rattle.plain_lines.proofs.marked_ingredient.Statement.{statement}
 use Rattle.plain_lines.proofs.marked_ingredient.Tie as tie

@@ -1,5 +1,4 @@
 use borrow.Author.Needs.{needs}
-use native.Mathlib.Omega.{arith}
 use mathlib.Core.Bool.{true, false}
 use Rattle.plain_lines.proofs.Lines.{kind-line}
 use Rattle.plain_lines.proofs.marked_line.Statement.{statement}

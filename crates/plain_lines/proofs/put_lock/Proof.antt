@@ -1,5 +1,4 @@
 use borrow.Author.Needs.{needs}
-use native.Mathlib.Omega.{arith}
 use Rattle.plain_lines.proofs.Fields.{lock-set, lock-none}
 use Rattle.plain_lines.proofs.put_lock.Statement.{statement}
 use Rattle.plain_lines.proofs.put_lock.Tie as tie

@@ -1,5 +1,4 @@
 use borrow.Author.Needs.{needs}
-use native.Mathlib.Omega.{arith}
 use Rattle.plain_lines.proofs.Fields.{marked-put}
 use Rattle.plain_lines.proofs.put_marked.Statement.{statement}
 use Rattle.plain_lines.proofs.put_marked.Tie as tie

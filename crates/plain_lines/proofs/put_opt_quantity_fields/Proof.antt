@@ -1,5 +1,4 @@
 use borrow.Author.Needs.{needs}
-use native.Mathlib.Omega.{arith}
 use Rattle.page_fields.proofs.Amounts.{amount-fields}
 use Rattle.plain_lines.proofs.Fields.{quantity-absent, quantity-present}
 use Rattle.plain_lines.proofs.put_opt_quantity_fields.Statement.{statement}

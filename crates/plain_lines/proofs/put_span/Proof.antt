@@ -1,5 +1,4 @@
 use borrow.Author.Needs.{needs}
-use native.Mathlib.Omega.{arith}
 use Rattle.plain_lines.proofs.Fields.{span-put}
 use Rattle.plain_lines.proofs.put_span.Statement.{statement}
 use Rattle.plain_lines.proofs.put_span.Tie as tie

@@ -1,5 +1,4 @@
 use borrow.Author.Needs.{needs}
-use native.Mathlib.Omega.{arith}
 use Rattle.plain_lines.proofs.Lines.{start-put}
 use Rattle.plain_lines.proofs.start_text_line.Statement.{statement}
 use Rattle.plain_lines.proofs.start_text_line.Tie as tie

@@ -1,5 +1,3 @@
-use borrow.Author.Needs.{needs}
-use native.Mathlib.Omega.{arith}
 use mathlib.Core.Path.{refl}
 use Rattle.rules.specs.Model.{withRef}
 use Rattle.components.specs.Views.{modifiersIn}
