@@ -1,17 +1,15 @@
 -- The loop over an accepted sheet that draws a part of the page: what it carries from line to line.
-use Prim.Native.Nat.{ℕ, suc, _+_, _-_, _≤_, _<_, _^_}
+use Prim.Native.Nat.{ℕ, _+_, _-_, _≤_, _<_, _^_}
 use mathlib.Core.Path.{_≡_, refl, sym, ap, _∙_, subst}
 use mathlib.Core.List.{List, [], _∷_, _++_, append-nil, append-assoc}
-use mathlib.Core.Bool.{Bool, true, false}
-use mathlib.Core.Option.{Option, none, some}
+use mathlib.Core.Option.{some}
 use native.Mathlib.Omega.{arith}
 use lib.ListN.{length, take, drop, length-take}
-use Rattle.rules.specs.Basic.{isSome}
-use Rattle.rules.specs.Sheet.{Lines, lines}
+use Rattle.rules.specs.Sheet.{lines}
 use Rattle.rules.specs.Event.{Event}
 use Rattle.rules.specs.Units.{NamedUnit, readUnits}
 use Rattle.rules.specs.Read.{parseLine}
-use Rattle.rules.specs.State.{State, firstState, Walk, going}
+use Rattle.rules.specs.State.{State, firstState, going}
 use Rattle.rules.specs.Pass.{walk}
 use Rattle.rules.specs.Answer.{events, eventsOr, unitsOr, readFrom, readSheet}
 use Rattle.output.specs.Put.{Put}

@@ -1,21 +1,20 @@
 -- A line of a sheet that is good: it is well formed, and its spans are good.
 use Prim.Native.Nat.{ℕ, suc, _+_, _-_}
 use mathlib.Core.Path.{_≡_, refl, sym, ap, _∙_}
-use mathlib.Core.List.{List, _∷_}
+use mathlib.Core.List.{List}
 use mathlib.Core.Bool.{Bool, true, false}
 use mathlib.Core.Option.{Option, none, some}
 use native.Mathlib.Omega.{arith}
 use lib.Dec.{ltb}
 use lib.ListN.{length, take, drop}
-use Rattle.rules.specs.Basic.{pick, all, isSome}
-use Rattle.rules.specs.Sheet.{Lines, lines, more}
+use Rattle.rules.specs.Basic.{pick, all, isSome, lf}
+use Rattle.rules.specs.Sheet.{Lines, lines}
 use Rattle.rules.specs.Event.{Event, spansOf}
 use Rattle.rules.specs.Read.{parseLine}
 use Rattle.rules.specs.Answer.{Reading, events, unread, withEvent, isGoodSpan, readLine, readFrom}
 use Rattle.sheet.specs.declared.LineEnd.{LineEnd}
 use Rattle.sheet.specs.declared.LineEnd.the-variants.{At}
 use Rattle.sheet.specs.Lines.{linesFrom, LineAt}
-use Rattle.rules.specs.Basic.{lf}
 use Rattle.rules.proofs.Fields.{Without}
 use Rattle.rules.proofs.Basics.{no-truth}
 use Rattle.content.proofs.Lines.{line-without}

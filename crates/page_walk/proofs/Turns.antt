@@ -1,14 +1,13 @@
 -- One line of the walk.
 use Prim.Native.Nat.{ℕ, _+_, _≤_}
-use mathlib.Core.Path.{_≡_, refl, sym, ap, _∙_, subst}
+use mathlib.Core.Path.{_≡_, sym, ap, _∙_, subst}
 use mathlib.Core.Bool.{true}
 use mathlib.Core.List.{List}
-use mathlib.Core.Option.{Option, none, some}
+use mathlib.Core.Option.{some}
 use lib.ListN.{length}
 use Rattle.rules.specs.Basic.{all}
 use Rattle.rules.specs.Event.{Event, spansOf}
 use Rattle.rules.specs.Units.{NamedUnit}
-use Rattle.rules.specs.Read.{parseLine}
 use Rattle.rules.specs.Answer.{isGoodSpan}
 use Rattle.output.specs.Put.{Put}
 use Rattle.events.specs.Views.{eventIn}
@@ -20,7 +19,6 @@ use Rattle.following.specs.declared.Follow.{Follow}
 use Rattle.following.specs.Drawn.{quantitiesAdded, added}
 use Rattle.following.specs.Follow.{nextFollow, withInline, Followed}
 use Rattle.part_lines.specs.Drawing.{tracked, LineDrawn}
-use Rattle.page_walk.specs.declared.Turn.{Turn}
 use Rattle.page_walk.specs.Walk.{LineReady, LineTaken}
 
 some-inj : {a b : Event} → some a ≡ some b → a ≡ b
