@@ -6,7 +6,7 @@ use lib.Dec.{leb}
 use lib.ListN.{length, take}
 use Rattle.rules.specs.Basic.{pick}
 use Rattle.rules.specs.Answer as rules
-use Rattle.rules.specs.Answer.{answered, declined, Lent, collectAnswer, outAfter, workAfter}
+use Rattle.rules.specs.Answer.{answered, declined, Lent, collectAnswer, outAfter, workAfter, printed}
 use Rattle.unicode.specs.Tables.{unicodeTables}
 use Rattle.inputs.specs.Inputs.{GoodInputs}
 use Rattle.recipe.specs.declared.Answer.{Answer}
@@ -75,3 +75,8 @@ pub record Coded (sheet text units : List ℕ) (flags : ℕ) (m : Lent) (w b o :
   pub out : o ≡ outAfter (m .room) (collectAnswer sheet text units flags m)
   pub words : w ≡ workAfter (m .words)
   pub bytes : b ≡ workAfter (m .bytes)
+
+-- what the programs print of an answer r in the output o₀: n bytes at the front of o
+pub record PrintedAt (r : Answer) (o₀ o : List ℕ) (n : ℕ) : Type 0 where
+  pub is : take n o ≡ printed (answerOf r o₀)
+  pub fits : n ≤ length o

@@ -1,10 +1,10 @@
 // Recipe pages from event sheets: everything is lent, nothing is kept, and what was lent is zero again but for the page.
 ghost use mathlib.Core.Path.{_≡_};
-ghost use Prim.Native.Nat.{_*_, _+_};
+ghost use Prim.Native.Nat.{_≤_};
 ghost use lib.ListN.{length};
 ghost use Rattle.rules.specs.Answer.{wordsNeeded, bytesNeeded};
 ghost use Rattle.unicode.specs.Tables.{unicodeTables};
-ghost use Rattle.recipe.specs.Answers.{usedOf, answerCode, lengths, lentOf, pageOr20, Given, Answered, Collected, Coded};
+ghost use Rattle.recipe.specs.Answers.{usedOf, answerCode, lengths, lentOf, pageOr20, Given, Answered, Collected, Coded, PrintedAt};
 use inputs::Inputs;
 use pass::Ran;
 
@@ -100,6 +100,18 @@ pub fn collect(
     clearing::clear_bytes(bytes);
     clearing::clear_from(out, used(r));
     r
+}
+
+// What the programs print of an answer, put at the front of the output: the page, which is there already, or the line of
+// the refusal.
+pub fn print_answer(r: Answer, out: &mut [u8]) -> usize
+    requires { ⌜ (usedOf r ≤ length (now out)) × (30 ≤ length (now out)) ⌝ }
+    ensures { λ n. ⌜ PrintedAt r (now (out .entry)) (now (out .exit)) n ⌝ }
+{
+    match r {
+        Answer::Page(n) => n,
+        Answer::Refused(n, l) => output::write_refusal(out, n, l),
+    }
 }
 
 // ---- for C and Rust (include/recipe.h)
