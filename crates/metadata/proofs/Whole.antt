@@ -31,7 +31,7 @@ use Rattle.blocks.specs.Lined.{Told, Went}
 use Rattle.blocks.proofs.Lines.{went-told}
 use Rattle.metadata.specs.Metas.{DefineSet, DuplicateSet, UnknownNoted, OrdinaryCounted, MetaDone}
 
-text-content : (line : List ℕ) (v : TextView) → TextWithin line v → {b : List ℕ} → b ≡ partOf line (v .content) → contents.contentIn b ≡ textIn line v .content
+pub text-content : (line : List ℕ) (v : TextView) → TextWithin line v → {b : List ℕ} → b ≡ partOf line (v .content) → contents.contentIn b ≡ textIn line v .content
 unfolding textIn contentIn contents.contentIn
 text-content line v z e = ap (λ (x : List ℕ). chars (contents.plainOf x)) e ∙ ap chars (plain-unescape (partOf line (v .content)) (z .content .well))
 
@@ -53,12 +53,12 @@ mode-off flags n x = rw (ne-eqb (flags % 2) 1 n)
 pub meta-off : {flags : ℕ} {line w : List ℕ} {h r : Held} {key value : TextView} → (flags % 2 ≡ 1 → ⊥) → Sound w h → OrdinaryCounted h r → MetaDone flags line key value w h w r
 meta-off {flags} {line} {key = key} {value = value} n z p = record { went = went-as (went-told (p .by (textIn line key) (textIn line value)) z) (meta-is flags (textIn line key) (textIn line value) modes.ordinary (mode-off flags n _)) }
 
-key-at : (flags : ℕ) (line : List ℕ) (key : TextView) (x y : Key) (kb : List ℕ) → flags % 2 ≡ 1 → TextWithin line key → kb ≡ partOf line (key .content) → keyIn x ≡ keyOf (textTrimmed (contents.contentIn kb)) → x ≡ y
+pub key-at : (flags : ℕ) (line : List ℕ) (key : TextView) (x y : Key) (kb : List ℕ) → flags % 2 ≡ 1 → TextWithin line key → kb ≡ partOf line (key .content) → keyIn x ≡ keyOf (textTrimmed (contents.contentIn kb)) → x ≡ y
     → pick (hasModes flags) (keyOf (keyText (textIn line key))) modes.ordinary ≡ keyIn y
 unfolding hasModes keyText
 key-at flags line key x y kb on kz kp g e = rw (eq-eqb (flags % 2) 1 on) (ap (λ (cs : List ℕ). keyOf (textTrimmed cs)) (sym (text-content line key kz kp)) ∙ (sym g ∙ ap keyIn e))
 
-value-at : (line : List ℕ) (value : TextView) (vb : List ℕ) → TextWithin line value → vb ≡ partOf line (value .content) → textOuterTrimmed (contents.contentIn vb) ≡ valueText (textIn line value)
+pub value-at : (line : List ℕ) (value : TextView) (vb : List ℕ) → TextWithin line value → vb ≡ partOf line (value .content) → textOuterTrimmed (contents.contentIn vb) ≡ valueText (textIn line value)
 unfolding valueText
 value-at line value vb vz vp = ap textOuterTrimmed (text-content line value vz vp)
 
