@@ -1,5 +1,6 @@
 use borrow.Author.Needs.{needs}
 use native.Mathlib.Omega.{arith}
+use Rattle.page.proofs.Joins.{failed-put}
 use Rattle.page.proofs.failed_page.Statement.{statement}
 use Rattle.page.proofs.failed_page.Tie as tie
 use Rattle.page.proofs.failed_page.Reads as reads
@@ -21,7 +22,7 @@ same-length c = search needs
 
 -- src/lib.rt:162:1
 returns : tie.Need-returns
-returns c = search needs
+returns c = failed-put (c .before .before .before .before .before .before .head-line .ensures) (c .before .before .parsed-lines .ensures)
 
 pub failed-page-spec : {M : Type 1} → statement M
 failed-page-spec =

@@ -1,5 +1,6 @@
 use borrow.Author.Needs.{needs}
 use native.Mathlib.Omega.{arith}
+use Rattle.page.proofs.Joins.{head-yes, head-no}
 use Rattle.page.proofs.head_line.Statement.{statement}
 use Rattle.page.proofs.head_line.Tie as tie
 use Rattle.page.proofs.head_line.Reads as reads
@@ -20,7 +21,7 @@ same-length c = search needs
 
 -- src/lib.rt:20:9
 returns : tie.Need-returns
-returns c = search needs
+returns c = head-yes (c .before .before .before .before .before .if1 .taken) (c .before .before .put-bytes .ensures)
 
 -- src/lib.rt:22:32
 slice-aggregate-put-bytes-2 : tie.Need-slice-aggregate-put-bytes-2
@@ -36,7 +37,7 @@ same-length-2 c = search needs
 
 -- src/lib.rt:16:1
 returns-2 : tie.Need-returns-2
-returns-2 c = search needs
+returns-2 c = head-no (c .before .before .before .before .before .if1 .left) (c .before .before .put-bytes2 .ensures)
 
 pub head-line-spec : {M : Type 1} → statement M
 head-line-spec =

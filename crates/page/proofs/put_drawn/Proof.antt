@@ -1,5 +1,6 @@
 use borrow.Author.Needs.{needs}
 use native.Mathlib.Omega.{arith}
+use Rattle.page.proofs.Joins.{draw-given, drawn-none, drawn-some}
 use Rattle.page.proofs.put_drawn.Statement.{statement}
 use Rattle.page.proofs.put_drawn.Tie as tie
 use Rattle.page.proofs.put_drawn.Reads as reads
@@ -17,11 +18,11 @@ same-length c = search needs
 
 -- src/lib.rt:45:9
 returns : tie.Need-returns
-returns c = search needs
+returns c = drawn-none (c .before .before .if1 .taken) (c .begin .ensures)
 
 -- src/lib.rt:47:5
 draw-part-requires : tie.Need-draw-part-requires
-draw-part-requires c κs = search needs
+draw-part-requires c κs = draw-given (c .before .before .before .before .before .before .before .before .pre)
 
 -- src/lib.rt:28:1
 same-length-2 : tie.Need-same-length-2
@@ -29,7 +30,7 @@ same-length-2 c = search needs
 
 -- src/lib.rt:28:1
 returns-2 : tie.Need-returns-2
-returns-2 c = search needs
+returns-2 c = drawn-some (c .before .before .draw-part .ensures)
 
 pub put-drawn-spec : {M : Type 1} → statement M
 put-drawn-spec =

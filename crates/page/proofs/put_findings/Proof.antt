@@ -1,5 +1,6 @@
 use borrow.Author.Needs.{needs}
 use native.Mathlib.Omega.{arith}
+use Rattle.page.proofs.Joins.{findings-put}
 use Rattle.page.proofs.put_findings.Statement.{statement}
 use Rattle.page.proofs.put_findings.Tie as tie
 use Rattle.page.proofs.put_findings.Reads as reads
@@ -21,7 +22,7 @@ same-length c = search needs
 
 -- src/lib.rt:118:1
 returns : tie.Need-returns
-returns c = search needs
+returns c = findings-put (c .before .before .before .before .before .before .before .before .before .before .before .before .before .before .pre) (c .before .before .before .before .before .before .finding-lines .ensures) (c .before .before .put-old .ensures)
 
 pub put-findings-spec : {M : Type 1} → statement M
 put-findings-spec =

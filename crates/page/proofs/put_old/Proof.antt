@@ -1,5 +1,6 @@
 use borrow.Author.Needs.{needs}
 use native.Mathlib.Omega.{arith}
+use Rattle.page.proofs.Joins.{old-absent, old-put}
 use Rattle.page.proofs.put_old.Statement.{statement}
 use Rattle.page.proofs.put_old.Tie as tie
 use Rattle.page.proofs.put_old.Reads as reads
@@ -19,7 +20,7 @@ same-length c = search needs
 
 -- src/lib.rt:110:9
 returns : tie.Need-returns
-returns c = search needs
+returns c = old-absent (c .before .before .if1 .taken) (c .begin .ensures)
 
 -- src/lib.rt:112:9
 put-old-open-requires : tie.Need-put-old-open-requires
@@ -39,7 +40,7 @@ same-length-2 c = search needs
 
 -- src/lib.rt:94:1
 returns-2 : tie.Need-returns-2
-returns-2 c = search needs
+returns-2 c = old-put (c .before .before .before .before .before .before .before .before .before .before .before .before .if1 .left) (c .before .before .before .before .before .before .before .before .before .before .put-old-open .ensures) (c .before .before .before .before .before .before .draw-part .ensures) (c .before .before .put-old-close .ensures)
 
 pub put-old-spec : {M : Type 1} → statement M
 put-old-spec =

@@ -1,5 +1,8 @@
 use borrow.Author.Needs.{needs}
 use native.Mathlib.Omega.{arith}
+use Rattle.output.proofs.Puts.{put-past, put-rest, rest-fits}
+use lib.ListN.{length}
+use Prim.Native.Nat.{_+_, _^_, _<_}
 use Rattle.page.proofs.put_old_close.Statement.{statement}
 use Rattle.page.proofs.put_old_close.Tie as tie
 use Rattle.page.proofs.put_old_close.Reads as reads
@@ -12,7 +15,7 @@ add-result c = search needs
 
 -- src/lib.rt:88:9
 returns : tie.Need-returns
-returns c = search needs
+returns c = put-past _ _ _ (c .if1 .taken)
 
 -- src/lib.rt:90:35
 sub-old-close : tie.Need-sub-old-close
@@ -32,7 +35,9 @@ old-close-requires c κs = search needs
 
 -- src/lib.rt:90:5
 add-result-2 : tie.Need-add-result-2
-add-result-2 c = search needs
+add-result-2 c = 
+    let b : length (c .before .before .before .before .before .before .args .out .now) + 1 < 2 ^ 64 = omega arith in
+    record { fits = rest-fits (c .before .before .before .before .before .before .args .out .now) _ b (c .before .before .before .before .if1 .left) (c .before .before .old-close .ensures) }
 
 -- src/lib.rt:84:1
 same-length : tie.Need-same-length
@@ -40,7 +45,7 @@ same-length c = search needs
 
 -- src/lib.rt:84:1
 returns-2 : tie.Need-returns-2
-returns-2 c = search needs
+returns-2 c = put-rest _ _ (c .before .before .before .before .if1 .left) (c .before .before .old-close .ensures)
 
 pub put-old-close-spec : {M : Type 1} → statement M
 put-old-close-spec =

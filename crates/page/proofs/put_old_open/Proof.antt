@@ -1,5 +1,8 @@
 use borrow.Author.Needs.{needs}
 use native.Mathlib.Omega.{arith}
+use Rattle.output.proofs.Puts.{put-past, put-rest, rest-fits}
+use lib.ListN.{length}
+use Prim.Native.Nat.{_+_, _^_, _<_}
 use Rattle.page.proofs.put_old_open.Statement.{statement}
 use Rattle.page.proofs.put_old_open.Tie as tie
 use Rattle.page.proofs.put_old_open.Reads as reads
@@ -12,7 +15,7 @@ add-result c = search needs
 
 -- src/lib.rt:79:9
 returns : tie.Need-returns
-returns c = search needs
+returns c = put-past _ _ _ (c .if1 .taken)
 
 -- src/lib.rt:81:34
 sub-old-open : tie.Need-sub-old-open
@@ -32,7 +35,9 @@ old-open-requires c κs = search needs
 
 -- src/lib.rt:81:5
 add-result-2 : tie.Need-add-result-2
-add-result-2 c = search needs
+add-result-2 c = 
+    let b : length (c .before .before .before .before .before .before .args .out .now) + 1 < 2 ^ 64 = omega arith in
+    record { fits = rest-fits (c .before .before .before .before .before .before .args .out .now) _ b (c .before .before .before .before .if1 .left) (c .before .before .old-open .ensures) }
 
 -- src/lib.rt:75:1
 same-length : tie.Need-same-length
@@ -40,7 +45,7 @@ same-length c = search needs
 
 -- src/lib.rt:75:1
 returns-2 : tie.Need-returns-2
-returns-2 c = search needs
+returns-2 c = put-rest _ _ (c .before .before .before .before .if1 .left) (c .before .before .old-open .ensures)
 
 pub put-old-open-spec : {M : Type 1} → statement M
 put-old-open-spec =

@@ -1,5 +1,6 @@
 use borrow.Author.Needs.{needs}
 use native.Mathlib.Omega.{arith}
+use Rattle.page.proofs.Joins.{tables-put}
 use Rattle.page.proofs.put_tables.Statement.{statement}
 use Rattle.page.proofs.put_tables.Tie as tie
 use Rattle.page.proofs.put_tables.Reads as reads
@@ -30,7 +31,7 @@ same-length c = search needs
 
 -- src/lib.rt:51:1
 returns : tie.Need-returns
-returns c = search needs
+returns c = tables-put (c .before .before .before .before .before .before .before .before .before .before .before .before .before .before .before .before .before .before .before .before .before .before .pre) (c .before .before .before .before .before .before .before .before .before .before .before .before .before .before .ingredient-lines .ensures) (c .before .before .before .before .before .before .before .before .before .before .cookware-lines .ensures) (c .before .before .before .before .before .before .put-drawn .ensures) (c .before .before .put-drawn2 .ensures)
 
 pub put-tables-spec : {M : Type 1} → statement M
 put-tables-spec =

@@ -1,5 +1,7 @@
 use borrow.Author.Needs.{needs}
 use native.Mathlib.Omega.{arith}
+use Rattle.page.proofs.Joins.{index-given, metas-given, draw-given, page-put}
+use Rattle.page.proofs.Words.{given-indexed}
 use Rattle.page.proofs.recipe_page.Statement.{statement}
 use Rattle.page.proofs.recipe_page.Tie as tie
 use Rattle.page.proofs.recipe_page.Reads as reads
@@ -13,7 +15,7 @@ use Rattle.page_parts.proofs.draw_part.Reads as draw-part-reads
 
 -- src/lib.rt:153:9
 index-metadata-requires : tie.Need-index-metadata-requires
-index-metadata-requires c κs = search needs
+index-metadata-requires c κs = index-given (c .before .before .before .before .before .before .before .pre)
 
 -- src/lib.rt:154:9
 head-line-requires : tie.Need-head-line-requires
@@ -21,7 +23,7 @@ head-line-requires c κs = search needs
 
 -- src/lib.rt:155:9
 meta-lines-requires : tie.Need-meta-lines-requires
-meta-lines-requires c κs = search needs
+meta-lines-requires c κs = metas-given (c .before .before .before .before .before .before .before .before .before .before .before .before .before .before .before .before .pre) (c .before .before .before .before .before .before .before .before .index-metadata .ensures)
 
 -- src/lib.rt:156:9
 draw-part-requires : tie.Need-draw-part-requires
@@ -29,15 +31,15 @@ draw-part-requires c κs = search needs
 
 -- src/lib.rt:157:9
 put-tables-requires : tie.Need-put-tables-requires
-put-tables-requires c κs = search needs
+put-tables-requires c κs = given-indexed (c .before .before .before .before .before .before .before .before .before .before .before .before .before .before .before .before .before .before .before .before .before .before .before .before .before .pre) (c .before .before .before .before .before .before .before .before .before .before .before .before .before .before .before .before .before .index-metadata .ensures)
 
 -- src/lib.rt:158:5
 put-findings-requires : tie.Need-put-findings-requires
-put-findings-requires c κs = search needs
+put-findings-requires c κs = given-indexed (c .before .before .before .before .before .before .before .before .before .before .before .before .before .before .before .before .before .before .before .before .before .before .before .before .before .before .before .before .before .before .pre) (c .before .before .before .before .before .before .before .before .before .before .before .before .before .before .before .before .before .before .before .before .before .before .index-metadata .ensures)
 
 -- src/lib.rt:140:1
 same-length : tie.Need-same-length
-same-length c = search needs
+same-length c = search (needs, (c .before .before .before .before .before .before .before .before .before .before .before .before .before .before .before .before .before .before .before .before .before .before .before .before .before .index-metadata .ensures .long))
 
 -- src/lib.rt:140:1
 same-length-2 : tie.Need-same-length-2
@@ -45,7 +47,9 @@ same-length-2 c = search needs
 
 -- src/lib.rt:140:1
 returns : tie.Need-returns
-returns c = search needs
+returns c = 
+    page-put (c .before .before .before .before .before .before .before .before .before .before .before .before .before .before .before .before .before .before .before .before .before .before .before .before .before .before .before .before .before .before .before .before .before .pre) (c .before .before .before .before .before .before .before .before .before .before .before .before .before .before .before .before .before .before .before .before .before .before .before .before .before .index-metadata .ensures) (c .before .before .before .before .before .before .before .before .before .before .before .before .before .before .before .before .before .before .before .before .before .head-line .ensures) (c .before .before .before .before .before .before .before .before .before .before .before .before .before .before .before .before .meta-lines .ensures)
+    (c .before .before .before .before .before .before .before .before .before .before .before .before .draw-part .ensures) (c .before .before .before .before .before .before .before .put-tables .ensures) (c .before .before .put-findings .ensures)
 
 pub recipe-page-spec : {M : Type 1} → statement M
 recipe-page-spec =
