@@ -27,7 +27,7 @@ ghost use Rattle.unit_checks.specs.Checked.{roomOf, InStep, SameBelow, R
 // ---- rows
 
 // The row i of a kind.
-fn kind_row(words: &[u32], is_ingredient: bool, i: usize) -> Row
+pub fn kind_row(words: &[u32], is_ingredient: bool, i: usize) -> Row
     requires { ⌜ (24157 ≤ length (now words)) × (i < roomOf (kindOf «is_ingredient»)) ⌝ }
     ensures { λ r. ⌜ r ≡ rowOf (rowAt 12 (rowsIn (kindOf «is_ingredient») (now (words .entry))) i) ⌝ }
 {
