@@ -1,17 +1,16 @@
 -- What a line of the pass leaves alone: only `meta` lines change the metadata, and only lines of the parser its findings.
 use Prim.Native.Nat.{ℕ, zero, suc}
-use mathlib.Core.Path.{_≡_, refl, ap, sym, _∙_}
-use mathlib.Core.Bool.{Bool, true, false, _&&_, _||_, not}
+use mathlib.Core.Path.{_≡_, refl, _∙_}
+use mathlib.Core.Bool.{Bool, true, false, _&&_, not}
 use mathlib.Core.List.{List, [], _∷_, _++_, reverseAux}
 use mathlib.Core.Option.{Option, none, some}
 use native.Mathlib.Omega.{arith}
-use lib.Dec.{eqb}
-use Rattle.rules.specs.Basic.{pick, when, any}
+use Rattle.rules.specs.Basic.{pick, when}
 use Rattle.rules.specs.Words.{BlockKind, stepKind, textKind, defineKey, duplicateKey, DefineMode, DuplicateMode}
-use Rattle.rules.specs.Event.{Span, Text, Quantity, Component, Intermediate, ComponentEvent, ingredientEvent, cookwareEvent, timerEvent, Between, metaEvent, sectionEvent, startEvent, Inside, endEvent, textEvent, componentEvent}
-use Rattle.rules.specs.Units.{NamedUnit, PhysicalQuantity, findUnit}
-use Rattle.rules.specs.Finding.{Finding, diag, parsed, found, foundTwo, onlyParsed}
-use Rattle.rules.specs.Model.{Kind, ingredient, cookware, isIngredient, Amount, Source, Entry, Item, InlineQuantity, Timer, Block, trimmedText}
+use Rattle.rules.specs.Event.{Span, Text, Quantity, Component, Intermediate, ComponentEvent, ingredientEvent, cookwareEvent, timerEvent, Inside, endEvent, textEvent, componentEvent}
+use Rattle.rules.specs.Units.{NamedUnit, PhysicalQuantity}
+use Rattle.rules.specs.Finding.{Finding, diag, parsed, onlyParsed}
+use Rattle.rules.specs.Model.{Kind, ingredient, cookware, isIngredient, Amount, Source, Entry, Item, InlineQuantity, Timer, Block}
 use Rattle.rules.specs.Modes.{Modes, Key, config, unknownConfig, ordinary, isComponents, hasAdvancedUnits}
 use Rattle.rules.specs.Reference.{Earlier, entryAt, referrers, redundantNew, redundantRef, conflictOrMissing, treatAsReference, referenceFindings, isExplicit}
 use Rattle.rules.specs.Checks.{unitFinding, unitPair, unitAgainst, unitsAgainst, unitCheck, noteCheck, textCheck, quantityCheck, referenceChecks, intermediateModifiers, intermediateFindings}

@@ -3,7 +3,6 @@ use Prim.Native.Nat.{ℕ, suc, _+_, _-_, _≤_, _<_}
 use mathlib.Core.Path.{_≡_, refl, ap, sym, _∙_}
 use mathlib.Core.Bool.{Bool, true, false}
 use mathlib.Core.List.{List, [], _∷_, _++_, append-assoc, append-nil}
-use mathlib.Core.Option.{none, some}
 use native.Mathlib.Omega.{arith}
 use lib.ListN.{length, take, drop}
 use Rattle.rules.specs.Basic.{pick}
@@ -13,10 +12,10 @@ use Rattle.rules.specs.Event.{Between, metaEvent, sectionEvent, startEvent, Eve
 use Rattle.rules.specs.Units.{NamedUnit}
 use Rattle.rules.specs.Finding.{Finding, parsed, onlyParsed}
 use Rattle.rules.specs.Read.{parseLine}
-use Rattle.rules.specs.State.{State, firstState, report, overLimits, Step, next, stop, Walk, going, failed, refused, Outcome, recipe, noRecipe, refusal}
-use Rattle.rules.specs.Pass.{isOpen, parserFindings, isErrorEvent, settle, onInside, onBetween, onEvent, step, walk, ended, unlessOver, finish, parseEvents}
+use Rattle.rules.specs.State.{State, firstState, report, overLimits, Step, next, stop, Walk, going, failed, refused, Outcome, noRecipe}
+use Rattle.rules.specs.Pass.{isOpen, parserFindings, isErrorEvent, settle, onBetween, onEvent, step, walk, ended, unlessOver, finish, parseEvents}
 use Rattle.rules.specs.Page.{linesOnto, tableLines, findingLine}
-use Rattle.rules.specs.Answer.{events, eventsOr, readFrom, readSheet}
+use Rattle.rules.specs.Answer.{events, eventsOr, readSheet}
 use Rattle.rules.proofs.Basics.{pick-either}
 use Rattle.rules.proofs.Walks.{stays-refused, step-settles, step-fails}
 use Rattle.sheet.specs.declared.LineEnd.{LineEnd}
@@ -32,13 +31,13 @@ use Rattle.events.specs.Views.{eventIn, severityIn}
 use Rattle.reading.specs.declared.ReadEvent.{ReadEvent}
 use Rattle.reading.specs.declared.ReadEvent.the-variants as answer
 use Rattle.reading.specs.Answers.{eventAs, IfEvent, IfWhole, EventOf, LineOf}
-use Rattle.reading.proofs.Passes.{Rest, First, rest-ends, rest-ended, rest-read, rest-event}
+use Rattle.reading.proofs.Passes.{Rest, rest-ends, rest-ended, rest-read, rest-event}
 use Rattle.output.specs.Put.{Put}
 use Rattle.output.proofs.Puts.{Leads, starts, turn, step as leads-step}
 use Rattle.output.proofs.Texts.{text-is}
 use Rattle.finding_lines.specs.Lines.{ParsePut, parsedLine, parsedLines, EventPut, ParsedPut}
 use Rattle.finding_lines.proofs.Texts.{leads-placed}
-use Rattle.finding_lines.proofs.Tables.{table-more}
+use Rattle.page_fields.proofs.Tables.{lines-more}
 use Rattle.finding_lines.proofs.Asides.{Aside, AsideStep, section-aside, start-aside, inside-aside, meta-parsers}
 
 -- ---- the parser's findings in a walk
@@ -57,7 +56,7 @@ event-lines : (e : Event) (fs : List Finding) → tableLines findingLine (parser
 unfolding parserFindings parsedLine
 event-lines (between b) fs = sym (append-nil _)
 event-lines (inside i) fs = sym (append-nil _)
-event-lines (parserEvent s n) fs = table-more findingLine (parsed s n) fs ∙ ap (λ (l : List ℕ). tableLines findingLine fs ++ l) (lines-of (length fs) s n)
+event-lines (parserEvent s n) fs = lines-more findingLine (parsed s n) fs ∙ ap (λ (l : List ℕ). tableLines findingLine fs ++ l) (lines-of (length fs) s n)
 
 pub next-inj : {a b : State} → next a ≡ next b → a ≡ b
 next-inj e = cc

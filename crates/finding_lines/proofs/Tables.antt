@@ -1,40 +1,22 @@
--- The lines of a table, one entry after the other.
-use Prim.Native.Nat.{ℕ, suc, _+_, _*_, _≤_, _<_}
-use mathlib.Core.Path.{_≡_, refl, ap, sym, _∙_}
-use mathlib.Core.List.{List, [], _∷_, _++_, append-assoc, append-nil}
+-- The findings in work memory, one after the other.
+use Prim.Native.Nat.{ℕ, suc, _+_, _≤_, _<_}
+use mathlib.Core.Path.{_≡_, refl, ap, _∙_}
+use mathlib.Core.List.{List, [], _∷_}
 use native.Mathlib.Numerals.{add-one}
 use native.Mathlib.Omega.{arith}
 use lib.ListN.{length, take, drop, length-take, length-drop}
-use Rattle.rules.specs.Finding.{Finding}
-use Rattle.rules.specs.Page.{linesOnto, tableLines, findingLine}
+use Rattle.rules.specs.Page.{tableLines, findingLine}
 use Rattle.output.specs.Put.{Put}
 use Rattle.output.proofs.Puts.{put-seq}
 use Rattle.output.proofs.Texts.{text-is}
+use Rattle.page_fields.proofs.Tables.{lines-none, lines-more}
 use Rattle.model.specs.Rows.{rowAt, notedOf, findingOf, findingIn, findingsIn}
-use Rattle.model.specs.Memory.{windowsOf, stateOf, stateIn, Sound}
+use Rattle.model.specs.Memory.{windowsOf, stateOf, stateIn}
 use Rattle.model.specs.declared.Noted.{Noted}
 use Rattle.model.specs.declared.Held.{Held}
 use Rattle.finding_lines.specs.Lines.{FindingPut, FindingsPut}
 
-module _ {A : Type 0} (line : ℕ → A → List ℕ) where
-  onto-rest : (table : List A) (rest : List ℕ) → linesOnto line table rest ≡ linesOnto line table [] ++ rest
-  unfolding linesOnto
-  onto-rest [] rest = refl
-  onto-rest (a ∷ before) rest =
-      onto-rest before (line (length before) a ++ rest)
-      ∙ (sym (append-assoc (linesOnto line before []) (line (length before) a) rest)
-      ∙ ap (λ (l : List ℕ). l ++ rest) (ap (λ (l : List ℕ). linesOnto line before [] ++ l) (sym (append-nil (line (length before) a))) ∙ sym (onto-rest before (line (length before) a ++ []))))
-
-  -- the newest entry has the last line
-  pub table-more : (a : A) (before : List A) → tableLines line (a ∷ before) ≡ tableLines line before ++ line (length before) a
-  unfolding tableLines linesOnto
-  table-more a before = onto-rest before (line (length before) a ++ []) ∙ ap (λ (l : List ℕ). linesOnto line before [] ++ l) (append-nil (line (length before) a))
-
-  pub table-none : tableLines line [] ≡ []
-  unfolding tableLines linesOnto
-  table-none = refl
-
--- ---- the findings in work memory: the lines of the first i, of n, are written
+-- the lines of the first i, of n, are written
 
 pub record Listing (w : List ℕ) (n : ℕ) (o₀ : List ℕ) (at : ℕ) (o : List ℕ) (m i : ℕ) : Type 0 where
   pub most : i ≤ n
@@ -42,7 +24,7 @@ pub record Listing (w : List ℕ) (n : ℕ) (o₀ : List ℕ) (at : ℕ) (o : Li
 
 pub list-starts : {w o : List ℕ} {n at m : ℕ} → Put [] o at o m → Listing w n o at o m 0
 unfolding findingsIn
-list-starts p = record { most = omega arith; put = text-is _ (table-none findingLine) p }
+list-starts p = record { most = omega arith; put = text-is _ (lines-none findingLine) p }
 
 -- a row of the window, as the checker hands the window out
 abbrev rowOfFinding : List ℕ → ℕ → Noted
@@ -59,7 +41,7 @@ module _ {w : List ℕ} {n : ℕ} {o₀ : List ℕ} {at : ℕ} {o : List ℕ} {m
         most = omega arith;
         put =
             rw add-one
-            (text-is _ (ap (tableLines findingLine) (findings-more w i) ∙ table-more findingLine (findingOf (rowOfFinding w i)) (findingsIn (windowsOf w .findings) i))
+            (text-is _ (ap (tableLines findingLine) (findings-more w i) ∙ lines-more findingLine (findingOf (rowOfFinding w i)) (findingsIn (windowsOf w .findings) i))
             (put-seq (v .put) (rw e at (p .is (length (findingsIn (windowsOf w .findings) i))))));
       }
 

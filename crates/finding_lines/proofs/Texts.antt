@@ -2,15 +2,14 @@
 use Prim.Native.Nat.{ℕ, _+_, _-_, _^_, _≤_, _<_}
 use mathlib.Core.Path.{_≡_, refl, ap, sym, _∙_}
 use mathlib.Core.Bool.{Bool, true, false}
-use mathlib.Core.List.{List, [], _∷_, _++_, append-assoc, append-nil}
-use native.Mathlib.Omega.{arith}
+use mathlib.Core.List.{List, [], _∷_, _++_, append-assoc}
 use borrow.Author.Tests.{eq-eqb, ne-eqb}
 use lib.ListN.{length, take, drop}
 use Rattle.rules.specs.Basic.{pick, codes, tab, lf, comma, minus, isEmpty, joinBy, each, decimal, digits}
 use Rattle.rules.specs.Sheet.{escape, escapeChar, lineOf}
 use Rattle.rules.specs.Words as words
 use Rattle.rules.specs.Event as rules
-use Rattle.rules.specs.Finding.{diag, parsed, isError}
+use Rattle.rules.specs.Finding.{diag, isError}
 use Rattle.rules.specs.Page.{spanWord, severityWord, findingLine}
 use Rattle.rules.proofs.Numbers.{escape-decimal}
 use Rattle.rules.proofs.TakenLine.{escape-both}

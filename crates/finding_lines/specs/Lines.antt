@@ -1,12 +1,11 @@
 -- What the writers of findings leave in the output.
 use Prim.Native.Nat.{ℕ}
-use mathlib.Core.Path.{_≡_}
 use mathlib.Core.Bool.{Bool, true, false}
 use mathlib.Core.List.{List, [], _∷_, _++_}
-use Rattle.rules.specs.Basic.{pick, codes, lf, tab, comma, joinBy, each}
+use Rattle.rules.specs.Basic.{pick, codes, comma, joinBy, each}
 use Rattle.rules.specs.Words as words
 use Rattle.rules.specs.Event.{Span, Event, between, inside, parserEvent}
-use Rattle.rules.specs.Finding.{Finding, parsed}
+use Rattle.rules.specs.Finding.{parsed}
 use Rattle.rules.specs.Page.{tableLines, spanWord, findingLine}
 use Rattle.rules.specs.Answer.{eventsOr, readSheet}
 use Rattle.output.specs.Put.{Put}

@@ -2,10 +2,10 @@
 use Prim.Native.Nat.{ℕ, zero, suc, _+_, _-_, _*_, _%_, _≤_, _<_}
 use mathlib.Core.Path.{_≡_, refl, ap, sym, _∙_}
 use mathlib.Core.Bool.{Bool, true, false}
-use mathlib.Core.List.{List, [], _∷_}
+use mathlib.Core.List.{List, _∷_}
 use mathlib.Core.Option.{Option, none, some}
 use native.Mathlib.Omega.{arith}
-use borrow.Author.Tests.{eq-eqb, eqb-true, eqb-false}
+use borrow.Author.Tests.{eq-eqb, eqb-true}
 use lib.Dec.{eqb}
 use lib.ListN.{length, drop}
 use Rattle.rules.specs.Basic.{pick, eqList}

@@ -1,16 +1,14 @@
 -- The rows that the walk along a chain and the printing of the map read.
-use Prim.Native.Nat.{ℕ, zero, suc, _+_, _-_, _≤_, _<_}
+use Prim.Native.Nat.{ℕ, zero, suc, _-_, _≤_, _<_}
 use mathlib.Core.Path.{_≡_, refl, ap, sym, _∙_}
 use mathlib.Core.Bool.{Bool, true, false}
 use mathlib.Core.List.{List}
-use mathlib.Core.Option.{some}
 use native.Mathlib.Omega.{arith}
-use lib.ListN.{length, take, drop}
+use lib.ListN.{length}
 use Rattle.rules.specs.Basic.{eqList}
 use Rattle.content.specs.Contents.{keptIn}
-use Rattle.content.specs.Parts.{Field}
 use Rattle.meta_map.specs.declared.KeyRow.the-variants.{At, Nothing}
-use Rattle.meta_map.specs.Index.{cell, head, partAt, keyAt, hashOf, findIn, headIn, RowIn, Indexed, Hashed, rowAs, RowFound}
+use Rattle.meta_map.specs.Index.{cell, head, partAt, keyAt, headIn, RowIn, Indexed, Hashed, rowAs, RowFound}
 use Rattle.meta_map.proofs.Chains.{Seeking, seek-starts, seek-most, seek-gone, seek-hit, seek-on, next-less}
 
 nonzero : (p : ℕ) → (p ≡ 0 → ⊥) → p ≡ suc (p - 1)

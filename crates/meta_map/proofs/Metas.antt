@@ -1,17 +1,15 @@
 -- A `meta` line: whether it is heeded, its key and its value trimmed, and the row that it makes.
-use Prim.Native.Nat.{ℕ, zero, suc, _+_, _-_, _%_, _≤_, _<_}
+use Prim.Native.Nat.{ℕ, zero, suc, _+_, _-_, _%_, _≤_}
 use mathlib.Core.Path.{_≡_, refl, ap, sym, _∙_}
-use mathlib.Core.Bool.{Bool, true, false, _&&_, and-false}
+use mathlib.Core.Bool.{Bool, true, false, _&&_}
 use mathlib.Core.List.{List, [], _∷_, _++_}
-use mathlib.Core.Option.{Option, none, some}
 use native.Mathlib.Omega.{arith}
 use borrow.Author.Tests.{eq-eqb, ne-eqb}
 use lib.ListN.{length, take, drop, length-take, length-drop, length-append}
-use lib.Seq.{take-all, take-nil, take-take, drop-drop, take-at, drop-at, length-take-le}
+use lib.Seq.{take-nil, take-take, drop-drop, take-at, drop-at, length-take-le}
 use Rattle.rules.specs.Basic.{pick}
 use Rattle.rules.specs.Utf8.{chars}
 use Rattle.rules.specs.Text.{textTrimmed, textOuterTrimmed}
-use Rattle.rules.specs.Event.{Event}
 use Rattle.rules.specs.Event as rules
 use Rattle.rules.specs.Model.{MetaEntry}
 use Rattle.rules.specs.Modes as modes
@@ -20,13 +18,12 @@ use Rattle.rules.specs.Metadata.{insertMeta}
 use Rattle.rules.specs.Plain.{isModeKey}
 use Rattle.content.specs.Contents as contents
 use Rattle.content.specs.Contents.{keptIn}
-use Rattle.content.specs.Parts.{Field}
 use Rattle.content.proofs.Plains.{plain-unescape}
 use Rattle.content.proofs.Retains.{kept-trimmed}
-use Rattle.text.specs.Trims.{dropsOf, StartAt, EndAt, TrimmedTo}
+use Rattle.text.specs.Trims.{dropsOf, StartAt, EndAt}
 use Rattle.text.specs.declared.Dropped.the-variants.{White}
 use Rattle.text.proofs.Trims.{trimmed-front, trimmed-both, trimmed-white}
-use Rattle.parts.specs.Views.{partOf, bytesIn, contentIn, textIn, TextWithin}
+use Rattle.parts.specs.Views.{partOf, contentIn, textIn, TextWithin}
 use Rattle.parts.specs.declared.Part.{Part}
 use Rattle.parts.specs.declared.TextView.{TextView}
 use Rattle.events.specs.declared.Between.{Between}
@@ -44,7 +41,7 @@ use Rattle.config_keys.specs.declared.Key.the-variants.{Define, Duplicate, Unkn
 use Rattle.known_events.specs.Fields.{TextField, BetweenFields, EventFields}
 use Rattle.known_events.specs.Known.{KnownEvent}
 use Rattle.meta_map.specs.Index.{partAt, mapIn, RowIn, Indexed, Inserted}
-use Rattle.meta_map.specs.Maps.{mapKey, mapMeta, mapOn, TrimmedPart, HeededKey, MetaIndexed, EventIndexed, SheetIndexed, indexOf, WordsIndexed}
+use Rattle.meta_map.specs.Maps.{mapKey, mapMeta, mapOn, TrimmedPart, HeededKey, MetaIndexed, EventIndexed, SheetIndexed, WordsIndexed}
 
 -- ---- parts of parts
 

@@ -1,5 +1,5 @@
 -- The lines of the map.
-use Prim.Native.Nat.{ℕ, suc, _+_, _-_, _*_, _^_, _≤_, _<_}
+use Prim.Native.Nat.{ℕ, suc, _+_, _-_, _^_, _≤_, _<_}
 use mathlib.Core.Path.{_≡_, refl, ap, sym, _∙_}
 use mathlib.Core.List.{List, [], _∷_, _++_}
 use native.Mathlib.Omega.{arith}
@@ -9,7 +9,6 @@ use Rattle.rules.specs.Basic.{codes, tab, lf}
 use Rattle.rules.specs.Utf8.{encode}
 use Rattle.rules.specs.Sheet.{escape, escapeChar}
 use Rattle.rules.specs.Text.{retain}
-use Rattle.rules.specs.Model.{MetaEntry}
 use Rattle.rules.specs.Page.{tableLines, metaLine}
 use Rattle.output.specs.Put.{Put, tabbed}
 use Rattle.output.proofs.Puts.{put-seq, put-past, put-rest, rest-fits}
@@ -18,8 +17,8 @@ use Rattle.content.specs.Contents.{contentIn, keptIn}
 use Rattle.content.specs.Parts.{Field}
 use Rattle.content.proofs.Spells.{field-spell}
 use Rattle.text.proofs.Writes.{kept-spelled}
-use Rattle.finding_lines.proofs.Tables.{table-more, table-none}
-use Rattle.meta_map.specs.Index.{cell, partAt, keyAt, valueAt, mapIn, Indexed, MetaPut, MetasPut}
+use Rattle.page_fields.proofs.Tables.{lines-none, lines-more}
+use Rattle.meta_map.specs.Index.{cell, partAt, keyAt, valueAt, mapIn, MetaPut, MetasPut}
 
 -- ---- fields
 
@@ -54,7 +53,7 @@ pub record Printing (sheet m : List ℕ) (n : ℕ) (o₀ : List ℕ) (at : ℕ) 
 
 pub print-starts : {sheet m o : List ℕ} {n at c : ℕ} → Put [] o at o c → Printing sheet m n o at o c 0
 unfolding mapIn
-print-starts p = record { most = omega arith; put = text-is _ (table-none metaLine) p }
+print-starts p = record { most = omega arith; put = text-is _ (lines-none metaLine) p }
 
 map-more : (sheet m : List ℕ) (i : ℕ) → mapIn sheet m (suc i) ≡ record { key = keptIn (partAt sheet (cell m i 0) (cell m i 1)); value = contentIn (partAt sheet (cell m i 2) (cell m i 3)) } ∷ mapIn sheet m i
 unfolding mapIn keyAt valueAt
@@ -68,7 +67,7 @@ module _ {sheet m : List ℕ} {n : ℕ} {o₀ : List ℕ} {at : ℕ} {o : List �
         most = omega arith;
         put =
             rw add-one
-            (text-is _ (ap (tableLines metaLine) (map-more sheet m i) ∙ table-more metaLine _ (mapIn sheet m i)) (put-seq (v .put) q));
+            (text-is _ (ap (tableLines metaLine) (map-more sheet m i) ∙ lines-more metaLine _ (mapIn sheet m i)) (put-seq (v .put) q));
       }
 
   pub print-ends : n ≤ i → MetasPut sheet m n o₀ at o c

@@ -3,22 +3,20 @@ use Prim.Native.Nat.{ℕ, zero, suc, _+_, _-_, _*_, _≤_, _<_}
 use mathlib.Core.Path.{_≡_, refl, ap, sym, _∙_}
 use mathlib.Core.Bool.{Bool, true, false, _||_}
 use mathlib.Core.List.{List, [], _∷_}
-use mathlib.Core.Option.{Option, none, some}
+use mathlib.Core.Option.{none, some}
 use native.Mathlib.Omega.{arith}
 use native.Mathlib.Numerals.{add-one}
-use borrow.Author.Tests.{eq-eqb, ne-eqb, eqb-true, eqb-false}
-use borrow.Rule.Slice.PartMut.{midOf}
+use borrow.Author.Tests.{eqb-true, eqb-false}
 use lib.Dec.{eqb}
-use lib.ListN.{length, getD, take, drop, set, length-set}
+use lib.ListN.{length, getD, set, length-set}
 use lib.Seq.{sets, length-sets, getD-set-same, getD-set-other}
 use Rattle.rules.specs.Basic.{pick, eqList, any, each, isSome}
 use Rattle.rules.specs.Model.{MetaEntry}
 use Rattle.rules.specs.Metadata.{hasKey, withValue, insertMeta}
-use Rattle.rules.proofs.Basics.{by-order, no-truth, no-some, some-inj}
+use Rattle.rules.proofs.Basics.{by-order, no-some, some-inj}
 use Rattle.rules.proofs.SameChars.{eq-true}
 use Rattle.model.proofs.Stores.{getD-sets-other, getD-mid, mid-stored}
 use Rattle.content.specs.Contents.{contentIn, keptIn}
-use Rattle.content.specs.Parts.{Field}
 use Rattle.meta_map.specs.declared.KeyRow.{KeyRow}
 use Rattle.meta_map.specs.declared.KeyRow.the-variants.{At, Nothing}
 use Rattle.meta_map.specs.Index.{cell, head, partAt, keyAt, valueAt, mapIn, hashOf, findIn, headIn, RowIn, Indexed, Hashed, rowAs, RowFound, ValueSet, KeyPushed, Inserted, Cleared}

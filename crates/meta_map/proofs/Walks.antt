@@ -1,15 +1,15 @@
 -- The map of the pass depends on the `meta` lines alone; the walk over a sheet's lines that makes the same map.
-use Prim.Native.Nat.{ℕ, zero, suc, _+_, _-_, _≤_, _<_}
+use Prim.Native.Nat.{ℕ, suc, _+_, _-_, _≤_, _<_}
 use mathlib.Core.Path.{_≡_, refl, ap, sym, _∙_}
-use mathlib.Core.Bool.{Bool, true, false}
-use mathlib.Core.List.{List, [], _∷_, _++_}
+use mathlib.Core.Bool.{true}
+use mathlib.Core.List.{List, [], _∷_}
 use mathlib.Core.Option.{Option, none, some}
 use native.Mathlib.Omega.{arith}
 use native.Mathlib.Numerals.{add-one}
 use borrow.Author.Tests.{ltb-false}
 use lib.Dec.{ltb}
-use lib.ListN.{length, take, drop, drop-of-length-le}
-use Rattle.rules.specs.Basic.{pick, lf, isSome, isEmpty, all}
+use lib.ListN.{length, take, drop}
+use Rattle.rules.specs.Basic.{lf, isSome, all}
 use Rattle.rules.specs.Sheet.{Lines, lines}
 use Rattle.rules.specs.Words.{defineKey, duplicateKey, DefineMode, DuplicateMode}
 use Rattle.rules.specs.Event.{Text, Between, metaEvent, sectionEvent, startEvent, Event, between, inside, parserEvent, spansOf}
@@ -19,7 +19,7 @@ use Rattle.rules.specs.Model.{MetaEntry}
 use Rattle.rules.specs.Modes.{Key, config, unknownConfig, ordinary}
 use Rattle.rules.specs.State.{State, firstState, setModes, setMetadata, report, Step, next, going}
 use Rattle.rules.specs.Metadata.{storeMeta, onDefine, onDuplicate, onKey, onMetadata}
-use Rattle.rules.specs.Pass.{isOpen, onInside, onBetween, onEvent, walk}
+use Rattle.rules.specs.Pass.{isOpen, onBetween, onEvent, walk}
 use Rattle.rules.specs.Page.{tableLines, metaLine}
 use Rattle.rules.specs.Answer.{Reading, events, unread, eventsOr, withEvent, isGoodSpan, readLine, readFrom, readSheet}
 use Rattle.rules.proofs.Basics.{pick-either, some-inj}

@@ -15,7 +15,7 @@ use Rattle.parts.specs.declared.Part.{Part}
 use Rattle.parts.specs.declared.TextView.{TextView}
 use Rattle.events.specs.Views.{eventIn}
 use Rattle.events.specs.declared.EventView.{EventView}
-use Rattle.rules.specs.Event.{Text, Between, metaEvent, sectionEvent, startEvent, Event, between, inside, parserEvent}
+use Rattle.rules.specs.Event.{Text, metaEvent, sectionEvent, startEvent, Event, between, inside, parserEvent}
 use Rattle.rules.specs.Model.{MetaEntry}
 use Rattle.rules.specs.Modes.{Key, config, unknownConfig, ordinary, hasModes, keyOf, keyText, valueText}
 use Rattle.rules.specs.Metadata.{insertMeta}

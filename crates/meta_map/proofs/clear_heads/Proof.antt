@@ -1,7 +1,7 @@
 use borrow.Author.Needs.{needs}
 use native.Mathlib.Omega.{arith}
 use Prim.Native.Nat.{_-_}
-use Rattle.meta_map.proofs.Stored.{Clearing, clear-starts, clear-on, clear-ends}
+use Rattle.meta_map.proofs.Stored.{Clearing, clear-on, clear-ends}
 use Rattle.meta_map.proofs.clear_heads.Statement.{statement}
 use Rattle.meta_map.proofs.clear_heads.Tie as tie
 use Rattle.meta_map.proofs.clear_heads.Reads as reads

@@ -2,7 +2,7 @@ use borrow.Author.Needs.{needs}
 use native.Mathlib.Omega.{arith}
 use Prim.Native.Nat.{_-_}
 use lib.ListN.{length}
-use Rattle.meta_map.proofs.Chains.{Hashing, hash-starts, hash-on, hash-ends}
+use Rattle.meta_map.proofs.Chains.{Hashing, hash-on, hash-ends}
 use Rattle.meta_map.proofs.hash_of.Statement.{statement}
 use Rattle.meta_map.proofs.hash_of.Tie as tie
 use Rattle.meta_map.proofs.hash_of.Reads as reads
