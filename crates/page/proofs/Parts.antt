@@ -12,7 +12,7 @@ use Rattle.rules.specs.State.{State, Tables, Metadata, tableOf}
 use Rattle.rules.specs.Pass.{isOpen, ended}
 use Rattle.rules.specs.Page.{tableLines, metaLine, ingredientLine, cookwareLine, timerLine, inlineLine, findingLine, recipePart, recipePage}
 use Rattle.finding_lines.specs.Lines.{oldOpen, oldClose}
-use Rattle.finding_lines.proofs.Tables.{table-none}
+use Rattle.page_fields.proofs.Tables.{lines-none}
 use Rattle.model.specs.Blank.{blankSpan, blankTimer, blankInline, blankMetadata, blankTables, blank}
 use Rattle.model.specs.Memory.{stateOf, stateIn}
 use Rattle.model.specs.declared.Held.{Held}
@@ -70,11 +70,11 @@ module _ (sheet w : List ℕ) (h : Held) (st : State) (m : stateIn sheet w h ≡
   -- where none is counted none is drawn
   pub timers-none : h .counts .timers ≡ 0 → drawn Timers st ≡ []
   unfolding drawn
-  timers-none e = ap (tableLines timerLine) (none-left (st .tables .timers) (count-timers ∙ e)) ∙ table-none timerLine
+  timers-none e = ap (tableLines timerLine) (none-left (st .tables .timers) (count-timers ∙ e)) ∙ lines-none timerLine
 
   pub inline-none : h .counts .inline ≡ 0 → drawn Inline st ≡ []
   unfolding drawn
-  inline-none e = ap (tableLines inlineLine) (none-left (st .tables .inline) (count-inline ∙ e)) ∙ table-none inlineLine
+  inline-none e = ap (tableLines inlineLine) (none-left (st .tables .inline) (count-inline ∙ e)) ∙ lines-none inlineLine
 
   -- ---- the parts of the page at the end
 
