@@ -145,11 +145,17 @@ pub fn text_line(
 {
     let b = f.block;
     match b {
-        Open::Nothing => TextItems { count: 0, inline: 0 },
+        Open::Nothing => TextItems {
+            count: 0,
+            inline: 0,
+        },
         Open::Step => {
             let define = f.define;
             if blocks::is_components(define) {
-                return TextItems { count: 0, inline: 0 };
+                return TextItems {
+                    count: 0,
+                    inline: 0,
+                };
             }
             let first = f.inline;
             step_lines::text_items(t, units, flags, rest, line, body, first)
