@@ -31,7 +31,7 @@ use Rattle.following.specs.declared.Part.{Part}
 use Rattle.following.specs.declared.Part.the-variants.{Sections, Timers, Inline, Old}
 use Rattle.following.specs.Drawn.{drawn}
 use Rattle.following.proofs.Walking.{Accepted, accepted}
-use Rattle.page_parts.specs.Drawing.{PartDrawn}
+use Rattle.page_walk.specs.Walk.{PassInputs, PartDrawn}
 use Rattle.page.specs.Pages.{RecipeGiven, RecipePut, FailedPut}
 use Rattle.page.specs.Parts.{headLine, metasOf, sectionsOf, tablesOf, findingsOf, oldOf, PartPut, DrawnPut, OldPut}
 use Rattle.page.proofs.Parts.{page-parts, metas-end, shown-end, tables-end, held-end, timers-none, inline-none, count-old, old-none, old-some}
@@ -69,8 +69,18 @@ module _ {t sheet text units : List ℕ} {flags : ℕ} {w : List ℕ} {h : Held}
   pub entries-given : (t ≡ unicodeTables) × Sound w h × AllFit sheet w h
   entries-given = (g .tables, g .ran .kept .sound, g .ran .kept .fit)
 
-  pub draw-given : (t ≡ unicodeTables) × (isUtf8 text ≡ true) × (isSome (readUnits units) ≡ true) × (length sheet ≤ 65536) × (readSheet text sheet ≡ events (eventsOr (readSheet text sheet)))
-  draw-given = (g .tables, g .inputs .text-utf8, g .inputs .units-some, g .inputs .sheet-short, g .inputs .sheet-read)
+  pub draw-given : (t ≡ unicodeTables) × PassInputs sheet text units flags
+  draw-given = (
+    g .tables,
+    record {
+      text-utf8 = g .inputs .text-utf8;
+      units-some = g .inputs .units-some;
+      sheet-short = g .inputs .sheet-short;
+      sheet-read = g .inputs .sheet-read;
+      final = g .ran .state;
+      goes = g .ran .walked;
+    },
+  )
 
   -- no block is open at the end
   shut : isOpen (g .ran .state .place .block) ≡ false
@@ -106,15 +116,15 @@ module _ {p : Part} {n : ℕ} {sheet text units : List ℕ} {flags : ℕ} {o₀ 
   pub drawn-none : n ≡ 0 → Put [] o₀ at o r → DrawnPut p n sheet text units flags o₀ at o r
   drawn-none e q = record { is = λ st z f. text-is _ (f e) q }
 
-  pub drawn-some : PartDrawn p text (unitsOr (readUnits units)) flags sheet o₀ at o r → DrawnPut p n sheet text units flags o₀ at o r
-  drawn-some q = record { is = λ st z f. q .is st z }
+  pub drawn-some : PartDrawn sheet text units flags p o₀ at o r → DrawnPut p n sheet text units flags o₀ at o r
+  drawn-some q = record { is = λ st z f. q .put st z }
 
 module _ {n : ℕ} {sheet text units : List ℕ} {flags : ℕ} {o₀ o : List ℕ} {at r : ℕ} where
   pub old-absent : n ≡ 0 → Put [] o₀ at o r → OldPut n sheet text units flags o₀ at o r
   old-absent e q = record { is = λ st z l. text-is _ (old-none st (l ∙ e)) q }
 
-  pub old-put : {o₁ o₂ : List ℕ} {a b : ℕ} → (n ≡ 0 → ⊥) → Put oldOpen o₀ at o₁ a → PartDrawn Old text (unitsOr (readUnits units)) flags sheet o₁ a o₂ b → Put oldClose o₂ b o r → OldPut n sheet text units flags o₀ at o r
-  old-put e p q s = record { is = λ st z l. text-is _ (old-some st (λ k. e (sym l ∙ k))) (put-seq p (put-seq (q .is st z) s)) }
+  pub old-put : {o₁ o₂ : List ℕ} {a b : ℕ} → (n ≡ 0 → ⊥) → Put oldOpen o₀ at o₁ a → PartDrawn sheet text units flags Old o₁ a o₂ b → Put oldClose o₂ b o r → OldPut n sheet text units flags o₀ at o r
+  old-put e p q s = record { is = λ st z l. text-is _ (old-some st (λ k. e (sym l ∙ k))) (put-seq p (put-seq (q .put st z) s)) }
 
 -- ---- the page
 
@@ -123,14 +133,14 @@ module _ {t sheet text units : List ℕ} {flags : ℕ} {w₀ w : List ℕ} {h : 
   metas-given = (let k = index-given g .2 in omega (arith, x .long), x .index .indexed)
 
   pub page-put : {o₀ o₁ o₂ o₃ o₄ o : List ℕ} {a b c d r : ℕ} → Put (headLine true) o₀ 0 o₁ a → MetasPut sheet (indexOf w) n o₁ a o₂ b
-      → PartDrawn Sections text (unitsOr (readUnits units)) flags sheet o₂ b o₃ c → PartPut tablesOf sheet text units flags o₃ c o₄ d → PartPut findingsOf sheet text units flags o₄ d o r
+      → PartDrawn sheet text units flags Sections o₂ b o₃ c → PartPut tablesOf sheet text units flags o₃ c o₄ d → PartPut findingsOf sheet text units flags o₄ d o r
       → RecipePut sheet text units flags o₀ o r
   page-put p m s u f =
       let y = g .ran .state in
       let q = part-put g {part = recipePage}
-          (text-is _ (page-parts (ended y))
-          (put-seq p
-          (put-seq (text-is _ (metas-end y) (metas-page (unitsOr (readUnits units)) y (g .ran .walked) (x .index) m))
-          (put-seq (text-is _ (shown-end y (shut g)) (s .is y (g .ran .walked)))
-          (put-seq (u .is (ended y) (g .ran .is)) (f .is (ended y) (g .ran .is))))))) in
+      (text-is _ (page-parts (ended y))
+      (put-seq p
+      (put-seq (text-is _ (metas-end y) (metas-page (unitsOr (readUnits units)) y (g .ran .walked) (x .index) m))
+      (put-seq (text-is _ (shown-end y (shut g)) (s .put y (g .ran .walked)))
+      (put-seq (u .is (ended y) (g .ran .is)) (f .is (ended y) (g .ran .is))))))) in
       record { is = q .is }

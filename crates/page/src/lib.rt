@@ -1,12 +1,11 @@
 // The page of a recipe, and the page of a sheet with an `error` line, at the front of the output. Both answer the page's
 // length, or one more than the output's where the page does not fit.
 ghost use mathlib.Core.Path.{_≡_};
-ghost use mathlib.Core.List.{[], _∷_};
-ghost use Rattle.rules.specs.Basic.{pick, codes};
-ghost use Rattle.rules.specs.Sheet.{lineOf};
 ghost use Rattle.rules.specs.Answer.{events, eventsOr, readSheet};
+ghost use Rattle.unicode.specs.Tables.{unicodeTables};
 ghost use Rattle.output.specs.Put.{Put};
 ghost use Rattle.finding_lines.specs.Lines.{oldOpen, oldClose};
+ghost use Rattle.page_walk.specs.Walk.{PassInputs};
 ghost use Rattle.page.specs.Pages.{RecipeGiven, RecipePut, FailedPut};
 ghost use Rattle.page.specs.Parts.{headLine, PartPut, tablesOf, findingsOf, DrawnPut, OldPut};
 use following::Part;
@@ -33,18 +32,16 @@ fn put_drawn(
     text: &[u8],
     units: &[u8],
     flags: u32,
-    words: &[u32],
-    h: Held,
     out: &mut [u8],
     at: usize,
 ) -> usize
-    requires { ⌜ RecipeGiven (now t) (now sheet) (now text) (now units) flags (now words) h ⌝ }
+    requires { ⌜ (now t ≡ unicodeTables) × PassInputs (now sheet) (now text) (now units) flags ⌝ }
     ensures { λ r. ⌜ DrawnPut p n (now (sheet .entry)) (now (text .entry)) (now (units .entry)) flags (now (out .entry)) at (now (out .exit)) r ⌝ }
 {
     if n == 0 {
         return finding_lines::begin(out, at);
     }
-    page_parts::draw_part(p, t, sheet, text, units, flags, out, at)
+    page_walk::draw_part(p, t, sheet, text, units, flags, out, at)
 }
 
 // The lines of ingredients, cookware, timers and inline quantities.
@@ -66,8 +63,8 @@ fn put_tables(
     let inline = h.counts.inline;
     let a = entry_lines::ingredient_lines(t, sheet, words, h, out, at);
     let b = entry_lines::cookware_lines(t, sheet, words, h, out, a);
-    let c = put_drawn(Part::Timers, timers, t, sheet, text, units, flags, words, h, out, b);
-    put_drawn(Part::Inline, inline, t, sheet, text, units, flags, words, h, out, c)
+    let c = put_drawn(Part::Timers, timers, t, sheet, text, units, flags, out, b);
+    put_drawn(Part::Inline, inline, t, sheet, text, units, flags, out, c)
 }
 
 // ---- findings
@@ -98,19 +95,17 @@ fn put_old(
     text: &[u8],
     units: &[u8],
     flags: u32,
-    words: &[u32],
-    h: Held,
     out: &mut [u8],
     at: usize,
 ) -> usize
-    requires { ⌜ RecipeGiven (now t) (now sheet) (now text) (now units) flags (now words) h ⌝ }
+    requires { ⌜ (now t ≡ unicodeTables) × PassInputs (now sheet) (now text) (now units) flags ⌝ }
     ensures { λ r. ⌜ OldPut n (now (sheet .entry)) (now (text .entry)) (now (units .entry)) flags (now (out .entry)) at (now (out .exit)) r ⌝ }
 {
     if n == 0 {
         return finding_lines::begin(out, at);
     }
     let a = put_old_open(out, at);
-    let b = page_parts::draw_part(Part::Old, t, sheet, text, units, flags, out, a);
+    let b = page_walk::draw_part(Part::Old, t, sheet, text, units, flags, out, a);
     put_old_close(out, b)
 }
 
@@ -131,7 +126,7 @@ fn put_findings(
 {
     let old = h.counts.old;
     let a = finding_lines::finding_lines(words, h, out, at);
-    put_old(old, t, sheet, text, units, flags, words, h, out, a)
+    put_old(old, t, sheet, text, units, flags, out, a)
 }
 
 // ---- pages
@@ -153,7 +148,7 @@ pub fn recipe_page(
     let n = meta_map::index_metadata(t, flags, sheet, text, words);
     let a = head_line(out, true);
     let b = meta_map::meta_lines(sheet, words, n, out, a);
-    let c = page_parts::draw_part(Part::Sections, t, sheet, text, units, flags, out, b);
+    let c = page_walk::draw_part(Part::Sections, t, sheet, text, units, flags, out, b);
     let d = put_tables(t, sheet, text, units, flags, words, h, out, c);
     put_findings(t, sheet, text, units, flags, words, h, out, d)
 }

@@ -35,7 +35,7 @@ old-open-requires c κs = search needs
 
 -- src/lib.rt:81:5
 add-result-2 : tie.Need-add-result-2
-add-result-2 c = 
+add-result-2 c =
     let b : length (c .before .before .before .before .before .before .args .out .now) + 1 < 2 ^ 64 = omega arith in
     record { fits = rest-fits (c .before .before .before .before .before .before .args .out .now) _ b (c .before .before .before .before .if1 .left) (c .before .before .old-open .ensures) }
 

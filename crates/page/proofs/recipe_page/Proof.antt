@@ -11,7 +11,7 @@ use Rattle.meta_map.proofs.meta_lines.Reads as meta-lines-reads
 use Rattle.page.proofs.head_line.Reads as head-line-reads
 use Rattle.page.proofs.put_findings.Reads as put-findings-reads
 use Rattle.page.proofs.put_tables.Reads as put-tables-reads
-use Rattle.page_parts.proofs.draw_part.Reads as draw-part-reads
+use Rattle.page_walk.proofs.draw_part.Reads as draw-part-reads
 
 -- src/lib.rt:153:9
 index-metadata-requires : tie.Need-index-metadata-requires
@@ -27,7 +27,7 @@ meta-lines-requires c κs = metas-given (c .before .before .before .before .befo
 
 -- src/lib.rt:156:9
 draw-part-requires : tie.Need-draw-part-requires
-draw-part-requires c κs = search needs
+draw-part-requires c κs = draw-given (c .before .before .before .before .before .before .before .before .before .before .before .before .before .before .before .before .before .before .before .before .pre)
 
 -- src/lib.rt:157:9
 put-tables-requires : tie.Need-put-tables-requires
@@ -47,7 +47,7 @@ same-length-2 c = search needs
 
 -- src/lib.rt:140:1
 returns : tie.Need-returns
-returns c = 
+returns c =
     page-put (c .before .before .before .before .before .before .before .before .before .before .before .before .before .before .before .before .before .before .before .before .before .before .before .before .before .before .before .before .before .before .before .before .before .pre) (c .before .before .before .before .before .before .before .before .before .before .before .before .before .before .before .before .before .before .before .before .before .before .before .before .before .index-metadata .ensures) (c .before .before .before .before .before .before .before .before .before .before .before .before .before .before .before .before .before .before .before .before .before .head-line .ensures) (c .before .before .before .before .before .before .before .before .before .before .before .before .before .before .before .before .meta-lines .ensures)
     (c .before .before .before .before .before .before .before .before .before .before .before .before .draw-part .ensures) (c .before .before .before .before .before .before .before .put-tables .ensures) (c .before .before .put-findings .ensures)
 
