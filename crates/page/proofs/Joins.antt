@@ -1,19 +1,17 @@
 -- The writers of a page follow one another.
 use Prim.Native.Nat.{ℕ, _≤_}
-use mathlib.Core.Path.{_≡_, refl, ap, sym, _∙_, subst}
+use mathlib.Core.Path.{_≡_, ap, sym, _∙_, subst}
 use mathlib.Core.Bool.{Bool, true, false}
-use mathlib.Core.List.{List, [], _∷_, _++_}
+use mathlib.Core.List.{List, []}
 use native.Mathlib.Omega.{arith}
 use lib.ListN.{length}
-use Rattle.rules.specs.Basic.{pick, codes, isSome, joinBy, each}
+use Rattle.rules.specs.Basic.{codes, joinBy, each}
 use Rattle.rules.specs.Sheet.{escape, escapeChar, lineOf}
-use Rattle.rules.specs.Utf8.{isUtf8}
-use Rattle.rules.specs.Units.{NamedUnit, readUnits}
-use Rattle.rules.specs.Finding.{Finding}
+use Rattle.rules.specs.Units.{readUnits}
 use Rattle.rules.specs.Model.{ingredient, cookware}
-use Rattle.rules.specs.State.{State, tableOf, firstState, Outcome, recipe, going}
-use Rattle.rules.specs.Pass.{isOpen, ended, walk, parseEvents}
-use Rattle.rules.specs.Page.{tableLines, metaLine, ingredientLine, cookwareLine, findingLine, recipePage, failedPage}
+use Rattle.rules.specs.State.{State, tableOf, recipe, going}
+use Rattle.rules.specs.Pass.{isOpen, ended}
+use Rattle.rules.specs.Page.{tableLines, ingredientLine, cookwareLine, recipePage, failedPage}
 use Rattle.rules.specs.Answer.{wordsNeeded, events, readSheet, eventsOr, unitsOr}
 use Rattle.unicode.specs.Tables.{unicodeTables}
 use Rattle.output.specs.Put.{Put}
@@ -29,11 +27,10 @@ use Rattle.meta_map.specs.Maps.{indexOf, WordsIndexed}
 use Rattle.meta_map.proofs.Walks.{metas-page}
 use Rattle.following.specs.declared.Part.{Part}
 use Rattle.following.specs.declared.Part.the-variants.{Sections, Timers, Inline, Old}
-use Rattle.following.specs.Drawn.{drawn}
-use Rattle.following.proofs.Walking.{Accepted, accepted}
+use Rattle.following.proofs.Walking.{accepted}
 use Rattle.page_walk.specs.Walk.{PassInputs, PartDrawn}
 use Rattle.page.specs.Pages.{RecipeGiven, RecipePut, FailedPut}
-use Rattle.page.specs.Parts.{headLine, metasOf, sectionsOf, tablesOf, findingsOf, oldOf, PartPut, DrawnPut, OldPut}
+use Rattle.page.specs.Parts.{headLine, tablesOf, findingsOf, PartPut, DrawnPut, OldPut}
 use Rattle.page.proofs.Parts.{page-parts, metas-end, shown-end, tables-end, held-end, timers-none, inline-none, count-old, old-none, old-some}
 
 -- ---- the first line

@@ -1,14 +1,14 @@
 -- The page of a recipe part by part, in the words of its writers: from work memory, and from the state before the end.
-use Prim.Native.Nat.{ℕ, zero, suc}
+use Prim.Native.Nat.{ℕ}
 use mathlib.Core.Path.{_≡_, refl, ap, sym, _∙_}
-use mathlib.Core.Bool.{Bool, true, false}
+use mathlib.Core.Bool.{true, false}
 use mathlib.Core.List.{List, [], _∷_, _++_, append-nil, append-assoc}
 use native.Mathlib.Omega.{arith}
 use lib.ListN.{length, length-replicate}
-use Rattle.rules.specs.Basic.{pick, codes, concat, isEmpty}
+use Rattle.rules.specs.Basic.{pick, concat, isEmpty}
 use Rattle.rules.specs.Event.{Span}
 use Rattle.rules.specs.Model.{ingredient, cookware}
-use Rattle.rules.specs.State.{State, Tables, Metadata, tableOf}
+use Rattle.rules.specs.State.{State, Metadata, tableOf}
 use Rattle.rules.specs.Pass.{isOpen, ended}
 use Rattle.rules.specs.Page.{tableLines, metaLine, ingredientLine, cookwareLine, timerLine, inlineLine, findingLine, recipePart, recipePage}
 use Rattle.finding_lines.specs.Lines.{oldOpen, oldClose}
@@ -18,7 +18,7 @@ use Rattle.model.specs.Memory.{stateOf, stateIn}
 use Rattle.model.specs.declared.Held.{Held}
 use Rattle.following.specs.declared.Part.the-variants.{Sections, Timers, Inline, Old}
 use Rattle.following.specs.Drawn.{drawn, oldLine}
-use Rattle.following.proofs.Laws.{sections-end, timers-end, inline-end, findings-end, ended-tables, ended-metadata}
+use Rattle.following.proofs.Laws.{sections-end, findings-end, ended-tables, ended-metadata}
 use Rattle.page.specs.Parts.{headLine, metasOf, sectionsOf, tablesOf, findingsOf, oldOf}
 
 -- ---- the page

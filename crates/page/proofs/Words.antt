@@ -1,15 +1,15 @@
 -- The index of metadata stands behind all that the pass left in work memory.
 use Prim.Native.Nat.{ℕ, _+_, _≤_}
-use mathlib.Core.Path.{_≡_, refl, ap, sym, _∙_, subst}
-use mathlib.Core.List.{List, [], _∷_, _++_}
+use mathlib.Core.Path.{_≡_, ap, sym, _∙_, subst}
+use mathlib.Core.List.{List}
 use native.Mathlib.Omega.{arith}
-use lib.ListN.{length, take, drop, take-append-drop, length-take, length-drop}
+use lib.ListN.{length, take, drop, take-append-drop, length-drop}
 use lib.Seq.{take-append-le, drop-append-le, length-take-le}
-use Rattle.rules.specs.Units.{NamedUnit, readUnits}
+use Rattle.rules.specs.Units.{NamedUnit}
 use Rattle.rules.specs.Event.{Event}
-use Rattle.rules.specs.Model.{Kind, ingredient, cookware}
+use Rattle.rules.specs.Model.{ingredient, cookware}
 use Rattle.rules.specs.State.{State, tableOf, overLimits}
-use Rattle.rules.specs.Answer.{bytesNeeded, readSheet, eventsOr, unitsOr}
+use Rattle.rules.specs.Answer.{bytesNeeded}
 use Rattle.rules.proofs.Chained as chained
 use Rattle.inputs.specs.Inputs.{GoodInputs}
 use Rattle.model.specs.Memory.{Windows, windowsOf, stateOf, stateIn, Below, Sound}

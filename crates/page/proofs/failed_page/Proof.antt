@@ -1,5 +1,4 @@
 use borrow.Author.Needs.{needs}
-use native.Mathlib.Omega.{arith}
 use Rattle.page.proofs.Joins.{failed-put}
 use Rattle.page.proofs.failed_page.Statement.{statement}
 use Rattle.page.proofs.failed_page.Tie as tie

@@ -1,5 +1,4 @@
 use borrow.Author.Needs.{needs}
-use native.Mathlib.Omega.{arith}
 use Rattle.page.proofs.Joins.{head-yes, head-no}
 use Rattle.page.proofs.head_line.Statement.{statement}
 use Rattle.page.proofs.head_line.Tie as tie

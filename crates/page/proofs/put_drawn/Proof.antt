@@ -1,5 +1,4 @@
 use borrow.Author.Needs.{needs}
-use native.Mathlib.Omega.{arith}
 use Rattle.page.proofs.Joins.{drawn-none, drawn-some}
 use Rattle.page.proofs.put_drawn.Statement.{statement}
 use Rattle.page.proofs.put_drawn.Tie as tie

@@ -1,5 +1,4 @@
 use borrow.Author.Needs.{needs}
-use native.Mathlib.Omega.{arith}
 use Rattle.page.proofs.Joins.{draw-given, findings-put}
 use Rattle.page.proofs.put_findings.Statement.{statement}
 use Rattle.page.proofs.put_findings.Tie as tie

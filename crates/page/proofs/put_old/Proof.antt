@@ -1,5 +1,4 @@
 use borrow.Author.Needs.{needs}
-use native.Mathlib.Omega.{arith}
 use Rattle.page.proofs.Joins.{old-absent, old-put}
 use Rattle.page.proofs.put_old.Statement.{statement}
 use Rattle.page.proofs.put_old.Tie as tie

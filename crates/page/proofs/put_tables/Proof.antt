@@ -1,5 +1,4 @@
 use borrow.Author.Needs.{needs}
-use native.Mathlib.Omega.{arith}
 use Rattle.page.proofs.Joins.{draw-given, entries-given, tables-put}
 use Rattle.page.proofs.put_tables.Statement.{statement}
 use Rattle.page.proofs.put_tables.Tie as tie

@@ -1,5 +1,4 @@
 use borrow.Author.Needs.{needs}
-use native.Mathlib.Omega.{arith}
 use Rattle.page.proofs.Joins.{index-given, metas-given, draw-given, page-put}
 use Rattle.page.proofs.Words.{given-indexed}
 use Rattle.page.proofs.recipe_page.Statement.{statement}
