@@ -12,7 +12,7 @@ use following::Part;
 use model::Held;
 
 // `recipe`, `yes` or `no`.
-pub fn head_line(rest: &mut [u8], made: bool) -> usize
+fn head_line(rest: &mut [u8], made: bool) -> usize
     ensures { λ r. ⌜ Put (headLine made) (now (rest .entry)) 0 (now (rest .exit)) r ⌝ }
 {
     if made {
