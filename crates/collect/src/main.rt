@@ -1,6 +1,6 @@
 // Reads `recipe.cook`, `units.tsv`, `flags` and `events.tsv` in the folder that it runs in, and prints the recipe page or the line
 // of a refusal. A file that cannot be read is named on standard error, and nothing is printed. The output that it lends
-// has 1,048,576 bytes; a longer page is refused with 20.
+// has 1,048,576 bytes (1 MiB); a longer page is refused with 20.
 use libc::STDOUT_FILENO;
 ghost use Prim.Native.Nat.{_≤_};
 ghost use mathlib.Core.Path.{_≡_};
@@ -62,7 +62,9 @@ fn print_page(sheet: &[u8], text: &[u8], units: &[u8], flags: u32) {
     let mut bytes = text_room();
     let mut out = out_room();
     let n = answer(sheet, text, units, flags, &mut words, &mut bytes, &mut out);
-    io::write_all(STDOUT_FILENO, &out[..n]);
+    if !io::write_all(STDOUT_FILENO, &out[..n]) {
+        os::fail(b"standard output");
+    }
 }
 
 enum Got {

@@ -42,13 +42,12 @@ module _ {sheet text units : List ℕ} {flags : ℕ} (m : Lent) {a : Inputs} (p 
 module _ {t sheet text units : List ℕ} {flags : ℕ} {m : Lent} (g : Given t sheet text units flags m) where
   pub run-given : walks.Lent t units × (length sheet ≤ 65536) × (24157 ≤ m .words) × (readSheet text sheet ≡ events (eventsOr (readSheet text sheet)))
   unfolding wordsNeeded
-  run-given =
-      (
-        record { tables = g .tables; units = g .inputs .units-some },
-        g .inputs .sheet-short,
-        omega (arith, g .inputs .words-enough),
-        g .inputs .sheet-read,
-      )
+  run-given = (
+    record { tables = g .tables; units = g .inputs .units-some },
+    g .inputs .sheet-short,
+    omega (arith, g .inputs .words-enough),
+    g .inputs .sheet-read,
+  )
 
   -- as many bytes as are needed serve as well as more
   good-fewer : {n : ℕ} → n ≡ m .words → GoodInputs sheet text units flags n bytesNeeded

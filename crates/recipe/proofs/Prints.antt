@@ -35,8 +35,7 @@ unfolding refusedLine tabbed escape escapeChar
 refused-short n l =
     let a : List ℕ = tab ∷ (decimal l ++ []) in
     rw (line-tabbed (codes "refused") (decimal n ∷ decimal l ∷ []), escape-decimal n, escape-decimal l)
-    (omega
-    (
+    (omega (
       arith,
       decimal-short n,
       decimal-short l,
