@@ -1,12 +1,11 @@
 -- The answer once memory is cleared, and as one number.
 use Prim.Native.Nat.{ℕ, _+_, _-_, _*_, _≤_}
 use mathlib.Core.Path.{_≡_, refl, ap, sym, _∙_}
-use mathlib.Core.List.{List, [], _∷_, _++_}
+use mathlib.Core.List.{List, _++_}
 use native.Mathlib.Omega.{arith}
 use lib.ListN.{length, take, replicate, length-append, length-replicate}
 use lib.Seq.{take-at, length-take-le}
-use Rattle.rules.specs.Answer as rules
-use Rattle.rules.specs.Answer.{Lent, answered, declined, collectAnswer, outAfter, workAfter}
+use Rattle.rules.specs.Answer.{Lent, answered, outAfter, workAfter}
 use Rattle.recipe.specs.declared.Answer.{Answer}
 use Rattle.recipe.specs.declared.Answer.the-variants.{Page, Refused}
 use Rattle.recipe.specs.Answers.{answerOf, usedOf, codeOf, answerCode, Answered, Collected, Coded}
