@@ -5,6 +5,7 @@ use crate::limits::{limit, LIMITS};
 use crate::pass::{collect, last_panic};
 use crate::plain::plain_form;
 use crate::sheet::Refusal;
+use std::cell::Cell;
 
 #[derive(Default)]
 pub struct Counts {
@@ -68,30 +69,39 @@ impl Counts {
     }
 }
 
-/// n sheets: recipes, damaged copies, and every limit at its edge and one past it (once)
-pub fn fuzz(n: usize, seed: u64) -> Counts {
+/// Makes n sheets: every limit just below, at and past its edge (once), recipes, damaged copies.
+pub fn each(n: usize, seed: u64, mut see: impl FnMut(&Case)) {
     let mut rng = Rng(seed);
-    let mut counts = Counts::default();
+    let made = Cell::new(0);
+    let mut see = |c: &Case| {
+        made.set(made.get() + 1);
+        see(c)
+    };
     for (name, most) in LIMITS {
-        counts.see(&limit(name, most - 1));
-        counts.see(&limit(name, *most));
-        counts.see(&limit(name, most + 1));
+        see(&limit(name, most - 1));
+        see(&limit(name, *most));
+        see(&limit(name, most + 1));
     }
-    while counts.sheets < n {
+    while made.get() < n {
         let (blocks, items) = *rng.one(&[(3, 4), (6, 6), (12, 10), (25, 15)]);
         let mut c = recipe(&mut rng, blocks, items);
         if rng.chance(4) {
             c.room = rng.below(600);
         }
-        counts.see(&c);
+        see(&c);
         if rng.below(200) == 0 {
             let (name, most) = *rng.one(LIMITS);
-            counts.see(&limit(name, most - 2 + rng.below(5)));
+            see(&limit(name, most - 2 + rng.below(5)));
         }
         if rng.chance(40) {
             let d = damaged(&mut rng, &c);
-            counts.see(&d);
+            see(&d);
         }
     }
+}
+
+pub fn fuzz(n: usize, seed: u64) -> Counts {
+    let mut counts = Counts::default();
+    each(n, seed, |c| counts.see(c));
     counts
 }

@@ -38,7 +38,7 @@ pub fn parser_finding(error: bool, number: u32) -> error::SourceDiag {
 pub mod watch {
     use crate::analysis::DefineMode;
     use crate::model::{Content, Recipe, Section};
-    use std::cell::RefCell;
+    use std::cell::{Cell, RefCell};
 
     #[derive(Debug, Clone, Copy, PartialEq)]
     pub enum Mode {
@@ -62,6 +62,7 @@ pub mod watch {
     }
 
     thread_local! {
+        static OFF: Cell<bool> = const { Cell::new(false) };
         static SEEN: RefCell<Vec<Seen>> = const { RefCell::new(Vec::new()) };
         static SPELLED: RefCell<Vec<String>> = const { RefCell::new(Vec::new()) };
     }
@@ -71,6 +72,9 @@ pub mod watch {
     }
 
     pub(crate) fn see(content: &Recipe, current: &Section, mode: DefineMode, open: usize, findings: usize) {
+        if OFF.get() {
+            return;
+        }
         let open = if mode == DefineMode::Components { 0 } else { open };
         let seen = Seen {
             mode: match mode {
@@ -94,6 +98,11 @@ pub mod watch {
     pub(crate) fn spelled(neg: bool, number: &str) {
         let sign = if neg { "-" } else { "" };
         SPELLED.with(|s| s.borrow_mut().push(format!("{sign}{number}")));
+    }
+
+    /// From now on only the spellings are noted, where time is measured: the limits (17) are not tested then.
+    pub fn off() {
+        OFF.set(true);
     }
 
     pub fn clear() {

@@ -1,11 +1,18 @@
 mod case;
 mod cases;
+#[cfg(feature = "library")]
+mod compare;
+#[cfg(feature = "library")]
+mod crowded;
 mod fuzz;
 mod generate;
+#[cfg(feature = "library")]
+mod lent;
 mod limits;
 mod page;
 mod pass;
 mod plain;
+mod repeat;
 mod sheet;
 
 use case::{Case, ROOM};
@@ -77,6 +84,49 @@ fn verify() -> Vec<u8> {
     std::process::exit((different > 0) as i32)
 }
 
+/// Says what was compared, keeps the cases that differ in a file, and leaves with 1 if there are any.
+#[cfg(feature = "library")]
+fn compared(counts: compare::Counts, start: std::time::Instant) -> ! {
+    counts.print();
+    let seconds = start.elapsed().as_secs_f64();
+    println!("{seconds:.1} s, {:.0} sheets a second", counts.sheets as f64 / seconds);
+    if !counts.kept.is_empty() {
+        std::fs::write("different.txt", &counts.kept).unwrap();
+        println!("the first of these cases are in different.txt");
+    }
+    std::process::exit(!counts.is_good() as i32)
+}
+
+#[cfg(feature = "library")]
+fn compare(words: &[&str]) -> Vec<u8> {
+    let start = std::time::Instant::now();
+    let number = |w: &str| w.parse::<u64>().unwrap();
+    match words {
+        ["list"] => {
+            let files = FILES.map(|f| answers().join(f).to_str().unwrap().to_string());
+            compared(compare::compare_files(&files.each_ref().map(|f| &f[..])), start)
+        }
+        ["file", files @ ..] => compared(compare::compare_files(files), start),
+        [n, seed] => compared(compare::compare(number(n) as usize, number(seed), 1), start),
+        [n, seed, threads] => compared(compare::compare(number(n) as usize, number(seed), number(threads) as usize), start),
+        _ => usage(),
+    }
+}
+
+#[cfg(not(feature = "library"))]
+fn compare(_: &[&str]) -> Vec<u8> {
+    eprintln!("built without the library: cargo run --release --offline --features library -- compare ...");
+    std::process::exit(2)
+}
+
+fn usage() -> ! {
+    eprintln!(
+        "usage: harness [collect | plain | batch FILE | fuzz COUNT SEED | sample COUNT SEED | list | verify
+                | compare COUNT SEED [THREADS] | compare list | compare file FILE... | repeat rust|library TIMES ROOM]"
+    );
+    std::process::exit(2)
+}
+
 fn main() {
     pass::quiet_panics();
     if std::panic::catch_unwind(run).is_err() {
@@ -107,10 +157,12 @@ fn run() {
             Vec::new()
         }
         ["verify"] => verify(),
-        _ => {
-            eprintln!("usage: harness [collect | plain | batch FILE | fuzz COUNT SEED | sample COUNT SEED | list | verify]");
-            std::process::exit(2)
+        ["compare", ref rest @ ..] => compare(rest),
+        ["repeat", side, times, room] => {
+            repeat::repeat(&read_files(), side, times.parse().unwrap(), room.parse().unwrap());
+            Vec::new()
         }
+        _ => usage(),
     };
     std::io::stdout().write_all(&out).unwrap();
 }

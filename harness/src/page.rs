@@ -4,6 +4,9 @@ use cooklang::model::*;
 use cooklang::quantity::{IncompatibleUnits, Quantity, Value};
 
 pub fn escape(s: &str) -> String {
+    if !s.bytes().any(|b| matches!(b, b'\\' | b'\t' | b'\n')) {
+        return s.to_string();
+    }
     s.replace('\\', "\\\\").replace('\t', "\\t").replace('\n', "\\n")
 }
 
@@ -29,8 +32,12 @@ pub struct Page<'a> {
 
 impl Page<'_> {
     pub fn line<S: AsRef<str>>(&mut self, fields: &[S]) {
-        let fields: Vec<_> = fields.iter().map(|f| f.as_ref()).collect();
-        self.out.extend_from_slice(fields.join("\t").as_bytes());
+        for (i, f) in fields.iter().enumerate() {
+            if i > 0 {
+                self.out.push(b'\t');
+            }
+            self.out.extend_from_slice(f.as_ref().as_bytes());
+        }
         self.out.push(b'\n');
     }
 
@@ -124,7 +131,7 @@ impl Page<'_> {
         for (i, q) in r.inline_quantities.iter().enumerate() {
             let n = self.inline[i].clone();
             // the Rust's number is the one that is spelled
-            assert_eq!(*q.value(), Value::from(n.parse::<f64>().unwrap()));
+            debug_assert_eq!(*q.value(), Value::from(n.parse::<f64>().unwrap()));
             self.line(&["inline".into(), i.to_string(), n, optional(q.unit())]);
         }
     }

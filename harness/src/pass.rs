@@ -191,6 +191,24 @@ fn open_blocks(lines: &[Line]) -> (Option<usize>, bool) {
 
 // ---- the pass
 
+/// The Rust's pass, by itself so that it can be counted by itself.
+#[inline(never)]
+fn parse_events<'a>(
+    events: impl Iterator<Item = parser::Event<'a>>,
+    text: &'a str,
+    extensions: Extensions,
+    converter: &Converter,
+) -> cooklang::analysis::AnalysisResult {
+    let options = ParseOptions {
+        recipe_ref_check: None,
+        metadata_validator: Some(Box::new(|_, _, o| {
+            o.run_std_checks(false);
+            cooklang::analysis::CheckResult::Ok
+        })),
+    };
+    cooklang::analysis::parse_events(events, text, extensions, converter, options)
+}
+
 pub fn collect<'a>(input: &Input<'a>) -> Result<Collected<'a>, Refusal> {
     if input.sheet.len() > 65536 {
         return Err(Refusal(1, 0));
@@ -228,18 +246,9 @@ pub fn collect<'a>(input: &Input<'a>) -> Result<Collected<'a>, Refusal> {
     let events: Vec<_> = lines.iter().map(|l| spellings.event(&l.event)).collect();
     let handed = Cell::new(0usize);
     watch::clear();
-    let result = std::panic::catch_unwind(std::panic::AssertUnwindSafe(|| {
-        let options = ParseOptions {
-            recipe_ref_check: None,
-            metadata_validator: Some(Box::new(|_, _, o| {
-                o.run_std_checks(false);
-                cooklang::analysis::CheckResult::Ok
-            })),
-        };
-        let events = events.into_iter().inspect(|_| handed.set(handed.get() + 1));
-        let extensions = Extensions::from_bits_truncate(input.flags);
-        cooklang::analysis::parse_events(events, text, extensions, &converter, options)
-    }));
+    let events = events.into_iter().inspect(|_| handed.set(handed.get() + 1));
+    let extensions = Extensions::from_bits_truncate(input.flags);
+    let result = std::panic::catch_unwind(std::panic::AssertUnwindSafe(|| parse_events(events, text, extensions, &converter)));
     let (seen, inline) = watch::take();
 
     // the first line at which anything is refused; the lowest number there

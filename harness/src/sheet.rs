@@ -86,6 +86,9 @@ fn number(s: &str, most: u64) -> Read<u64> {
 }
 
 pub fn unescape(s: &str) -> Read<String> {
+    if !s.as_bytes().contains(&b'\\') {
+        return Some(s.to_string());
+    }
     let mut out = String::new();
     let mut cs = s.chars();
     while let Some(c) = cs.next() {

@@ -1,4 +1,6 @@
 //! Collects the recipe in the working directory, as the program `collect` does.
+use std::io::Write;
+
 fn main() {
     let read = |name: &str| {
         std::fs::read(name).unwrap_or_else(|e| {
@@ -13,7 +15,7 @@ fn main() {
     };
     let mut out = vec![0; 1 << 20];
     match recipe::collect(&sheet, &text, &units, flags, &mut recipe::Memory::new(), &mut out) {
-        Ok(page) => print!("{}", String::from_utf8_lossy(page)),
+        Ok(page) => std::io::stdout().write_all(page).unwrap(),
         Err(refusal) => println!("{refusal}"),
     }
 }

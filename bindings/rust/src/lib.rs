@@ -81,7 +81,8 @@ impl fmt::Display for Refusal {
 
 impl std::error::Error for Refusal {}
 
-/// An answer of the library: its upper half is a refusal's number, or 0, its lower half a line, or a length.
+/// An answer of the library: its upper half is a refusal's number, or 0, its lower half a line, or a length (never past
+/// `out`: this would panic, not read there).
 fn answer(code: u64, out: &[u8]) -> Result<&[u8], Refusal> {
     match (code >> 32) as u32 {
         0 => Ok(&out[..code as u32 as usize]),
@@ -98,8 +99,23 @@ pub fn collect<'a>(
     memory: &mut Memory,
     out: &'a mut [u8],
 ) -> Result<&'a [u8], Refusal> {
-    // SAFETY: each pointer is a slice's, with its length; those that are written to are lent for this call alone; the
-    // library reads and writes within them only.
+    collect_in(sheet, text, units, flags, &mut memory.words, &mut memory.bytes, out)
+}
+
+/// The same with work memory from anywhere: at least [`words_needed`] and [`bytes_needed`] of it, else it is refused by 1.
+pub fn collect_in<'a>(
+    sheet: &[u8],
+    text: &[u8],
+    units: &[u8],
+    flags: u32,
+    words: &mut [u32],
+    bytes: &mut [u8],
+    out: &'a mut [u8],
+) -> Result<&'a [u8], Refusal> {
+    // before the pointers that are written through are made
+    let (words_length, bytes_length, out_length) = (words.len(), bytes.len(), out.len());
+    // SAFETY: each pointer is a slice's, so neither null nor misaligned, with its length; those that are written to are
+    // lent for this call alone; the library reads and writes within them only.
     let code = unsafe {
         ffi::recipe_collect(
             sheet.as_ptr(),
@@ -109,12 +125,12 @@ pub fn collect<'a>(
             units.as_ptr(),
             units.len(),
             flags,
-            memory.words.as_mut_ptr(),
-            memory.words.len(),
-            memory.bytes.as_mut_ptr(),
-            memory.bytes.len(),
+            words.as_mut_ptr(),
+            words_length,
+            bytes.as_mut_ptr(),
+            bytes_length,
             out.as_mut_ptr(),
-            out.len(),
+            out_length,
         )
     };
     answer(code, out)

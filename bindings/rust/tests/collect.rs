@@ -1,4 +1,4 @@
-use recipe::{collect, Memory, Refusal};
+use recipe::{bytes_needed, collect, collect_in, words_needed, Memory, Refusal};
 
 const TEXT: &[u8] = b">> [duplicate]: ref\n@salt{} @Salt{}\n";
 const SHEET: &[u8] = b"meta\t3\t14\t[duplicate]\t15\t19\t ref\n\
@@ -22,6 +22,11 @@ fn dirty() -> Memory {
     m.words.fill(0xdead_beef);
     m.bytes.fill(0xaa);
     m
+}
+
+/// Memory as long as is lent, with three items more on each side that must stay.
+fn guarded<T: Copy>(length: usize, item: T) -> Vec<T> {
+    vec![item; length + 6]
 }
 
 fn is_clear(m: &Memory) -> bool {
@@ -86,4 +91,38 @@ fn short_work_memory() {
 fn the_empty_sheet() {
     let mut out = [0x55; 11];
     assert_eq!(collect(b"", b"", b"", 0, &mut dirty(), &mut out), Ok(&b"recipe\tyes\n"[..]));
+}
+
+#[test]
+fn nothing_else_is_written() {
+    for room in [0, PAGE.len() - 1, PAGE.len(), PAGE.len() + 1] {
+        let (mut words, mut bytes, mut out) = (guarded(words_needed(), 7u32), guarded(bytes_needed(), 7), guarded(room, 7));
+        let (w, b, o) = (3..3 + words_needed(), 3..3 + bytes_needed(), 3..3 + room);
+        let answer = collect_in(SHEET, TEXT, b"", 1, &mut words[w.clone()], &mut bytes[b.clone()], &mut out[o.clone()]);
+        assert_eq!(answer.is_ok(), room >= PAGE.len());
+        let stays = |all: &[u8], lent: std::ops::Range<usize>| all[..3].iter().chain(&all[lent.end..]).all(|&x| x == 7);
+        assert!(stays(&bytes, b) && stays(&out, o));
+        assert!(words[..3].iter().chain(&words[w.end..]).all(|&x| x == 7));
+        assert!(words[w].iter().all(|&x| x == 0));
+    }
+}
+
+#[test]
+fn no_memory_at_all() {
+    let answer = collect_in(SHEET, TEXT, b"", 1, &mut [], &mut [], &mut []);
+    assert_eq!(answer, Err(Refusal { number: 1, line: 0 }));
+}
+
+#[test]
+fn several_threads() {
+    std::thread::scope(|s| {
+        for _ in 0..4 {
+            s.spawn(|| {
+                let (mut m, mut out) = (dirty(), vec![0x55; 1000]);
+                for _ in 0..50 {
+                    assert_eq!(collect(SHEET, TEXT, b"", 1, &mut m, &mut out), Ok(PAGE));
+                }
+            });
+        }
+    });
 }

@@ -1,3 +1,4 @@
 pub mod Reports
 pub mod Laws
 pub mod Both
+pub mod Frames

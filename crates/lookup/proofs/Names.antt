@@ -5,37 +5,52 @@ use mathlib.Core.List.{List, [], _∷_}
 use mathlib.Core.Bool.{Bool, true, false, _&&_, _||_, not}
 use mathlib.Core.Option.{Option, none, some}
 use native.Mathlib.Omega.{arith}
-use borrow.Author.Tests.{eq-eqb, ne-eqb, eqb-true, eqb-false, not-true, not-false}
+use borrow.Author.Tests.{eq-eqb, ne-eqb, not-true, not-false}
 use lib.Dec.{eqb}
 use lib.ListN.{length, getD, take, drop}
-use lib.Seq.{slice, sets, take-nil}
+use lib.Seq.{slice, take-nil}
 use Rattle.rules.specs.Basic.{pick, eqList, onSome}
+use Rattle.rules.specs.Text.{retain}
+use Rattle.rules.specs.Read.{contentOf}
 use Rattle.rules.specs.Unicode.{foldName, sameName}
 use Rattle.rules.specs.Model.{Kind, ingredient, cookware, Entry, setRelation, setModifiers}
 use Rattle.rules.specs.Reference.{Earlier, eqBool, fits, sameNameIn, sameNameOf}
 use Rattle.rules.specs.State.{tableOf}
 use Rattle.rules.proofs.Basics.{no-some, some-inj}
 use Rattle.content.specs.Contents.{contentIn, keptIn}
-use Rattle.model.specs.Rows.{rowAt, rowOf, rowWords, componentOfLine, modifiersIn, entryAs, entryIn, entriesIn}
-use Rattle.model.specs.Memory.{windowsOf, stateIn, stateOf, firstHeld, Room, Sound}
+use Rattle.content.specs.Parts.{Field}
+use Rattle.content.proofs.Plains.{content-of}
+use Rattle.content.proofs.Lines.{field-content}
+use Rattle.model.specs.Rows.{rowAt, rowOf, componentOfLine, modifiersIn, entryAs, entryIn, entriesIn}
+use Rattle.model.specs.Memory.{windowsOf, stateIn, stateOf, Room, Sound}
+use Rattle.model.specs.Fits.{Fits, EachRow, AllFit}
 use Rattle.model.specs.declared.Row.{Row}
 use Rattle.model.specs.declared.Held.{Held}
 use Rattle.model.proofs.Stores.{getD-mid}
-use Rattle.model.proofs.Tables.{entries-length, row-stored, row-other}
+use Rattle.model.proofs.Tables.{entries-length}
 use Rattle.memory.proofs.Whole.{long-ingredients, long-cookware}
 use Rattle.memory.specs.Pushes.{countOf, pairsOf}
 use Rattle.lookup.specs.declared.Same.{Same}
 use Rattle.lookup.specs.declared.Same.the-variants.{At, Nothing}
 use Rattle.lookup.specs.declared.NamePart.{NamePart}
-use Rattle.lookup.specs.Names.{namePart, NameInside, NameHolds, NamesInside, NamesHold, rowFits, sameRow, sameOf, rowsIn, pairsIn, Named, earlierIn, earlierAt, SameFound, NewName}
+use Rattle.lookup.specs.Names.{namePart, NameInside, NamesInside, rowFits, sameRow, sameOf, rowsIn, pairsIn, earlierIn, earlierAt, SameFound, NewName}
 
--- ---- fewer rows; bounds alone
+-- ---- the name of a row
 
-pub names-fewer : {k : Kind} {sheet rows : List ℕ} {n : ℕ} → NamesHold k sheet rows (suc n) → NamesHold k sheet rows n
-names-fewer h = record { at = λ i l. h .at i (omega arith) }
+fewer : {k : Kind} {sheet rows : List ℕ} {n : ℕ} → EachRow (Fits k sheet) rows (suc n) → EachRow (Fits k sheet) rows n
+fewer h = record { at = λ i l. h .at i (omega arith) }
 
-pub names-inside : {k : Kind} {sheet rows : List ℕ} {n : ℕ} → NamesHold k sheet rows n → NamesInside sheet rows n
-names-inside h = record { at = λ i l. h .at i l .inside }
+pub names-inside : {k : Kind} {sheet rows : List ℕ} {n : ℕ} → EachRow (Fits k sheet) rows n → NamesInside sheet rows n
+names-inside h = record { at = λ i l. record { order = h .at i l .name; most = h .at i l .nameEnd } }
+
+read-kept : (f name : List ℕ) (o : Option (List ℕ)) → contentOf f ≡ o → onSome (retain 0) o ≡ some name → keptIn f ≡ name
+unfolding onSome keptIn
+read-kept f name none e q = no-some q
+read-kept f name (some c) e q = ap (retain 0) (content-of f e) ∙ some-inj q
+
+-- what a row points at is the name of the entry that it stands for
+pub name-of : {k : Kind} {sheet : List ℕ} {r : Row} → Fits k sheet r → keptIn (namePart sheet r) ≡ entryAs k sheet r [] .name
+name-of {k} {sheet} {r} h = read-kept (namePart sheet r) (entryAs k sheet r [] .name) _ refl (h .isName)
 
 -- ---- an entry has the name, REF and OPT of its row
 
@@ -53,17 +68,17 @@ module _ (k : Kind) (sheet rows pairs : List ℕ) (m : ℕ) where
   entry-opt i = refl
 
   module _ (folded : List ℕ) (anyOpt isOpt : Bool) where
-    entry-fits : (i : ℕ) → NameHolds k sheet (rowOf (rowAt 12 rows i)) → fits folded anyOpt isOpt (entryIn k sheet rows pairs m i) ≡ rowFits sheet folded anyOpt isOpt (rowOf (rowAt 12 rows i))
+    entry-fits : (i : ℕ) → Fits k sheet (rowOf (rowAt 12 rows i)) → fits folded anyOpt isOpt (entryIn k sheet rows pairs m i) ≡ rowFits sheet folded anyOpt isOpt (rowOf (rowAt 12 rows i))
     unfolding fits rowFits
-    entry-fits i h = rw (entry-ref i, entry-opt i, entry-name i, h .is)
+    entry-fits i h = rw (entry-ref i, entry-opt i, entry-name i, name-of h)
 
     -- the lookup law, for either kind
-    pub rows-search : (n : ℕ) → NamesHold k sheet rows n
+    pub rows-search : (n : ℕ) → EachRow (Fits k sheet) rows n
         → onSome (earlierIn k sheet rows pairs m) (sameRow sheet folded anyOpt isOpt rows n) ≡ sameNameIn folded anyOpt isOpt (entriesIn k sheet rows pairs m n)
     unfolding sameNameIn entriesIn sameRow onSome earlierIn
     rows-search zero h = refl
     rows-search (suc n) h =
-        rw (entry-fits n (h .at n (omega arith)), entries-length k sheet rows pairs m n, ← rows-search n (names-fewer h)) (go (rowFits sheet folded anyOpt isOpt (rowOf (rowAt 12 rows n))))
+        rw (entry-fits n (h .at n (omega arith)), entries-length k sheet rows pairs m n, ← rows-search n (fewer h)) (go (rowFits sheet folded anyOpt isOpt (rowOf (rowAt 12 rows n))))
       where
         go : (b : Bool) → onSome (earlierIn k sheet rows pairs m) (pick b (some n) (sameRow sheet folded anyOpt isOpt rows n))
             ≡ pick b (some (record { index = n; entry = entryIn k sheet rows pairs m n })) (onSome (earlierIn k sheet rows pairs m) (sameRow sheet folded anyOpt isOpt rows n))
@@ -186,7 +201,7 @@ module _ (sheet w : List ℕ) (h : Held) (name : List ℕ) (anyOpt isOpt : Bool)
   table-rows ingredient = refl
   table-rows cookware = refl
 
-  pub same-found : (k : Kind) (r : Same) → NamesHold k sheet (rowsIn k w) (countOf k h)
+  pub same-found : (k : Kind) (r : Same) → EachRow (Fits k sheet) (rowsIn k w) (countOf k h)
       → sameOf r ≡ sameRow sheet (foldName (keptIn name)) anyOpt isOpt (rowsIn k w) (countOf k h) → SameFound k sheet w h name anyOpt isOpt r
   unfolding sameNameOf sameOf
   same-found k r z e =
@@ -203,67 +218,42 @@ module _ (sheet w : List ℕ) (h : Held) (name : List ℕ) (anyOpt isOpt : Bool)
       at i q = rw q
 
 module _ {w : List ℕ} {h : Held} (z : Sound w h) (sheet : List ℕ) where
-  pub ingredient-ready : NamesHold ingredient sheet (windowsOf w .ingredients) (h .counts .ingredients)
+  pub ingredient-ready : AllFit sheet w h
       → (h .counts .ingredients ≤ 513) × (h .counts .ingredients * 12 ≤ length (take 6156 (drop 0 w))) × NamesInside sheet (take 6156 (drop 0 w)) (h .counts .ingredients)
   unfolding windowsOf
   ingredient-ready n =
       let l : length (take 6156 (drop 0 w)) ≡ 6156 = long-ingredients z in
-      (omega (arith, z .room .ingredients), omega (arith, z .room .ingredients, l), names-inside n)
+      (omega (arith, z .room .ingredients), omega (arith, z .room .ingredients, l), names-inside (n .ingredients))
 
 module _ (sheet w : List ℕ) (h : Held) (name : List ℕ) (anyOpt isOpt : Bool) where
-  pub ingredient-found : (r : Same) → NamesHold ingredient sheet (windowsOf w .ingredients) (h .counts .ingredients)
+  pub ingredient-found : (r : Same) → AllFit sheet w h
       → sameOf r ≡ sameRow sheet (foldName (keptIn name)) anyOpt isOpt (take 6156 (drop 0 w)) (h .counts .ingredients) → SameFound ingredient sheet w h name anyOpt isOpt r
   unfolding windowsOf
-  ingredient-found r n e = same-found sheet w h name anyOpt isOpt ingredient r n e
+  ingredient-found r n e = same-found sheet w h name anyOpt isOpt ingredient r (n .ingredients) e
 
 module _ {w : List ℕ} {h : Held} (z : Sound w h) (sheet : List ℕ) where
-  pub cookware-ready : NamesHold cookware sheet (windowsOf w .cookware) (h .counts .cookware)
+  pub cookware-ready : AllFit sheet w h
       → (h .counts .cookware ≤ 513) × (h .counts .cookware * 12 ≤ length (take 3084 (drop 6156 w))) × NamesInside sheet (take 3084 (drop 6156 w)) (h .counts .cookware)
   unfolding windowsOf
   cookware-ready n =
       let l : length (take 3084 (drop 6156 w)) ≡ 3084 = long-cookware z in
-      (omega (arith, z .room .cookware), omega (arith, z .room .cookware, l), names-inside n)
+      (omega (arith, z .room .cookware), omega (arith, z .room .cookware, l), names-inside (n .cookware))
 
 module _ (sheet w : List ℕ) (h : Held) (name : List ℕ) (anyOpt isOpt : Bool) where
-  pub cookware-found : (r : Same) → NamesHold cookware sheet (windowsOf w .cookware) (h .counts .cookware)
+  pub cookware-found : (r : Same) → AllFit sheet w h
       → sameOf r ≡ sameRow sheet (foldName (keptIn name)) anyOpt isOpt (take 3084 (drop 6156 w)) (h .counts .cookware) → SameFound cookware sheet w h name anyOpt isOpt r
   unfolding windowsOf
-  cookware-found r n e = same-found sheet w h name anyOpt isOpt cookware r n e
+  cookware-found r n e = same-found sheet w h name anyOpt isOpt cookware r (n .cookware) e
 
--- ---- the names of rows, as rows are written
+-- ---- the name of a new row
 
-pub names-none : (k : Kind) (sheet rows : List ℕ) → NamesHold k sheet rows 0
-names-none k sheet rows = record { at = λ i l. absurd (omega arith) }
+field-kept : {f : List ℕ} → Field f → onSome (retain 0) (contentOf f) ≡ some (keptIn f)
+unfolding onSome keptIn
+field-kept h = ap (onSome (retain 0)) (field-content h)
 
--- they hold for other words where the rows are the same
-pub names-same : {k : Kind} {sheet rows : List ℕ} {n : ℕ} (other : List ℕ) → ((i : ℕ) → i < n → rowAt 12 other i ≡ rowAt 12 rows i) → NamesHold k sheet rows n → NamesHold k sheet other n
-names-same other e z = record { at = λ i l. rw (e i l) (z .at i l) }
-
--- and after one row more
-pub names-more : (k : Kind) (sheet rows : List ℕ) (n : ℕ) (r : Row) → n * 12 + 12 ≤ length rows → NamesHold k sheet rows n → NameHolds k sheet r → NamesHold k sheet (sets rows (n * 12) (rowWords r)) (suc n)
-names-more k sheet rows n r h z y = record { at = λ i l. by i (eqb i n) refl l }
-  where
-    by : (i : ℕ) (t : Bool) → eqb i n ≡ t → i < suc n → NameHolds k sheet (rowOf (rowAt 12 (sets rows (n * 12) (rowWords r)) i))
-    by i true e l = let q : i ≡ n = eqb-true i n e in rw q (rw (row-stored rows n r h) y)
-    by i false e l = let q : (i ≡ n → ⊥) = eqb-false i n e in let s : i < n = omega arith in rw (row-other rows n i r s) (z .at i s)
-
--- a row whose name is what `new_name` gives for its line
-pub name-new : {k : Kind} {sheet : List ℕ} {from to : ℕ} {p : NamePart} (r : Row) → NewName k sheet from to p → to ≤ length sheet → r .«name_at» ≡ p .at → r .«name_end» ≡ p .end
-    → componentOfLine k (slice (r .«line_at») (r .«line_end») sheet) .name .content ≡ contentIn (slice from to sheet) → NameHolds k sheet r
+-- a row whose name is what `new_name` gives for its line points at it
+pub name-new : {k : Kind} {sheet : List ℕ} {from to : ℕ} {p : NamePart} (r : Row) → NewName k sheet from to p → Field (slice from to sheet) → r .«name_at» ≡ p .at → r .«name_end» ≡ p .end
+    → componentOfLine k (slice (r .«line_at») (r .«line_end») sheet) .name .content ≡ contentIn (slice from to sheet) → onSome (retain 0) (contentOf (namePart sheet r)) ≡ some (entryAs k sheet r [] .name)
 unfolding entryAs setRelation setModifiers
-name-new {k} {sheet} r z h ea ee e =
-    record {
-      inside = record { order = omega (arith, z .order); most = omega (arith, z .most) };
-      is = rw (ea, ee) (z .is true (componentOfLine k (slice (r .«line_at») (r .«line_end») sheet)) e);
-    }
-
--- ---- both kinds in work memory
-
-pub named-first : (sheet w : List ℕ) → Named sheet w firstHeld
-unfolding firstHeld
-named-first sheet w = record { ingredients = names-none ingredient sheet _; cookware = names-none cookware sheet _ }
-
--- other windows and counts do not matter
-pub named-kept : {sheet w₀ : List ℕ} {h₀ : Held} (w : List ℕ) (h : Held) → windowsOf w .ingredients ≡ windowsOf w₀ .ingredients → windowsOf w .cookware ≡ windowsOf w₀ .cookware
-    → h .counts .ingredients ≡ h₀ .counts .ingredients → h .counts .cookware ≡ h₀ .counts .cookware → Named sheet w₀ h₀ → Named sheet w h
-named-kept w h a b c d z = record { ingredients = rw (a, c) (z .ingredients); cookware = rw (b, d) (z .cookware) }
+name-new {k} {sheet} r z f ea ee e =
+    rw (ea, ee) (field-kept (z .field f) ∙ ap some (z .is true (componentOfLine k (slice (r .«line_at») (r .«line_end») sheet)) e))

@@ -14,7 +14,9 @@ use Rattle.rules.specs.Model.{Kind, ingredient, cookware, trimmedText, nameOf, 
 use Rattle.content.specs.Contents.{contentIn, keptIn}
 use Rattle.content.specs.Names.{NameAt}
 use Rattle.content.specs.declared.NamePlace.{NamePlace}
+use Rattle.content.specs.Parts.{Field}
 use Rattle.content.proofs.Retains.{kept-trimmed}
+use Rattle.content.proofs.Cuts.{cut-front, cut-back}
 use Rattle.text.specs.Trims.{dropsOf, StartAt, EndAt}
 use Rattle.text.specs.declared.Dropped.the-variants.{White}
 use Rattle.lookup.specs.declared.NamePart.{NamePart}
@@ -55,6 +57,7 @@ trimmed-at f a e x y =
       order = omega arith;
       most = omega (arith, x .most, z .most, length-drop a f);
       is = ap contentIn (sym (part-drop a e f)) ∙ z .is ∙ ap (trimEnd isWhiteSpace) (x .is);
+      field = λ w. rw (part-drop a e f) at (cut-front (drop a f) e (z .cut) (cut-back f a (x .cut) w));
     }
 
 module _ (sheet : List ℕ) (from to : ℕ) (h : from ≤ to) (g : to ≤ length sheet) (p : NamePart) (v : TrimmedAt (take (to - from) (drop from sheet)) p) where
@@ -67,6 +70,9 @@ module _ (sheet : List ℕ) (from to : ℕ) (h : from ≤ to) (g : to ≤ length
   part-kept : keptIn (slice (from + p .at) (from + p .end) sheet) ≡ textTrimmed (contentIn (slice from to sheet))
   part-kept = kept-trimmed (slice from to sheet) (slice (from + p .at) (from + p .end) sheet) (ap contentIn (sym (slice-slice from to (p .at) (p .end) sheet (own .order) part-most)) ∙ own .is)
 
+  part-field : Field (slice from to sheet) → Field (slice (from + p .at) (from + p .end) sheet)
+  part-field w = rw (slice-slice from to (p .at) (p .end) sheet (own .order) part-most) at (own .field w)
+
   pub new-cookware : (b : Bool) → not b ≡ true → NewName (kindOf b) sheet from to (record { at = from + p .at; end = from + p .end })
   unfolding entryOf entryWith referenceIn nameOf trimmedText
   new-cookware b t =
@@ -75,6 +81,7 @@ module _ (sheet : List ℕ) (from to : ℕ) (h : from ≤ to) (g : to ≤ length
         order = omega (arith, own .order);
         most = part-most;
         is = λ inStep c e. part-kept ∙ rw e;
+        field = part-field;
       }
 
   pub new-ingredient : (b : Bool) → not b ≡ false → (q : NamePlace) → NameAt (take (from + p .end - (from + p .at)) (drop (from + p .at) sheet)) q
@@ -89,4 +96,5 @@ module _ (sheet : List ℕ) (from to : ℕ) (h : from ≤ to) (g : to ≤ length
         order = omega (arith, y .most, length-slice (from + p .at) (from + p .end) sheet k);
         most = part-most;
         is = λ inStep c e. ap keptIn (sym (drop-drop (q .start) (from + p .at) (take (from + p .end) sheet))) ∙ y .name ∙ rw (part-kept, e);
+        field = λ w. rw (drop-drop (q .start) (from + p .at) (take (from + p .end) sheet)) at (cut-back (slice (from + p .at) (from + p .end) sheet) (q .start) (y .nameCut) (part-field w));
       }

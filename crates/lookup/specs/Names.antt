@@ -14,7 +14,8 @@ use Rattle.rules.specs.Model.{Kind, ingredient, cookware, Entry, entryOf}
 use Rattle.rules.specs.Reference.{Earlier, eqBool, sameNameOf}
 use Rattle.rules.specs.State.{tableOf}
 use Rattle.content.specs.Contents.{contentIn, keptIn}
-use Rattle.model.specs.Rows.{rowAt, rowOf, entryAs, entryIn}
+use Rattle.content.specs.Parts.{Field}
+use Rattle.model.specs.Rows.{rowAt, rowOf, entryIn}
 use Rattle.model.specs.Memory.{windowsOf, stateIn}
 use Rattle.model.specs.declared.Row.{Row}
 use Rattle.model.specs.declared.Held.{Held}
@@ -34,17 +35,9 @@ pub record NameInside (sheet : List ℕ) (r : Row) : Type 0 where
   pub order : r .«name_at» ≤ r .«name_end»
   pub most : r .«name_end» ≤ length sheet
 
--- and it has the name of the entry that the row stands for
-pub record NameHolds (k : Kind) (sheet : List ℕ) (r : Row) : Type 0 where
-  pub inside : NameInside sheet r
-  pub is : keptIn (namePart sheet r) ≡ entryAs k sheet r [] .name
-
 -- so do the first n rows
 pub record NamesInside (sheet rows : List ℕ) (n : ℕ) : Type 0 where
   pub at : (i : ℕ) → i < n → NameInside sheet (rowOf (rowAt 12 rows i))
-
-pub record NamesHold (k : Kind) (sheet rows : List ℕ) (n : ℕ) : Type 0 where
-  pub at : (i : ℕ) → i < n → NameHolds k sheet (rowOf (rowAt 12 rows i))
 
 -- ---- the search over rows, from the newest back
 
@@ -71,11 +64,6 @@ abbrev pub pairsIn : Kind → List ℕ → List ℕ
 pairsIn ingredient w = windowsOf w .ingredientPairs
 pairsIn cookware w = windowsOf w .cookwarePairs
 
--- the names of both kinds hold in work memory
-pub record Named (sheet w : List ℕ) (h : Held) : Type 0 where
-  pub ingredients : NamesHold ingredient sheet (windowsOf w .ingredients) (h .counts .ingredients)
-  pub cookware : NamesHold cookware sheet (windowsOf w .cookware) (h .counts .cookware)
-
 -- an entry of a table and its index
 unfoldable pub earlierIn : Kind → List ℕ → List ℕ → List ℕ → ℕ → ℕ → Earlier
 earlierIn k sheet rows pairs m i = record { index = i; entry = entryIn k sheet rows pairs m i }
@@ -99,9 +87,11 @@ pub record TrimmedAt (f : List ℕ) (p : NamePart) : Type 0 where
   pub order : p .at ≤ p .end
   pub most : p .end ≤ length f
   pub is : contentIn (slice (p .at) (p .end) f) ≡ textOuterTrimmed (contentIn f)
+  pub field : Field f → Field (slice (p .at) (p .end) f)
 
 -- p is the part of the sheet with the name of a component whose name is written at from to to
 pub record NewName (k : Kind) (sheet : List ℕ) (from to : ℕ) (p : NamePart) : Type 0 where
   pub order : p .at ≤ p .end
   pub most : p .end ≤ to
   pub is : (inStep : Bool) (c : Component) → c .name .content ≡ contentIn (slice from to sheet) → keptIn (slice (p .at) (p .end) sheet) ≡ entryOf k inStep c .name
+  pub field : Field (slice from to sheet) → Field (slice (p .at) (p .end) sheet)

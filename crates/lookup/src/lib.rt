@@ -12,8 +12,9 @@ ghost use Rattle.rules.specs.Reference.{eqBool};
 ghost use Rattle.unicode.specs.Tables.{unicodeTables};
 ghost use Rattle.content.specs.Contents.{keptIn};
 ghost use Rattle.model.specs.Rows.{rowAt, rowOf};
-ghost use Rattle.model.specs.Memory.{defineOf, duplicateOf, windowsOf, Sound};
-ghost use Rattle.lookup.specs.Names.{NameInside, NamesInside, NamesHold, rowFits, sameRow, sameOf, SameFound, kindOf, TrimmedAt, NewName};
+ghost use Rattle.model.specs.Memory.{defineOf, duplicateOf, Sound};
+ghost use Rattle.model.specs.Fits.{AllFit};
+ghost use Rattle.lookup.specs.Names.{NameInside, NamesInside, rowFits, sameRow, sameOf, SameFound, kindOf, TrimmedAt, NewName};
 ghost use Rattle.lookup.specs.References.{TreatedAs, Refers};
 use model::Define;
 use model::Duplicate;
@@ -108,7 +109,7 @@ pub fn same_ingredient(
     any_opt: bool,
     is_opt: bool,
 ) -> Same
-    requires { ⌜ (now t ≡ unicodeTables) × Sound (now words) h × NamesHold ingredient (now sheet) (windowsOf (now words) .ingredients) (h .counts .ingredients) ⌝ }
+    requires { ⌜ (now t ≡ unicodeTables) × Sound (now words) h × AllFit (now sheet) (now words) h ⌝ }
     ensures { λ r. ⌜ SameFound ingredient (now (sheet .entry)) (now (words .entry)) h (now (name .entry)) «any_opt» «is_opt» r ⌝ }
 {
     let n = h.counts.ingredients;
@@ -124,7 +125,7 @@ pub fn same_cookware(
     any_opt: bool,
     is_opt: bool,
 ) -> Same
-    requires { ⌜ (now t ≡ unicodeTables) × Sound (now words) h × NamesHold cookware (now sheet) (windowsOf (now words) .cookware) (h .counts .cookware) ⌝ }
+    requires { ⌜ (now t ≡ unicodeTables) × Sound (now words) h × AllFit (now sheet) (now words) h ⌝ }
     ensures { λ r. ⌜ SameFound cookware (now (sheet .entry)) (now (words .entry)) h (now (name .entry)) «any_opt» «is_opt» r ⌝ }
 {
     let n = h.counts.cookware;

@@ -31,7 +31,7 @@ use Rattle.blocks.specs.Lined.{Told, Went}
 use Rattle.blocks.proofs.Lines.{went-told}
 use Rattle.metadata.specs.Metas.{DefineSet, DuplicateSet, UnknownNoted, OrdinaryCounted, MetaDone}
 
-text-content : (line : List ℕ) (v : TextView) → TextWithin line v → {b : List ℕ} → b ≡ partOf line (v .content) → contents.contentIn b ≡ textIn line v .content
+pub text-content : (line : List ℕ) (v : TextView) → TextWithin line v → {b : List ℕ} → b ≡ partOf line (v .content) → contents.contentIn b ≡ textIn line v .content
 unfolding textIn contentIn contents.contentIn
 text-content line v z e = ap (λ (x : List ℕ). chars (contents.plainOf x)) e ∙ ap chars (plain-unescape (partOf line (v .content)) (z .content .well))
 
@@ -40,7 +40,7 @@ unfolding textIn
 text-span line v = refl
 
 went-as : {f g : State → State} {w₀ w : List ℕ} {h₀ h : Held} → Went f w₀ h₀ w h → ((st : State) → f st ≡ g st) → Went g w₀ h₀ w h
-went-as p e = record { is = λ sheet. p .is sheet ∙ ap blank (e _); sound = p .sound }
+went-as p e = record { is = λ sheet. p .is sheet ∙ ap blank (e _); sound = p .sound; fit = p .fit }
 
 meta-is : (flags : ℕ) (k v : rules.Text) (key : modes.Key) → pick (hasModes flags) (keyOf (keyText k)) modes.ordinary ≡ key → (st : State) → onKey key k v st ≡ onMetadata flags k v st
 unfolding onMetadata
@@ -51,14 +51,14 @@ unfolding hasModes
 mode-off flags n x = rw (ne-eqb (flags % 2) 1 n)
 
 pub meta-off : {flags : ℕ} {line w : List ℕ} {h r : Held} {key value : TextView} → (flags % 2 ≡ 1 → ⊥) → Sound w h → OrdinaryCounted h r → MetaDone flags line key value w h w r
-meta-off {flags} {line} {key = key} {value = value} n z p = record { went = went-as (went-told (p .by (textIn line key) (textIn line value)) z) (meta-is flags (textIn line key) (textIn line value) modes.ordinary (mode-off flags n _)) }
+meta-off {flags} {line} {key = key} {value = value} n z p = record { went = went-as (went-told (p .by (textIn line key) (textIn line value)) z (λ sheet a. p .fit sheet _ a)) (meta-is flags (textIn line key) (textIn line value) modes.ordinary (mode-off flags n _)) }
 
-key-at : (flags : ℕ) (line : List ℕ) (key : TextView) (x y : Key) (kb : List ℕ) → flags % 2 ≡ 1 → TextWithin line key → kb ≡ partOf line (key .content) → keyIn x ≡ keyOf (textTrimmed (contents.contentIn kb)) → x ≡ y
+pub key-at : (flags : ℕ) (line : List ℕ) (key : TextView) (x y : Key) (kb : List ℕ) → flags % 2 ≡ 1 → TextWithin line key → kb ≡ partOf line (key .content) → keyIn x ≡ keyOf (textTrimmed (contents.contentIn kb)) → x ≡ y
     → pick (hasModes flags) (keyOf (keyText (textIn line key))) modes.ordinary ≡ keyIn y
 unfolding hasModes keyText
 key-at flags line key x y kb on kz kp g e = rw (eq-eqb (flags % 2) 1 on) (ap (λ (cs : List ℕ). keyOf (textTrimmed cs)) (sym (text-content line key kz kp)) ∙ (sym g ∙ ap keyIn e))
 
-value-at : (line : List ℕ) (value : TextView) (vb : List ℕ) → TextWithin line value → vb ≡ partOf line (value .content) → textOuterTrimmed (contents.contentIn vb) ≡ valueText (textIn line value)
+pub value-at : (line : List ℕ) (value : TextView) (vb : List ℕ) → TextWithin line value → vb ≡ partOf line (value .content) → textOuterTrimmed (contents.contentIn vb) ≡ valueText (textIn line value)
 unfolding valueText
 value-at line value vb vz vp = ap textOuterTrimmed (text-content line value vz vp)
 
@@ -78,4 +78,4 @@ module _ {flags : ℕ} {line w₀ w : List ℕ} {h r : Held} {key value : TextVi
 module _ {flags : ℕ} {line w : List ℕ} {h r : Held} {key value : TextView} (on : flags % 2 ≡ 1) (kz : TextWithin line key) (kb : List ℕ) (kp : kb ≡ partOf line (key .content)) (x : Key) (g : keyIn x ≡ keyOf (textTrimmed (contents.contentIn kb))) where
   pub meta-ordinary : x ≡ Ordinary → Sound w h → OrdinaryCounted h r → MetaDone flags line key value w h w r
   unfolding keyIn
-  meta-ordinary e z p = record { went = went-as (went-told (p .by (textIn line key) (textIn line value)) z) (meta-is flags (textIn line key) (textIn line value) modes.ordinary (key-at flags line key x Ordinary kb on kz kp g e)) }
+  meta-ordinary e z p = record { went = went-as (went-told (p .by (textIn line key) (textIn line value)) z (λ sheet a. p .fit sheet _ a)) (meta-is flags (textIn line key) (textIn line value) modes.ordinary (key-at flags line key x Ordinary kb on kz kp g e)) }

@@ -1,9 +1,9 @@
 -- The fields of a quantity.
 use Prim.Native.Nat.{ℕ}
-use mathlib.Core.Path.{_≡_, refl, sym, _∙_}
+use mathlib.Core.Path.{_≡_}
 use mathlib.Core.Bool.{Bool, true, false, not}
-use mathlib.Core.Option.{Option, none, some}
-use mathlib.Core.List.{List, [], _∷_, _++_}
+use mathlib.Core.Option.{some}
+use mathlib.Core.List.{List, [], _∷_}
 use borrow.Author.Tests.{not-true, not-false}
 use Rattle.rules.specs.Basic.{pick, codes, onSome}
 use Rattle.rules.specs.Utf8.{encode}

@@ -1,6 +1,6 @@
 -- Contents of a line on a page: the field of a content is spelled as it stands in the line.
 use Prim.Native.Nat.{ℕ}
-use mathlib.Core.Path.{_≡_, refl, ap, sym, _∙_}
+use mathlib.Core.Path.{_≡_, ap, _∙_}
 use mathlib.Core.Option.{Option, none, some}
 use mathlib.Core.List.{List, [], _∷_, _++_}
 use Rattle.rules.specs.Basic.{codes, tab, onSome}
@@ -48,7 +48,8 @@ module _ (line : List ℕ) (p : Part) (h : Field (partOf line p)) where
 
 -- ---- optional texts
 
-field-some : (s : List ℕ) → tabbed (optional (some s) ∷ []) ≡ (tab ∷ 61 ∷ []) ++ spell s
+-- a string after its `=`
+pub field-some : (s : List ℕ) → tabbed (optional (some s) ∷ []) ≡ (tab ∷ 61 ∷ []) ++ spell s
 unfolding optional escape escapeChar
 field-some s = tabbed-one (61 ∷ encode s)
 

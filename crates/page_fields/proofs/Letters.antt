@@ -1,6 +1,6 @@
 -- The field of modifiers.
 use Prim.Native.Nat.{ℕ, _+_, _≤_, _<_}
-use mathlib.Core.Path.{_≡_, refl, ap, sym, _∙_}
+use mathlib.Core.Path.{_≡_, refl, sym, _∙_}
 use mathlib.Core.Bool.{Bool, true, false, not}
 use mathlib.Core.List.{List, [], _∷_, _++_, append-assoc}
 use lib.ListN.{length}
@@ -68,7 +68,8 @@ unfolding escape
 escape-append [] w = refl
 escape-append (c ∷ s) w = rw (escape-append s w, append-assoc)
 
-escape-both : (v w : List ℕ) → escape v ≡ v → escape w ≡ w → escape (v ++ w) ≡ v ++ w
+-- what is written as it is, one after another
+pub escape-both : (v w : List ℕ) → escape v ≡ v → escape w ≡ w → escape (v ++ w) ≡ v ++ w
 escape-both v w e f = escape-append v w ∙ rw (e, f)
 
 module _ (c : ℕ) (e : escape (c ∷ []) ≡ c ∷ []) where

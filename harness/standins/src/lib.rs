@@ -1,4 +1,7 @@
 //! Stand-ins for serde_yaml's ordered map, unicase, bitflags, and Unicode 16.0.0 behind the calls of `char` and `str`.
+use std::collections::hash_map::{DefaultHasher, HashMap};
+use std::hash::BuildHasherDefault;
+
 include!(concat!(env!("OUT_DIR"), "/tables.rs"));
 
 // ---- Unicode 16.0.0, by the tables of data/unicode
@@ -9,15 +12,22 @@ fn member(table: &[(u32, u32)], c: char) -> bool {
     i < table.len() && table[i].0 <= c
 }
 
+/// The folding of a string, character by character.
+fn folded(s: &str) -> impl Iterator<Item = u32> + '_ {
+    s.chars().flat_map(|c| {
+        let (itself, folding): (_, &[u32]) = match c as u32 {
+            a if a < 0x80 => (Some(c.to_ascii_lowercase() as u32), &[]),
+            n => match FOLDING.binary_search_by_key(&n, |r| r.0) {
+                Ok(i) => (None, FOLDING[i].1),
+                Err(_) => (Some(n), &[]),
+            },
+        };
+        itself.into_iter().chain(folding.iter().copied())
+    })
+}
+
 pub fn fold(s: &str) -> Vec<u32> {
-    let mut out = Vec::new();
-    for c in s.chars() {
-        match FOLDING.binary_search_by_key(&(c as u32), |r| r.0) {
-            Ok(i) => out.extend_from_slice(FOLDING[i].1),
-            Err(_) => out.push(c as u32),
-        }
-    }
-    out
+    folded(s).collect()
 }
 
 pub trait Char16: Copy {
@@ -50,17 +60,26 @@ impl Str16 for str {
 
 // ---- unicase
 
-pub struct UniCase<S>(S);
+/// As in unicase, names of ASCII are told at the start, and nothing is stored for a comparison.
+pub struct UniCase<S> {
+    name: S,
+    ascii: bool,
+}
 
 impl<S: AsRef<str>> UniCase<S> {
-    pub fn new(s: S) -> Self {
-        UniCase(s)
+    pub fn new(name: S) -> Self {
+        let ascii = name.as_ref().is_ascii();
+        UniCase { name, ascii }
     }
 }
 
 impl<S: AsRef<str>, T: AsRef<str>> PartialEq<UniCase<T>> for UniCase<S> {
     fn eq(&self, other: &UniCase<T>) -> bool {
-        fold(self.0.as_ref()) == fold(other.0.as_ref())
+        let (a, b) = (self.name.as_ref(), other.name.as_ref());
+        if self.ascii && other.ascii {
+            return a.eq_ignore_ascii_case(b);
+        }
+        folded(a).eq(folded(b))
     }
 }
 
@@ -78,25 +97,29 @@ impl Value {
     }
 }
 
-/// An insert of a key that is there keeps its place and takes the new value.
+/// An insert of a key that is there keeps its place and takes the new value. As there, keys are found by their hash.
 #[derive(Debug, Clone, PartialEq, Default)]
-pub struct Mapping(Vec<(Value, Value)>);
+pub struct Mapping {
+    entries: Vec<(Value, Value)>,
+    places: HashMap<String, usize, BuildHasherDefault<DefaultHasher>>,
+}
 
 impl Mapping {
     pub fn insert(&mut self, key: Value, value: Value) -> Option<Value> {
-        match self.0.iter_mut().find(|e| e.0 == key) {
-            Some(e) => Some(std::mem::replace(&mut e.1, value)),
+        match self.places.get(key.as_str()) {
+            Some(&i) => Some(std::mem::replace(&mut self.entries[i].1, value)),
             None => {
-                self.0.push((key, value));
+                self.places.insert(key.as_str().to_string(), self.entries.len());
+                self.entries.push((key, value));
                 None
             }
         }
     }
     pub fn get(&self, key: &str) -> Option<&Value> {
-        self.0.iter().find(|e| e.0.as_str() == key).map(|e| &e.1)
+        self.places.get(key).map(|&i| &self.entries[i].1)
     }
     pub fn iter(&self) -> impl Iterator<Item = &(Value, Value)> {
-        self.0.iter()
+        self.entries.iter()
     }
 }
 

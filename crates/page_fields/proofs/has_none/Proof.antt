@@ -1,5 +1,3 @@
-use borrow.Author.Needs.{needs}
-use native.Mathlib.Omega.{arith}
 use Rattle.components.specs.Views.{modifiersIn}
 use Rattle.page_fields.proofs.Letters.{some-recipe, some-ref, some-hidden, some-opt, some-new}
 use Rattle.page_fields.proofs.has_none.Statement.{statement}

@@ -1,5 +1,4 @@
 use borrow.Author.Needs.{needs}
-use native.Mathlib.Omega.{arith}
 use Rattle.page_fields.proofs.Amounts.{scalable-other, scalable-number, scalable-range, scalable-textual}
 use Rattle.page_fields.proofs.is_scalable.Statement.{statement}
 use Rattle.page_fields.proofs.is_scalable.Tie as tie

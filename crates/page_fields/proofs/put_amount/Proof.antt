@@ -1,5 +1,4 @@
 use borrow.Author.Needs.{needs}
-use native.Mathlib.Omega.{arith}
 use Rattle.page_fields.proofs.Amounts.{amount-absent, amount-fields, amount-present}
 use Rattle.page_fields.proofs.put_amount.Statement.{statement}
 use Rattle.page_fields.proofs.put_amount.Tie as tie

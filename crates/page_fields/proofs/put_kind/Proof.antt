@@ -1,5 +1,4 @@
 use borrow.Author.Needs.{needs}
-use native.Mathlib.Omega.{arith}
 use Rattle.page_fields.proofs.Amounts.{kind-number, kind-range, kind-textual}
 use Rattle.page_fields.proofs.put_kind.Statement.{statement}
 use Rattle.page_fields.proofs.put_kind.Tie as tie

@@ -1,5 +1,4 @@
 use borrow.Author.Needs.{needs}
-use native.Mathlib.Omega.{arith}
 use Rattle.page_fields.proofs.Letters.{letter-set, letter-none, letter-past}
 use Rattle.page_fields.proofs.put_letter.Statement.{statement}
 use Rattle.page_fields.proofs.put_letter.Tie as tie

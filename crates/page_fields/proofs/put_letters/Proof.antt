@@ -1,5 +1,4 @@
 use borrow.Author.Needs.{needs}
-use native.Mathlib.Omega.{arith}
 use Rattle.components.specs.Views.{modifiersIn}
 use Rattle.page_fields.proofs.Letters as laws
 use Rattle.page_fields.proofs.put_letters.Statement.{statement}

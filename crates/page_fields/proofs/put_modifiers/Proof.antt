@@ -1,5 +1,4 @@
 use borrow.Author.Needs.{needs}
-use native.Mathlib.Omega.{arith}
 use Rattle.page_fields.proofs.Letters.{put-point, put-some}
 use Rattle.page_fields.proofs.put_modifiers.Statement.{statement}
 use Rattle.page_fields.proofs.put_modifiers.Tie as tie

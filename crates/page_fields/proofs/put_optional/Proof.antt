@@ -1,5 +1,4 @@
 use borrow.Author.Needs.{needs}
-use native.Mathlib.Omega.{arith}
 use Rattle.page_fields.proofs.Contents.{put-absent, put-present}
 use Rattle.page_fields.proofs.put_optional.Statement.{statement}
 use Rattle.page_fields.proofs.put_optional.Tie as tie

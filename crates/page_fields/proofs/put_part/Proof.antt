@@ -1,5 +1,4 @@
 use borrow.Author.Needs.{needs}
-use native.Mathlib.Omega.{arith}
 use Rattle.page_fields.proofs.Contents.{put-content}
 use Rattle.page_fields.proofs.put_part.Statement.{statement}
 use Rattle.page_fields.proofs.put_part.Tie as tie

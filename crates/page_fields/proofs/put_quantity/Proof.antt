@@ -1,5 +1,4 @@
 use borrow.Author.Needs.{needs}
-use native.Mathlib.Omega.{arith}
 use Rattle.page_fields.proofs.Amounts as amounts
 use Rattle.page_fields.proofs.put_quantity.Statement.{statement}
 use Rattle.page_fields.proofs.put_quantity.Tie as tie

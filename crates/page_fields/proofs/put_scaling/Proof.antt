@@ -1,5 +1,4 @@
 use borrow.Author.Needs.{needs}
-use native.Mathlib.Omega.{arith}
 use Rattle.page_fields.proofs.Amounts.{scaling-yes, scaling-no}
 use Rattle.page_fields.proofs.put_scaling.Statement.{statement}
 use Rattle.page_fields.proofs.put_scaling.Tie as tie

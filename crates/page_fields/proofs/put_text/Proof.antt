@@ -1,5 +1,4 @@
 use borrow.Author.Needs.{needs}
-use native.Mathlib.Omega.{arith}
 use Rattle.parts.specs.Views.{textIn}
 use Rattle.known_events.specs.Fields.{TextField}
 use Rattle.page_fields.proofs.put_text.Statement.{statement}

@@ -1,0 +1,4 @@
+pub mod Relations
+pub mod Names
+pub mod Own
+pub mod Rows

@@ -1,0 +1,4 @@
+pub mod Arms
+pub mod Sections
+pub mod Drawing
+pub mod Lines

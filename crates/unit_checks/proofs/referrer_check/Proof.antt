@@ -1,0 +1,105 @@
+use borrow.Author.Needs.{needs}
+use native.Mathlib.Omega.{arith}
+use Prim.Native.Nat.{_-_}
+use Rattle.rules.specs.Units.{readUnits}
+use Rattle.rules.specs.Answer.{unitsOr}
+use Rattle.unit_checks.proofs.Units.{Going, going-start, going-room, going-ready, going-past, going-end, going-less, going-turn}
+use Rattle.unit_checks.proofs.referrer_check.Statement.{statement}
+use Rattle.unit_checks.proofs.referrer_check.Tie as tie
+use Rattle.unit_checks.proofs.referrer_check.Reads as reads
+use Rattle.unit_checks.proofs.referrer_check.Lts as lts
+use Rattle.model.proofs.next_referrer.Reads as next-referrer-reads
+use Rattle.unit_checks.proofs.unit_against.Reads as unit-against-reads
+
+abbrev Inv-loop : tie.InvT-loop
+Inv-loop t units words₀ sheet line a d n definition k₀ from₀ words k from = Going (unitsOr (readUnits units)) sheet line a d words₀ k₀ words k from
+
+abbrev μ-loop : tie.MeasureT-loop
+μ-loop t units words₀ sheet line a d n definition k₀ from₀ words k from = n - from
+
+-- src/lib.rt:93:22
+cast-definition : tie.Need-cast-definition Inv-loop μ-loop
+cast-definition c = omega (arith, c .before .before .before .before .before .pre .5, c .before .before .before .before .before .pre .3 .room .ingredients)
+
+-- src/lib.rt:96:5
+loop-holds : tie.Need-loop-holds Inv-loop μ-loop
+loop-holds c = going-start (c .before .before .before .before .before .pre .3) (c .before .before .before .before .before .pre .4) (c .before .before .before .before .before .pre .6)
+
+-- src/lib.rt:98:34
+sub-next-referrer : tie.Need-sub-next-referrer Inv-loop μ-loop
+sub-next-referrer c = omega (arith, c .before .loop .inv .sound .long)
+
+-- src/lib.rt:98:34
+part-next-referrer-start : tie.Need-part-next-referrer-start Inv-loop μ-loop
+part-next-referrer-start c = omega (arith, c .before .before .loop .inv .sound .long)
+
+-- src/lib.rt:98:34
+part-next-referrer-end : tie.Need-part-next-referrer-end Inv-loop μ-loop
+part-next-referrer-end c = omega (arith, c .before .before .loop .inv .sound .long)
+
+-- src/lib.rt:98:13
+next-referrer-requires : tie.Need-next-referrer-requires Inv-loop μ-loop
+next-referrer-requires c κs = going-ready (c .before .before .before .loop .inv) (c .before .before .before .before .before .before .before .before .before .pre .3)
+
+-- src/lib.rt:97:35
+enum-known-i : tie.Need-enum-known-i Inv-loop μ-loop
+enum-known-i c = search needs
+
+-- src/lib.rt:100:13
+enum-told : tie.Need-enum-told Inv-loop μ-loop
+enum-told c = search needs
+
+-- src/lib.rt:100:13
+same-length : tie.Need-same-length Inv-loop μ-loop
+same-length c = omega (arith, c .before .before .before .before .before .before .loop .inv .framed .long)
+
+-- src/lib.rt:100:13
+returns : tie.Need-returns Inv-loop μ-loop
+returns c = going-end (c .before .before .before .before .before .before .loop .inv) (c .before .before .next-referrer .ensures) (c .enum-told .given .1)
+
+-- src/lib.rt:102:62
+cast-unit-against : tie.Need-cast-unit-against Inv-loop μ-loop
+cast-unit-against c = search needs
+
+-- src/lib.rt:102:9
+unit-against-requires : tie.Need-unit-against-requires Inv-loop μ-loop
+unit-against-requires c κs = (c .before .before .before .before .before .before .before .before .before .before .before .before .before .before .pre .0, c .before .before .before .before .before .before .before .before .before .before .before .before .before .before .pre .1, c .before .before .before .before .before .before .before .before .before .before .before .before .before .before .pre .2, c .before .before .before .before .before .before .before .before .loop .inv .sound, c .before .before .before .before .before .before .before .before .loop .inv .fit, going-room (c .before .before .before .before .before .before .before .before .loop .inv) (c .before .before .before .before .before .before .before .loop-test .taken))
+
+-- src/lib.rt:96:5
+loop-less : tie.Need-loop-less Inv-loop μ-loop
+loop-less c = omega (arith, going-less (c .before .before .before .before .before .before .before .before .before .before .before .loop .inv) (c .before .before .before .before .before .before .before .next-referrer .ensures) _ _ (c .before .before .before .before .before .i .given .1), c .before .before .before .before .before .before .before .before .before .before .loop-test .taken)
+
+-- src/lib.rt:96:5
+loop-again : tie.Need-loop-again Inv-loop μ-loop
+loop-again c = going-turn (c .before .before .before .before .before .before .before .before .before .before .before .loop .inv) (c .before .before .before .before .before .before .before .next-referrer .ensures) _ _ (c .before .before .before .before .before .i .given .1) (c .before .before .before .before .before .before .before .before .before .before .loop-test .taken) (c .before .before .unit-against .ensures)
+
+-- src/lib.rt:79:1
+same-length-2 : tie.Need-same-length-2 Inv-loop μ-loop
+same-length-2 c = omega (arith, c .before .loop .inv .framed .long)
+
+-- src/lib.rt:79:1
+returns-2 : tie.Need-returns-2 Inv-loop μ-loop
+returns-2 c = going-past (c .before .loop .inv) (c .loop-test .left)
+
+pub referrer-check-spec : {M : Type 1} → statement M
+referrer-check-spec =
+    tie.close
+    (tie.spec
+    Inv-loop
+    μ-loop
+    cast-definition
+    loop-holds
+    sub-next-referrer
+    part-next-referrer-start
+    part-next-referrer-end
+    next-referrer-requires
+    enum-known-i
+    enum-told
+    same-length
+    returns
+    cast-unit-against
+    unit-against-requires
+    loop-less
+    loop-again
+    same-length-2
+    returns-2)

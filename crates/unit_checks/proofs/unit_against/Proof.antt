@@ -1,0 +1,102 @@
+use borrow.Author.Needs.{needs}
+use native.Mathlib.Omega.{arith}
+use Rattle.rules.specs.Model.{ingredient}
+use Rattle.unit_checks.proofs.Rows.{line-reads, line-whole}
+use Rattle.unit_checks.proofs.Units.{window-fits, row-none, row-within, row-checked}
+use Rattle.unit_checks.proofs.unit_against.Statement.{statement}
+use Rattle.unit_checks.proofs.unit_against.Tie as tie
+use Rattle.unit_checks.proofs.unit_against.Reads as reads
+use Rattle.unit_checks.proofs.unit_against.Lts as lts
+use Rattle.checks.proofs.unit_pair.Reads as unit-pair-reads
+use Rattle.model.proofs.row_at.Reads as row-at-reads
+use Rattle.recall.proofs.component_in.Reads as component-in-reads
+
+-- src/lib.rt:68:9
+returns : tie.Need-returns
+returns c = row-none (c .if1 .taken)
+
+-- src/lib.rt:70:27
+sub-row-at : tie.Need-sub-row-at
+sub-row-at c = search needs
+
+-- src/lib.rt:70:27
+part-row-at-start : tie.Need-part-row-at-start
+part-row-at-start c = search needs
+
+-- src/lib.rt:70:27
+part-row-at-end : tie.Need-part-row-at-end
+part-row-at-end c = search needs
+
+-- src/lib.rt:70:9
+row-at-requires : tie.Need-row-at-requires
+row-at-requires c κs = search needs
+
+-- src/lib.rt:71:14
+cast-at : tie.Need-cast-at
+cast-at c = search needs
+
+-- src/lib.rt:72:15
+cast-end : tie.Need-cast-end
+cast-end c = search needs
+
+-- src/lib.rt:73:34
+sub-component-in : tie.Need-sub-component-in
+sub-component-in c = let f = window-fits _ (c .before .before .before .before .before .before .before .before .before .before .before .args .i) (c .before .before .before .before .before .before .before .before .before .before .before .pre .4) (c .before .before .before .before .before .if1 .left) (c .before .before .row-at .ensures) in omega (arith, f .line, f .lineEnd)
+
+-- src/lib.rt:73:34
+part-component-in-start : tie.Need-part-component-in-start
+part-component-in-start c = let f = window-fits _ (c .before .before .before .before .before .before .before .before .before .before .before .args .i) (c .before .before .before .before .before .before .before .before .before .before .before .pre .4) (c .before .before .before .before .before .if1 .left) (c .before .before .row-at .ensures) in omega (arith, f .line, f .lineEnd)
+
+-- src/lib.rt:73:34
+part-component-in-end : tie.Need-part-component-in-end
+part-component-in-end c = let f = window-fits _ (c .before .before .before .before .before .before .before .before .before .before .before .args .i) (c .before .before .before .before .before .before .before .before .before .before .before .pre .4) (c .before .before .before .before .before .if1 .left) (c .before .before .row-at .ensures) in omega (arith, f .line, f .lineEnd)
+
+-- src/lib.rt:73:9
+component-in-requires : tie.Need-component-in-requires
+component-in-requires c κs = let f = window-fits _ (c .before .before .before .before .before .before .before .before .before .before .before .before .args .i) (c .before .before .before .before .before .before .before .before .before .before .before .before .pre .4) (c .before .before .before .before .before .before .if1 .left) (c .before .before .before .row-at .ensures) in let reads = line-reads ingredient f in let whole = line-whole ingredient f in search needs
+
+-- src/lib.rt:75:52
+sub-unit-pair : tie.Need-sub-unit-pair
+sub-unit-pair c = let f = window-fits _ (c .before .before .before .before .before .before .before .before .before .before .before .before .before .before .args .i) (c .before .before .before .before .before .before .before .before .before .before .before .before .before .before .pre .4) (c .before .before .before .before .before .before .before .before .if1 .left) (c .before .before .before .before .before .row-at .ensures) in omega (arith, f .line, f .lineEnd)
+
+-- src/lib.rt:75:52
+part-unit-pair-start : tie.Need-part-unit-pair-start
+part-unit-pair-start c = let f = window-fits _ (c .before .before .before .before .before .before .before .before .before .before .before .before .before .before .args .i) (c .before .before .before .before .before .before .before .before .before .before .before .before .before .before .pre .4) (c .before .before .before .before .before .before .before .before .if1 .left) (c .before .before .before .before .before .row-at .ensures) in omega (arith, f .line, f .lineEnd)
+
+-- src/lib.rt:75:52
+part-unit-pair-end : tie.Need-part-unit-pair-end
+part-unit-pair-end c = let f = window-fits _ (c .before .before .before .before .before .before .before .before .before .before .before .before .before .before .args .i) (c .before .before .before .before .before .before .before .before .before .before .before .before .before .before .pre .4) (c .before .before .before .before .before .before .before .before .if1 .left) (c .before .before .before .before .before .row-at .ensures) in omega (arith, f .line, f .lineEnd)
+
+-- src/lib.rt:75:5
+unit-pair-requires : tie.Need-unit-pair-requires
+unit-pair-requires c κs = (c .before .before .before .before .before .before .before .before .before .before .before .before .before .before .before .pre .0, c .before .before .before .before .before .before .before .before .before .before .before .before .before .before .before .pre .1, c .before .before .before .before .before .before .before .before .before .before .before .before .before .before .before .pre .2, row-within (c .before .before .before .before .before .before .before .before .before .before .before .before .before .before .before .args .i) (c .before .before .before .before .before .before .before .before .before .before .before .before .before .before .before .pre .4) (c .before .before .before .before .before .before .before .before .before .if1 .left) (c .before .before .before .before .before .before .row-at .ensures) (c .before .before .component-in .ensures), c .before .before .before .before .before .before .before .before .before .before .before .before .before .before .before .pre .3, c .before .before .before .before .before .before .before .before .before .before .before .before .before .before .before .pre .5)
+
+-- src/lib.rt:53:1
+same-length : tie.Need-same-length
+same-length c = search needs
+
+-- src/lib.rt:53:1
+returns-2 : tie.Need-returns-2
+returns-2 c = row-checked (c .before .before .before .before .before .before .before .before .before .before .before .before .before .before .before .before .before .before .args .i) (c .before .before .before .before .before .before .before .before .before .before .before .before .before .before .before .before .before .before .pre .4) (c .before .before .before .before .before .before .before .before .before .before .before .before .if1 .left) (c .before .before .before .before .before .before .before .before .before .row-at .ensures) (c .before .before .before .before .before .component-in .ensures) (c .before .before .unit-pair .ensures)
+
+pub unit-against-spec : {M : Type 1} → statement M
+unit-against-spec =
+    tie.close
+    (tie.spec
+    returns
+    sub-row-at
+    part-row-at-start
+    part-row-at-end
+    row-at-requires
+    cast-at
+    cast-end
+    sub-component-in
+    part-component-in-start
+    part-component-in-end
+    component-in-requires
+    sub-unit-pair
+    part-unit-pair-start
+    part-unit-pair-end
+    unit-pair-requires
+    same-length
+    returns-2)

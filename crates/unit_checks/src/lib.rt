@@ -1,0 +1,214 @@
+// The checks after a reference: the unit check over a definition and its references (15 to 17), then those of notes and
+// quantities (18 to 20).
+use components::ComponentView;
+use lookup::Same;
+use model::Held;
+use model::Relation;
+use model::RelationRecord;
+use model::Row;
+use parts::OptQuantity;
+ghost use mathlib.Core.Path.{_≡_};
+ghost use mathlib.Core.Bool.{true};
+ghost use Prim.Native.Nat.{_+_, _<_, _≤_};
+ghost use lib.ListN.{length};
+ghost use Rattle.rules.specs.Basic.{isSome};
+ghost use Rattle.rules.specs.Units.{readUnits};
+ghost use Rattle.rules.specs.Answer.{unitsOr};
+ghost use Rattle.unicode.specs.Tables.{unicodeTables};
+ghost use Rattle.parts.specs.Views.{OptQuantityWithin};
+ghost use Rattle.components.specs.Views.{ComponentWithin};
+ghost use Rattle.model.specs.Rows.{rowAt, rowOf};
+ghost use Rattle.model.specs.Memory.{Sound};
+ghost use Rattle.model.specs.Fits.{AllFit};
+ghost use Rattle.memory.specs.Pushes.{countOf};
+ghost use Rattle.lookup.specs.Names.{kindOf, rowsIn};
+ghost use Rattle.unit_checks.specs.Checked.{roomOf, InStep, SameBelow, RowChecked, ReferrersChecked, UnitChecked, UnitsAfter, EntryChecked, ChecksDone};
+
+// ---- rows
+
+// The row i of a kind.
+pub fn kind_row(words: &[u32], is_ingredient: bool, i: usize) -> Row
+    requires { ⌜ (24157 ≤ length (now words)) × (i < roomOf (kindOf «is_ingredient»)) ⌝ }
+    ensures { λ r. ⌜ r ≡ rowOf (rowAt 12 (rowsIn (kindOf «is_ingredient») (now (words .entry))) i) ⌝ }
+{
+    if is_ingredient {
+        return model::row_at(&words[0..6156], i);
+    }
+    model::row_at(&words[6156..9240], i)
+}
+
+fn in_step(r: RelationRecord) -> bool
+    ensures { λ b. ⌜ InStep r b ⌝ }
+{
+    let e = r.relation;
+    match e {
+        Relation::Definition => r.in_step,
+        Relation::Reference(t) => true,
+    }
+}
+
+// ---- units
+
+// The unit of a new ingredient's quantity `a`, of its line, against that of the row i; nothing where there is no such row.
+fn unit_against(
+    t: &[u32],
+    units: &[u8],
+    words: &mut [u32],
+    h: Held,
+    sheet: &[u8],
+    line: &[u8],
+    a: OptQuantity,
+    i: usize,
+) -> Held
+    requires { ⌜ (now t ≡ unicodeTables) × (isSome (readUnits (now units)) ≡ true) × OptQuantityWithin (now line) a × Sound (now words) h × AllFit (now sheet) (now words) h × (h .counts .findings < 1544) ⌝ }
+    ensures { λ r. ⌜ RowChecked (unitsOr (readUnits (now (units .entry)))) (now (sheet .entry)) (now (line .entry)) a i (now (words .entry)) h (now (words .exit)) r ⌝ }
+{
+    let n = h.counts.ingredients;
+    if n <= i {
+        return h;
+    }
+    let r = model::row_at(&words[0..6156], i);
+    let at = r.line_at as usize;
+    let end = r.line_end as usize;
+    let v = recall::component_in(&sheet[at..end]);
+    let b = v.quantity;
+    checks::unit_pair(t, units, words, h, line, a, &sheet[at..end], b)
+}
+
+// Against those of all rows that refer to the row d, oldest first.
+fn referrer_check(
+    t: &[u32],
+    units: &[u8],
+    words: &mut [u32],
+    h: Held,
+    sheet: &[u8],
+    line: &[u8],
+    a: OptQuantity,
+    d: usize,
+) -> Held
+    requires { ⌜ (now t ≡ unicodeTables) × (isSome (readUnits (now units)) ≡ true) × OptQuantityWithin (now line) a × Sound (now words) h × AllFit (now sheet) (now words) h × (d < h .counts .ingredients) × (h .counts .findings + h .counts .«ingredient_pairs» ≤ 1544) ⌝ }
+    ensures { λ r. ⌜ ReferrersChecked (unitsOr (readUnits (now (units .entry)))) (now (sheet .entry)) (now (line .entry)) a d (now (words .entry)) h (now (words .exit)) r ⌝ }
+{
+    let n = h.counts.ingredient_pairs;
+    let definition = d as u32;
+    let mut k = h;
+    let mut from = 0;
+    while from < n {
+        let model::Next::Referrer(i, next) = model::next_referrer(
+            &words[9240..10266],
+            n,
+            definition,
+            from,
+        ) else {
+            return k;
+        };
+        k = unit_against(t, units, words, k, sheet, line, a, i as usize);
+        from = next;
+    }
+    k
+}
+
+// Against that of the definition at d, then those of all that refer to it.
+pub fn unit_check(
+    t: &[u32],
+    units: &[u8],
+    words: &mut [u32],
+    h: Held,
+    sheet: &[u8],
+    line: &[u8],
+    a: OptQuantity,
+    d: usize,
+) -> Held
+    requires { ⌜ (now t ≡ unicodeTables) × (isSome (readUnits (now units)) ≡ true) × OptQuantityWithin (now line) a × Sound (now words) h × AllFit (now sheet) (now words) h × (d < h .counts .ingredients) × (h .counts .findings + h .counts .«ingredient_pairs» < 1544) ⌝ }
+    ensures { λ r. ⌜ UnitChecked (unitsOr (readUnits (now (units .entry)))) (now (sheet .entry)) (now (line .entry)) a d (now (words .entry)) h (now (words .exit)) r ⌝ }
+{
+    let r = model::row_at(&words[0..6156], d);
+    let g = r.relation;
+    let e = g.relation;
+    let k = unit_against(t, units, words, h, sheet, line, a, d);
+    match e {
+        Relation::Definition => referrer_check(t, units, words, k, sheet, line, a, d),
+        Relation::Reference(x) => k,
+    }
+}
+
+// ---- after a reference
+
+// The unit check is for ingredients, with flag 4.
+fn units_after(
+    t: &[u32],
+    units: &[u8],
+    flags: u32,
+    words: &mut [u32],
+    h: Held,
+    sheet: &[u8],
+    line: &[u8],
+    is_ingredient: bool,
+    a: OptQuantity,
+    d: usize,
+) -> Held
+    requires { ⌜ (now t ≡ unicodeTables) × (isSome (readUnits (now units)) ≡ true) × OptQuantityWithin (now line) a × Sound (now words) h × AllFit (now sheet) (now words) h × (d < countOf (kindOf «is_ingredient») h) × (h .counts .findings + h .counts .«ingredient_pairs» < 1544) ⌝ }
+    ensures { λ r. ⌜ UnitsAfter (unitsOr (readUnits (now (units .entry)))) flags (kindOf «is_ingredient») (now (sheet .entry)) (now (line .entry)) a d (now (words .entry)) h (now (words .exit)) r ⌝ }
+{
+    if !is_ingredient {
+        return h;
+    }
+    let bit = flags / 4 % 2;
+    if bit == 1 {
+        return unit_check(t, units, words, h, sheet, line, a, d);
+    }
+    h
+}
+
+// The checks of notes and quantities against the row d.
+fn entry_check(
+    words: &mut [u32],
+    h: Held,
+    sheet: &[u8],
+    line: &[u8],
+    is_ingredient: bool,
+    v: ComponentView,
+    d: usize,
+) -> Held
+    requires { ⌜ ComponentWithin (now line) v × Sound (now words) h × AllFit (now sheet) (now words) h × (d < countOf (kindOf «is_ingredient») h) × (h .counts .findings + 2 < 1544) ⌝ }
+    ensures { λ r. ⌜ EntryChecked (kindOf «is_ingredient») (now (sheet .entry)) (now (line .entry)) v d (now (words .entry)) h (now (words .exit)) r ⌝ }
+{
+    let r = kind_row(words, is_ingredient, d);
+    let g = r.relation;
+    let inside = in_step(g);
+    let at = r.line_at as usize;
+    let end = r.line_end as usize;
+    let o = recall::component_in(&sheet[at..end]);
+    let implicit = !v.modifiers.reference;
+    let note = v.note;
+    let a = v.quantity;
+    let old = o.note;
+    let b = o.quantity;
+    checks::reference_checks(words, h, implicit, inside, note, a, o.span, old, b)
+}
+
+// All checks after a reference to the row `to`, or none.
+pub fn checks_after(
+    t: &[u32],
+    units: &[u8],
+    flags: u32,
+    words: &mut [u32],
+    h: Held,
+    sheet: &[u8],
+    line: &[u8],
+    is_ingredient: bool,
+    v: ComponentView,
+    to: Same,
+) -> Held
+    requires { ⌜ (now t ≡ unicodeTables) × (isSome (readUnits (now units)) ≡ true) × ComponentWithin (now line) v × Sound (now words) h × AllFit (now sheet) (now words) h × SameBelow (kindOf «is_ingredient») h to × (h .counts .findings + h .counts .«ingredient_pairs» + 3 < 1544) ⌝ }
+    ensures { λ r. ⌜ ChecksDone (unitsOr (readUnits (now (units .entry)))) flags (kindOf «is_ingredient») (now (sheet .entry)) (now (line .entry)) v to (now (words .entry)) h (now (words .exit)) r ⌝ }
+{
+    match to {
+        Same::Nothing => h,
+        Same::At(d) => {
+            let a = v.quantity;
+            let k = units_after(t, units, flags, words, h, sheet, line, is_ingredient, a, d);
+            entry_check(words, k, sheet, line, is_ingredient, v, d)
+        }
+    }
+}
