@@ -38,6 +38,7 @@ use Rattle.events.specs.declared.Inside.the-variants as inside
 use Rattle.model.specs.Blank.{blank, blankStep, blankPlace, blankKept, blankTables, blankMetadata, blankOpen, blankBlock}
 use Rattle.model.specs.Rows.{findingOf, blockOf}
 use Rattle.model.specs.Memory.{defineOf, openOf, stateOf, stateIn, Sound}
+use Rattle.model.specs.Fits.{AllFit}
 use Rattle.model.specs.Small.{withBlock, withItems}
 use Rattle.model.specs.declared.Define.{Define}
 use Rattle.model.specs.declared.Define.the-variants.{All, Components, Steps, Text}
@@ -48,9 +49,10 @@ use Rattle.model.specs.declared.Held.{Held}
 use Rattle.model.proofs.Blanks.{blank-report}
 use Rattle.memory.specs.Pushes.{FindingPushed, BlockKept, SectionBegun}
 use Rattle.memory.proofs.Smalls.{state-blank, with-block}
+use Rattle.memory.proofs.Bounds.{fit-block}
 use Rattle.blocks.specs.declared.Passed.{Passed}
 use Rattle.blocks.specs.declared.Passed.the-variants.{Next, Stop}
-use Rattle.blocks.specs.Lined.{Told, Went, stepIn, SoundStep, Stepped, startBlock, OpenNow, SectionDone, ItemsPushed, SpanOf, InTextBlock, InTextMode, kindOpen, StepEnded, ComponentInText}
+use Rattle.blocks.specs.Lined.{Told, Went, stepIn, SoundStep, FitStep, Stepped, startBlock, OpenNow, SectionDone, ItemsPushed, SpanOf, InTextBlock, InTextMode, kindOpen, StepEnded, ComponentInText}
 
 -- ---- another open block, and other items
 
@@ -184,8 +186,8 @@ section-named {n = n} t e s = section-as n s (λ line. rw e)
 
 -- ---- findings
 
-pub went-told : {f : State → State} {w : List ℕ} {h₀ h : Held} → Told f h₀ h → Sound w h₀ → Went f w h₀ w h
-went-told {w = w} g z = record { is = λ sheet. g .is sheet w; sound = g .sound w z }
+pub went-told : {f : State → State} {w : List ℕ} {h₀ h : Held} → Told f h₀ h → Sound w h₀ → ((sheet : List ℕ) → AllFit sheet w h₀ → AllFit sheet w h) → Went f w h₀ w h
+went-told {w = w} g z a = record { is = λ sheet. g .is sheet w; sound = g .sound w z; fit = a }
 
 -- one finding after what f does
 pub went-found : {f : State → State} {w₀ w₁ w : List ℕ} {h₀ h₁ h : Held} {x : Noted} {d : Finding} → Went f w₀ h₀ w₁ h₁ → FindingPushed w₁ h₁ x w h → findingOf x ≡ d → Went (λ st. report (d ∷ []) (f st)) w₀ h₀ w h
@@ -193,11 +195,12 @@ went-found {f} {w₀} {w₁} {h₀ = h₀} {h₁ = h₁} {d = d} g p e =
     record {
       is = λ sheet. p .is sheet ∙ (ap (λ (y : Finding). report (y ∷ []) (stateIn sheet w₁ h₁)) e ∙ (ap (report (d ∷ [])) (g .is sheet) ∙ sym (blank-report (d ∷ []) (f (stateIn sheet w₀ h₀)))));
       sound = p .sound;
+      fit = λ sheet a. p .fit sheet (g .fit sheet a);
     }
 
 -- nothing is done
 pub went-none : {w : List ℕ} {h : Held} → Sound w h → Went (λ st. st) w h w h
-went-none {w} {h} z = record { is = λ sheet. sym (state-blank sheet w h); sound = z }
+went-none {w} {h} z = record { is = λ sheet. sym (state-blank sheet w h); sound = z; fit = λ sheet a. a }
 
 pub found-one : {w₀ w : List ℕ} {h₀ h : Held} {x : Noted} {d : Finding} → Sound w₀ h₀ → FindingPushed w₀ h₀ x w h → findingOf x ≡ d → Went (report (d ∷ [])) w₀ h₀ w h
 found-one z p e = went-found (went-none z) p e
@@ -232,26 +235,36 @@ items-is : (sheet w : List ℕ) (h : Held) (new : List Item) (m : ℕ) → pick 
 items-is sheet w h new m e =
     sym (items-blank new (stateIn sheet w h) m (rw (define-of sheet w h, items-of sheet w h) e) ∙ (ap (itemsAs m) (state-blank sheet w h) ∙ items-with sheet w h m))
 
-module _ {h r : Held} {n : ℕ} (l : h .counts .items + n ≤ 100000) {b : Bool} (e : b ≡ isComponents (defineOf (h .define))) where
-  pub items-dropped : b ≡ true → r ≡ withBlock StepBlock h → ItemsPushed n h r
-  items-dropped t q =
-      rw q
-      record {
-        by = λ new j. record {
-          is = λ sheet w. items-is sheet w h new (h .counts .items) (rw (sym e ∙ t));
-          sound = λ w z. sound-block StepBlock z;
-        };
-      }
+module _ {d : Define} (i m : ℕ) where
+  pub after-all : d ≡ All → m ≡ pick (isComponents (defineOf d)) i m
+  unfolding isComponents defineOf
+  after-all e = rw e
 
-  pub items-counted : b ≡ false → r ≡ withItems (h .counts .items + n) (withBlock StepBlock h) → ItemsPushed n h r
-  items-counted t q =
-      rw q
-      record {
-        by = λ new j. record {
-          is = λ sheet w. items-is sheet w h new (h .counts .items + n) (rw (sym e ∙ t) (omega (arith, j)));
-          sound = λ w z. sound-items StepBlock (h .counts .items + n) l z;
-        };
-      }
+  pub after-components : d ≡ Components → i ≡ pick (isComponents (defineOf d)) i m
+  unfolding isComponents defineOf
+  after-components e = rw e
+
+  pub after-steps : d ≡ Steps → m ≡ pick (isComponents (defineOf d)) i m
+  unfolding isComponents defineOf
+  after-steps e = rw e
+
+  pub after-text : d ≡ Text → m ≡ pick (isComponents (defineOf d)) i m
+  unfolding isComponents defineOf
+  after-text e = rw e
+
+most-items : (b : Bool) (i m k : ℕ) → i ≤ k → m ≤ k → pick b i m ≤ k
+most-items true i m k p q = p
+most-items false i m k p q = q
+
+pub items-pushed : {h r : Held} {n x : ℕ} → h .counts .items + n ≤ 100000 → x ≡ pick (isComponents (defineOf (h .define))) (h .counts .items) (h .counts .items + n) → r ≡ withItems x (withBlock StepBlock h) → ItemsPushed n h r
+items-pushed {h} {r} {n} {x} l e q =
+    rw q
+    record {
+      by = λ new j. record {
+        is = λ sheet w. items-is sheet w h new x (ap (pick (isComponents (defineOf (h .define))) (h .counts .items)) (omega (arith, j)) ∙ sym e);
+        sound = λ w z. sound-items StepBlock x (rw e (most-items (isComponents (defineOf (h .define))) (h .counts .items) (h .counts .items + n) 100000 (omega (arith, l)) l)) z;
+      };
+    }
 
 -- ---- blocks closed
 
@@ -273,6 +286,7 @@ text-kept {w₀} {h₀ = h₀} k =
     record {
       is = λ sheet. keep-is k (textBlock []) refl sheet ∙ ap (λ (n : ℕ). blank (keepBlock (textBlock []) n (stateIn sheet w₀ h₀))) (sym (counter-of sheet w₀ h₀));
       sound = k .sound;
+      fit = k .fit;
     }
 
 close-kept : (st : State) → isComponents (st .modes .define) ≡ false → closeStep [] st ≡ keepBlock (stepBlock (st .place .stepCounter) []) (suc (st .place .stepCounter)) st
@@ -299,7 +313,7 @@ module _ {w₀ w : List ℕ} {h₀ h : Held} {b : Bool} (e : b ≡ isComponents 
       g ∙ ap blank (sym (close-kept (stateIn sheet w₀ h₀) (components-of sheet w₀ h₀ e t)))
 
   pub step-kept : b ≡ false → BlockKept w₀ h₀ 1 (h₀ .counts .counter + 1) w h → Went (closeStep []) w₀ h₀ w h
-  step-kept t k = record { is = step-kept-is t k; sound = k .sound }
+  step-kept t k = record { is = step-kept-is t k; sound = k .sound; fit = k .fit }
 
 module _ {w : List ℕ} {h₀ h : Held} {b : Bool} (e : b ≡ isComponents (defineOf (h₀ .define))) where
   pub step-dropped : b ≡ true → Sound w h₀ → h ≡ withBlock Nothing h₀ → Went (closeStep []) w h₀ w h
@@ -309,17 +323,18 @@ module _ {w : List ℕ} {h₀ h : Held} {b : Bool} (e : b ≡ isComponents (defi
       record {
         is = λ sheet. block-is sheet w h₀ Nothing noBlock refl ∙ ap blank (sym (close-dropped (stateIn sheet w h₀) (components-of sheet w h₀ e t)));
         sound = sound-block Nothing z;
+        fit = λ sheet a. fit-block a Nothing;
       }
 
 -- ---- lines in a block
 
 pub stepped : {f : State → State} {w₀ w : List ℕ} {h₀ h : Held} → Went f w₀ h₀ w h → Stepped (λ st. next (f st)) w₀ h₀ w (Next h)
-unfolding stepIn SoundStep blankStep
-stepped g = record { is = λ sheet. ap next (g .is sheet); sound = g .sound }
+unfolding stepIn SoundStep FitStep blankStep
+stepped g = record { is = λ sheet. ap next (g .is sheet); sound = g .sound; fit = g .fit }
 
 pub stopped : {w₀ w : List ℕ} {h₀ : Held} (n : ℕ) → Stepped (λ st. stop n) w₀ h₀ w (Stop n)
-unfolding stepIn SoundStep blankStep
-stopped n = record { is = λ sheet. refl; sound = tt }
+unfolding stepIn SoundStep FitStep blankStep
+stopped n = record { is = λ sheet. refl; sound = tt; fit = λ sheet a. tt }
 
 module _ {w₀ w : List ℕ} {h₀ : Held} {k : BlockKind} where
   pub step-ended : {h : Held} → k ≡ block.Step → Went (closeStep []) w₀ h₀ w h → StepEnded k w₀ h₀ w (Next h)
@@ -354,11 +369,11 @@ module _ {w₀ w : List ℕ} {h₀ : Held} {e : Inside} where
 module _ {w : List ℕ} {h₀ h : Held} {e : Inside} (z : Sound w h₀) (t : TextView) (p : e ≡ inside.Text t) where
   pub text-more : h ≡ withBlock TextBlock h₀ → InTextBlock e w h₀ w (Next h)
   unfolding inTextBlock insideIn blankOpen openOf
-  text-more q = rw (p, q) record { at = λ line. stepped (record { is = λ sheet. block-is sheet w h₀ TextBlock _ refl; sound = sound-block TextBlock z }) }
+  text-more q = rw (p, q) record { at = λ line. stepped (record { is = λ sheet. block-is sheet w h₀ TextBlock _ refl; sound = sound-block TextBlock z; fit = λ sheet a. fit-block a TextBlock }) }
 
   pub mode-more : h ≡ withBlock TextMode h₀ → InTextMode e w h₀ w (Next h)
   unfolding inTextMode insideIn blankOpen openOf
-  mode-more q = rw (p, q) record { at = λ text line. stepped (record { is = λ sheet. block-is sheet w h₀ TextMode _ refl; sound = sound-block TextMode z }) }
+  mode-more q = rw (p, q) record { at = λ text line. stepped (record { is = λ sheet. block-is sheet w h₀ TextMode _ refl; sound = sound-block TextMode z; fit = λ sheet a. fit-block a TextMode }) }
 
 -- ---- the span of a component
 
@@ -387,5 +402,5 @@ pub mode-found : {w₀ w : List ℕ} {h₀ h₁ h : Held} {x : Noted} {s : Span}
 unfolding componentInText blankOpen openOf
 mode-found {w₀} {h₀ = h₀} {x = x} z s q p e =
     record {
-      at = λ text line. went-found (record { is = λ sheet. block-is sheet w₀ h₀ TextMode _ refl; sound = sound-block TextMode z }) (rw q at p) (rw (s .is line) at e);
+      at = λ text line. went-found (record { is = λ sheet. block-is sheet w₀ h₀ TextMode _ refl; sound = sound-block TextMode z; fit = λ sheet a. fit-block a TextMode }) (rw q at p) (rw (s .is line) at e);
     }

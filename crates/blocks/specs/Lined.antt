@@ -20,6 +20,7 @@ use Rattle.events.specs.declared.ComponentEvent.{ComponentEvent}
 use Rattle.events.specs.declared.Inside.{Inside}
 use Rattle.model.specs.Blank.{blank, blankStep}
 use Rattle.model.specs.Memory.{stateIn, Sound}
+use Rattle.model.specs.Fits.{AllFit}
 use Rattle.model.specs.declared.Open.{Open}
 use Rattle.model.specs.declared.Open.the-variants.{Step as StepBlock, Text as TextBlock}
 use Rattle.model.specs.declared.Held.{Held}
@@ -31,10 +32,11 @@ pub record Told (f : State → State) (h₀ h : Held) : Type 0 where
   pub is : (sheet w : List ℕ) → stateIn sheet w h ≡ blank (f (stateIn sheet w h₀))
   pub sound : (w : List ℕ) → Sound w h₀ → Sound w h
 
--- the same where the words may change
+-- the same where the words may change; rows go on pointing into the sheet
 pub record Went (f : State → State) (w₀ : List ℕ) (h₀ : Held) (w : List ℕ) (h : Held) : Type 0 where
   pub is : (sheet : List ℕ) → stateIn sheet w h ≡ blank (f (stateIn sheet w₀ h₀))
   pub sound : Sound w h
+  pub fit : (sheet : List ℕ) → AllFit sheet w₀ h₀ → AllFit sheet w h
 
 -- the same where the rules may refuse
 unfoldable pub stepIn : List ℕ → List ℕ → Passed → Step
@@ -45,9 +47,14 @@ unfoldable pub SoundStep : List ℕ → Passed → Type 0
 SoundStep w (Next h) = Sound w h
 SoundStep w (Stop n) = Unit
 
+unfoldable pub FitStep : List ℕ → List ℕ → Passed → Type 0
+FitStep sheet w (Next h) = AllFit sheet w h
+FitStep sheet w (Stop n) = Unit
+
 pub record Stepped (f : State → Step) (w₀ : List ℕ) (h₀ : Held) (w : List ℕ) (r : Passed) : Type 0 where
   pub is : (sheet : List ℕ) → stepIn sheet w r ≡ blankStep (f (stateIn sheet w₀ h₀))
   pub sound : SoundStep w r
+  pub fit : (sheet : List ℕ) → AllFit sheet w₀ h₀ → FitStep sheet w r
 
 -- ---- the lines
 

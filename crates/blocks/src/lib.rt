@@ -3,6 +3,7 @@
 ghost use mathlib.Core.Path.{_≡_};
 ghost use mathlib.Core.List.{[], _∷_};
 ghost use Prim.Native.Nat.{_+_, _<_, _≤_};
+ghost use Rattle.rules.specs.Basic.{pick};
 ghost use Rattle.rules.specs.Finding.{parsed, found};
 ghost use Rattle.rules.specs.Modes.{isComponents, isText};
 ghost use Rattle.rules.specs.State.{report};
@@ -124,17 +125,27 @@ pub fn on_finding(words: &mut [u32], h: Held, severity: Severity, number: u32) -
     }
 }
 
-// The items of a step; those of components mode do not count.
+// The number of items, of which `more` are there with a step's new ones; those of components mode do not count.
+fn items_after(d: Define, items: usize, more: usize) -> usize
+    ensures { λ r. ⌜ r ≡ pick (isComponents (defineOf d)) items more ⌝ }
+{
+    match d {
+        Define::All => more,
+        Define::Components => items,
+        Define::Steps => more,
+        Define::Text => more,
+    }
+}
+
+// The items of a step.
 pub fn push_items(mut h: Held, n: usize) -> Held
     requires { ⌜ h .counts .items + n ≤ 100000 ⌝ }
     ensures { λ r. ⌜ ItemsPushed n h r ⌝ }
 {
     let define = h.define;
-    if is_components(define) {
-        return with_block(h, Open::Step);
-    }
     let more = h.counts.items + n;
-    h.counts.items = more;
+    let items = items_after(define, h.counts.items, more);
+    h.counts.items = items;
     with_block(h, Open::Step)
 }
 

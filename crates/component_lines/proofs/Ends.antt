@@ -24,11 +24,11 @@ use Rattle.events.specs.declared.ComponentEvent.the-variants as event
 use Rattle.model.specs.Blank.{blankStep}
 use Rattle.model.specs.Memory.{stateIn}
 use Rattle.model.specs.declared.Held.{Held}
-use Rattle.blocks.specs.Lined.{stepIn, SoundStep}
+use Rattle.blocks.specs.Lined.{stepIn, SoundStep, FitStep}
 use Rattle.blocks.specs.declared.Passed.the-variants.{Next, Stop}
 use Rattle.intermediate.specs.Intermediates.{Faulted}
 use Rattle.new_rows.proofs.Pushed.{made-next}
-use Rattle.component_lines.specs.Lines.{Kept, FitStep, ComponentDone}
+use Rattle.component_lines.specs.Lines.{Kept, ComponentDone}
 use Rattle.component_lines.specs.Steps.{MadePushed, IntermediateDone, NamedDone, Roomy}
 use Rattle.component_lines.proofs.Rooms.{limits-roomy}
 

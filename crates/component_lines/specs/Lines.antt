@@ -21,9 +21,8 @@ use Rattle.model.specs.Blank.{blankStep}
 use Rattle.model.specs.Memory.{stateIn, Sound}
 use Rattle.model.specs.Fits.{AllFit}
 use Rattle.model.specs.declared.Held.{Held}
-use Rattle.blocks.specs.Lined.{stepIn, SoundStep}
+use Rattle.blocks.specs.Lined.{stepIn, SoundStep, FitStep}
 use Rattle.blocks.specs.declared.Passed.{Passed}
-use Rattle.blocks.specs.declared.Passed.the-variants.{Next, Stop}
 
 -- the line of the sheet from at to end is e's
 pub record LineHere (sheet : List ℕ) (at end : ℕ) (e : Event) : Type 0 where
@@ -39,11 +38,6 @@ pub record Kept (sheet w : List ℕ) (h : Held) : Type 0 where
   pub fit : AllFit sheet w h
   pub definitions : (k : Kind) → chained.Sound (tableOf k (stateIn sheet w h))
   pub limits : overLimits (stateIn sheet w h) ≡ false
-
--- where the pass goes on, its rows point into the sheet
-unfoldable pub FitStep : List ℕ → List ℕ → Passed → Type 0
-FitStep sheet w (Next h) = AllFit sheet w h
-FitStep sheet w (Stop n) = Unit
 
 -- a component's line in a step
 pub record ComponentDone (us : List NamedUnit) (flags : ℕ) (sheet line : List ℕ) (c : ComponentEvent) (w₀ : List ℕ) (h₀ : Held) (w : List ℕ) (r : Passed) : Type 0 where

@@ -33,6 +33,7 @@ use Rattle.model.specs.declared.Held.{Held}
 use Rattle.memory.specs.Pushes.{FindingPushed}
 use Rattle.memory.proofs.Smalls.{state-blank, with-define, with-duplicate, with-old}
 use Rattle.blocks.specs.Lined.{Told, Went}
+use Rattle.memory.proofs.Bounds.{fit-define, fit-duplicate, fit-old}
 use Rattle.blocks.proofs.Lines.{found-one, went-found}
 use Rattle.metadata.specs.Metas.{DefineSet, DuplicateSet, UnknownNoted, OrdinaryCounted}
 
@@ -123,7 +124,7 @@ duplicate-none (some words.duplicateReference) e = let z : _≡_ {A = ℕ} 0 1 =
 
 module _ {w : List ℕ} {h r : Held} {key value : Span} (z : Sound w h) where
   define-set : {m : DefineWord} (d : Define) → ((o : Option words.DefineMode) → m ≡ defineAs o → o ≡ some (defineOf d)) → r ≡ withDefine d h → DefineSet key value m w h w r
-  define-set d g q = rw q record { by = λ k v o a b e. rw (g o e) record { is = λ sheet. define-is sheet w h d k v (defineOf d) refl; sound = sound-modes d (h .duplicate) z } }
+  define-set d g q = rw q record { by = λ k v o a b e. rw (g o e) record { is = λ sheet. define-is sheet w h d k v (defineOf d) refl; sound = sound-modes d (h .duplicate) z; fit = λ sheet a. fit-define a d } }
 
   pub set-all : {m : DefineWord} → m ≡ define.All → r ≡ withDefine All h → DefineSet key value m w h w r
   set-all p q = rw p (define-set All define-all q)
@@ -138,7 +139,7 @@ module _ {w : List ℕ} {h r : Held} {key value : Span} (z : Sound w h) where
   set-text p q = rw p (define-set Text define-text q)
 
   duplicate-set : {m : DuplicateWord} (d : Duplicate) → ((o : Option words.DuplicateMode) → m ≡ duplicateAs o → o ≡ some (duplicateOf d)) → r ≡ withDuplicate d h → DuplicateSet key value m w h w r
-  duplicate-set d g q = rw q record { by = λ k v o a b e. rw (g o e) record { is = λ sheet. duplicate-is sheet w h d k v (duplicateOf d) refl; sound = sound-modes (h .define) d z } }
+  duplicate-set d g q = rw q record { by = λ k v o a b e. rw (g o e) record { is = λ sheet. duplicate-is sheet w h d k v (duplicateOf d) refl; sound = sound-modes (h .define) d z; fit = λ sheet a. fit-duplicate a d } }
 
   pub set-new : {m : DuplicateWord} → m ≡ duplicate.New → r ≡ withDuplicate New h → DuplicateSet key value m w h w r
   set-new p q = rw p (duplicate-set New duplicate-new q)
@@ -182,7 +183,7 @@ pub unknown-noted : {w₀ w : List ℕ} {h r : Held} {key : Span} {x : Noted} �
 unfolding onKey spanIn
 unknown-noted {w₀} {h = h} z p f =
     record {
-      by = λ k v a. went-found (record { is = λ sheet. sym (old-same (keyText k) (valueText v) (stateIn sheet w₀ h) ∙ state-blank sheet w₀ h); sound = z }) p (f ∙ ap (found 2) (sym a));
+      by = λ k v a. went-found (record { is = λ sheet. sym (old-same (keyText k) (valueText v) (stateIn sheet w₀ h) ∙ state-blank sheet w₀ h); sound = z; fit = λ sheet a. a }) p (f ∙ ap (found 2) (sym a));
     }
 
 sound-old : {w : List ℕ} {h : Held} (n : ℕ) → n ≤ 100000 → Sound w h → Sound w (withOld n h)
@@ -197,4 +198,4 @@ ordinary-is sheet w h k v =
     ∙ sym (old-more (keyText k) (valueText v) _ (stateIn sheet w h) ∙ ap (setMetadata (record { map = []; old = replicate (suc (length (stateIn sheet w h .metadata .old))) blankSpan })) (state-blank sheet w h)))
 
 pub ordinary-counted : {h : Held} → h .counts .old < 100000 → OrdinaryCounted h (withOld (h .counts .old + 1) h)
-ordinary-counted {h} l = record { by = λ k v. record { is = λ sheet w. ordinary-is sheet w h k v; sound = λ w z. sound-old (h .counts .old + 1) (omega arith) z } }
+ordinary-counted {h} l = record { by = λ k v. record { is = λ sheet w. ordinary-is sheet w h k v; sound = λ w z. sound-old (h .counts .old + 1) (omega arith) z }; fit = λ sheet w a. fit-old a (h .counts .old + 1) }

@@ -40,7 +40,7 @@ unfolding textIn
 text-span line v = refl
 
 went-as : {f g : State → State} {w₀ w : List ℕ} {h₀ h : Held} → Went f w₀ h₀ w h → ((st : State) → f st ≡ g st) → Went g w₀ h₀ w h
-went-as p e = record { is = λ sheet. p .is sheet ∙ ap blank (e _); sound = p .sound }
+went-as p e = record { is = λ sheet. p .is sheet ∙ ap blank (e _); sound = p .sound; fit = p .fit }
 
 meta-is : (flags : ℕ) (k v : rules.Text) (key : modes.Key) → pick (hasModes flags) (keyOf (keyText k)) modes.ordinary ≡ key → (st : State) → onKey key k v st ≡ onMetadata flags k v st
 unfolding onMetadata
@@ -51,7 +51,7 @@ unfolding hasModes
 mode-off flags n x = rw (ne-eqb (flags % 2) 1 n)
 
 pub meta-off : {flags : ℕ} {line w : List ℕ} {h r : Held} {key value : TextView} → (flags % 2 ≡ 1 → ⊥) → Sound w h → OrdinaryCounted h r → MetaDone flags line key value w h w r
-meta-off {flags} {line} {key = key} {value = value} n z p = record { went = went-as (went-told (p .by (textIn line key) (textIn line value)) z) (meta-is flags (textIn line key) (textIn line value) modes.ordinary (mode-off flags n _)) }
+meta-off {flags} {line} {key = key} {value = value} n z p = record { went = went-as (went-told (p .by (textIn line key) (textIn line value)) z (λ sheet a. p .fit sheet _ a)) (meta-is flags (textIn line key) (textIn line value) modes.ordinary (mode-off flags n _)) }
 
 pub key-at : (flags : ℕ) (line : List ℕ) (key : TextView) (x y : Key) (kb : List ℕ) → flags % 2 ≡ 1 → TextWithin line key → kb ≡ partOf line (key .content) → keyIn x ≡ keyOf (textTrimmed (contents.contentIn kb)) → x ≡ y
     → pick (hasModes flags) (keyOf (keyText (textIn line key))) modes.ordinary ≡ keyIn y
@@ -78,4 +78,4 @@ module _ {flags : ℕ} {line w₀ w : List ℕ} {h r : Held} {key value : TextVi
 module _ {flags : ℕ} {line w : List ℕ} {h r : Held} {key value : TextView} (on : flags % 2 ≡ 1) (kz : TextWithin line key) (kb : List ℕ) (kp : kb ≡ partOf line (key .content)) (x : Key) (g : keyIn x ≡ keyOf (textTrimmed (contents.contentIn kb))) where
   pub meta-ordinary : x ≡ Ordinary → Sound w h → OrdinaryCounted h r → MetaDone flags line key value w h w r
   unfolding keyIn
-  meta-ordinary e z p = record { went = went-as (went-told (p .by (textIn line key) (textIn line value)) z) (meta-is flags (textIn line key) (textIn line value) modes.ordinary (key-at flags line key x Ordinary kb on kz kp g e)) }
+  meta-ordinary e z p = record { went = went-as (went-told (p .by (textIn line key) (textIn line value)) z (λ sheet a. p .fit sheet _ a)) (meta-is flags (textIn line key) (textIn line value) modes.ordinary (key-at flags line key x Ordinary kb on kz kp g e)) }

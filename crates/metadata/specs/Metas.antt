@@ -13,6 +13,7 @@ use Rattle.sheet.specs.declared.DuplicateWord.{DuplicateWord}
 use Rattle.parts.specs.Views.{spanIn, textIn}
 use Rattle.parts.specs.declared.Span.{Span}
 use Rattle.parts.specs.declared.TextView.{TextView}
+use Rattle.model.specs.Fits.{AllFit}
 use Rattle.model.specs.declared.Held.{Held}
 use Rattle.blocks.specs.Lined.{Told, Went}
 
@@ -31,6 +32,7 @@ pub record UnknownNoted (key : Span) (w₀ : List ℕ) (h₀ : Held) (w : List �
 -- any other line
 pub record OrdinaryCounted (h₀ h : Held) : Type 0 where
   pub by : (k v : rules.Text) → Told (onKey ordinary k v) h₀ h
+  pub fit : (sheet w : List ℕ) → AllFit sheet w h₀ → AllFit sheet w h
 
 -- a `meta` line
 pub record MetaDone (flags : ℕ) (line : List ℕ) (key value : TextView) (w₀ : List ℕ) (h₀ : Held) (w : List ℕ) (h : Held) : Type 0 where

@@ -3,13 +3,13 @@ use Prim.Native.Nat.{ℕ, suc, _+_, _-_, _≤_, _<_}
 use mathlib.Core.Path.{_≡_, refl, ap, sym, _∙_}
 use mathlib.Core.Bool.{Bool, true, false}
 use mathlib.Core.List.{List, [], _∷_}
-use mathlib.Core.Option.{none, some}
+use mathlib.Core.Option.{Option, none, some}
 use native.Mathlib.Numerals.{add-one}
 use native.Mathlib.Omega.{arith}
 use lib.Dec.{ltb}
 use lib.ListN.{length, take, drop, drop-of-length-le}
 use lib.Seq.{drop-cons}
-use Rattle.rules.specs.Basic.{pick, isEmpty, all}
+use Rattle.rules.specs.Basic.{pick, isEmpty, isSome, all}
 use Rattle.rules.specs.Sheet.{Lines, last, lines}
 use Rattle.rules.specs.Event.{Event, spansOf}
 use Rattle.rules.specs.Read.{parseLine}
@@ -82,15 +82,27 @@ module _ {text bytes : List ℕ} {at number : ℕ} {es : List Event} (w : Rest t
         let e : lines (drop at bytes) ≡ last (drop at bytes) = sym (l .is) ∙ ap (linesFrom bytes at) q in
         cut-short text number (drop at bytes) (rw (drop-cons bytes at 0 h)) (rw e at (w .is))
 
-    module _ {end : ℕ} (q : r ≡ At end) {a : ReadEvent} (p : LineOf (take (end - at) (drop at bytes)) a) where
+    module _ {end : ℕ} (q : r ≡ At end) where
       split : readLine text (length text) number (parseLine (take (end - at) (drop at bytes))) (readFrom text (length text) (suc number) (lines (drop (end + 1) bytes))) ≡ events es
       unfolding readFrom linesFrom
       split = sym (ap (λ (ls : Lines). readFrom text (length text) number ls) (sym (l .is) ∙ ap (linesFrom bytes at) q)) ∙ w .is
 
       -- each line is well formed
-      pub rest-read : {P : Type 0} → a ≡ answer.Ill → P
-      rest-read k = none-first text number _ (rw (line-none p k) at split)
+      pub rest-some : isSome (parseLine (take (end - at) (drop at bytes))) ≡ true
+      unfolding isSome
+      rest-some = go (parseLine (take (end - at) (drop at bytes))) split
+        where
+          go : (o : Option Event) → readLine text (length text) number o (readFrom text (length text) (suc number) (lines (drop (end + 1) bytes))) ≡ events es → isSome o ≡ true
+          go (some e) k = refl
+          go none k = none-first text number _ k
 
       -- and its event is the first
-      pub rest-event : {v : EventView} → a ≡ answer.Event v → First (eventIn (take (end - at) (drop at bytes)) v) (readFrom text (length text) (number + 1) (lines (drop (end + 1) bytes))) es
-      rest-event k = rw (add-one number) (line-first text number _ _ (rw (line-event p k) at split))
+      pub rest-parsed : {e : Event} → parseLine (take (end - at) (drop at bytes)) ≡ some e → First e (readFrom text (length text) (number + 1) (lines (drop (end + 1) bytes))) es
+      rest-parsed k = rw (add-one number) (line-first text number _ _ (rw k at split))
+
+      module _ {a : ReadEvent} (p : LineOf (take (end - at) (drop at bytes)) a) where
+        pub rest-read : {P : Type 0} → a ≡ answer.Ill → P
+        rest-read k = none-first text number _ (rw (line-none p k) at split)
+
+        pub rest-event : {v : EventView} → a ≡ answer.Event v → First (eventIn (take (end - at) (drop at bytes)) v) (readFrom text (length text) (number + 1) (lines (drop (end + 1) bytes))) es
+        rest-event k = rest-parsed (line-event p k)

@@ -142,7 +142,7 @@ module _ {us : List NamedUnit} {flags : ℕ} {line : List ℕ} {v : TextView} {h
     pub text-silent : a ≡ false → TextDone us flags line v w₀ h w₀ h
     text-silent q =
         record {
-          went = record { is = λ sheet. went-none s .is sheet ∙ ap blank (step-silent us flags (textIn line v) (stateIn sheet w₀ h) (components-of sheet w₀ h e on) (body-has line v f z g k q)); sound = s };
+          went = record { is = λ sheet. went-none s .is sheet ∙ ap blank (step-silent us flags (textIn line v) (stateIn sheet w₀ h) (components-of sheet w₀ h e on) (body-has line v f z g k q)); sound = s; fit = λ sheet y. y };
           fit = λ sheet y. y;
         }
 
@@ -152,6 +152,7 @@ module _ {us : List NamedUnit} {flags : ℕ} {line : List ℕ} {v : TextView} {h
           went = record {
             is = λ sheet. found-one s p (found-at x (v .span) o ∙ ap (found 4) (sym (body-span line v))) .is sheet ∙ ap blank (step-found us flags (textIn line v) (stateIn sheet w₀ h) (components-of sheet w₀ h e on) (body-has line v f z g k q));
             sound = p .sound;
+            fit = p .fit;
           };
           fit = p .fit;
         }
@@ -163,6 +164,7 @@ module _ {us : List NamedUnit} {flags : ℕ} {line : List ℕ} {v : TextView} {h
           went = record {
             is = λ sheet. p .told ps i j .is sheet w₀ ∙ ap blank (step-pieces us flags (textIn line v) (stateIn sheet w₀ h) (components-of sheet w₀ h e off) ps q);
             sound = p .told ps i j .sound w₀ s;
+            fit = λ sheet y. p .fit sheet w₀ y;
           };
           fit = λ sheet y. p .fit sheet w₀ y;
         }

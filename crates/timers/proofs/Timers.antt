@@ -210,6 +210,7 @@ module _ {us : List NamedUnit} {flags : ℕ} {line : List ℕ} {name : OptText} 
         went = record {
           is = λ sheet. p .told t .is sheet w ∙ (ap (λ (s : State). blank (withTimer t s)) (reported-is f sheet) ∙ ap blank (timer-swap us flags (optTextIn line name) (optQuantityIn line q) (stateIn sheet w₀ h₀)));
           sound = p .told t .sound w (reported-sound f z);
+          fit = λ sheet a. p .fit sheet w (reported-fit f sheet a);
         };
         fit = λ sheet a. p .fit sheet w (reported-fit f sheet a);
       }
