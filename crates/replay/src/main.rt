@@ -3,27 +3,12 @@
 // by each number from 1 to 10, and how many cases differ from what is stored.
 use inputs::Inputs;
 use libc::STDOUT_FILENO;
-ghost use Prim.Native.Nat.{_≤_};
-ghost use mathlib.Core.Path.{_≡_};
-ghost use lib.ListN.{length};
-
-// A number, and the place after the byte that ends it.
-struct Number {
-    value: u32,
-    next: usize,
-}
-
-// Where the parts of a case start in its file; each ends where the next starts.
-struct Case {
-    name: usize,
-    sheet: usize,
-    text: usize,
-    units: usize,
-    flags: usize,
-    collect: usize,
-    plain: usize,
-    end: usize,
-}
+use stored_cases::Case;
+use stored_cases::Stored;
+use stored_cases::part;
+use stored_cases::read_number;
+use stored_cases::show;
+use stored_cases::starts;
 
 // The number and the line of a refusal before the pass; 0 and 0 for none.
 struct Told {
@@ -36,123 +21,8 @@ const CASES: usize = 11;
 
 const DIFFERENT: usize = 12;
 
-fn wide(b: u8) -> u32
-    ensures { λ r. ⌜ r ≡ b ⌝ }
-{
-    b as u32
-}
-
 fn long(n: u32) -> usize {
     n as usize
-}
-
-fn byte(s: &[u8], at: usize) -> u8 {
-    if at < s.len() {
-        return s[at];
-    }
-    0
-}
-
-// The decimal number at a place, to nine digits.
-fn read_number(s: &[u8], at: usize) -> Number {
-    let mut n: u32 = 0;
-    let mut i = at;
-    while i < s.len() {
-        let b = s[i];
-        if b < b'0' {
-            return Number {
-                value: n,
-                next: i + 1,
-            };
-        }
-        if b'9' < b {
-            return Number {
-                value: n,
-                next: i + 1,
-            };
-        }
-        n = n % 100000000 * 10 + (wide(b) - 48);
-        i += 1;
-    }
-    Number { value: n, next: i }
-}
-
-// So many bytes on from a place, or the end.
-fn after(s: &[u8], at: usize, n: u32) -> usize {
-    let k = long(n);
-    if at <= s.len() {
-        if k <= s.len() - at {
-            return at + k;
-        }
-    }
-    s.len()
-}
-
-fn part<'a>(s: &'a [u8], from: usize, to: usize) -> &'a [u8] {
-    if to <= s.len() {
-        if from <= to {
-            return &s[from..to];
-        }
-    }
-    &s[0..0]
-}
-
-fn starts(s: &[u8], word: &[u8]) -> bool {
-    let n = word.len();
-    sheet::same_bytes(part(s, 0, n), word)
-}
-
-// The case whose first line starts at a place.
-fn case_at(s: &[u8], at: usize) -> Case {
-    let room = read_number(s, after(s, at, 5));
-    let name = read_number(s, room.next);
-    let sheet = read_number(s, name.next);
-    let text = read_number(s, sheet.next);
-    let units = read_number(s, text.next);
-    let flags = read_number(s, units.next);
-    let collect = read_number(s, flags.next);
-    let plain = read_number(s, collect.next);
-    laid_out(
-        s,
-        plain.next,
-        name.value,
-        sheet.value,
-        text.value,
-        units.value,
-        flags.value,
-        collect.value,
-        plain.value,
-    )
-}
-
-fn laid_out(
-    s: &[u8],
-    at: usize,
-    name: u32,
-    sheet: u32,
-    text: u32,
-    units: u32,
-    flags: u32,
-    collect: u32,
-    plain: u32,
-) -> Case {
-    let a = after(s, at, name);
-    let b = after(s, a, sheet);
-    let c = after(s, b, text);
-    let d = after(s, c, units);
-    let e = after(s, d, flags);
-    let f = after(s, e, collect);
-    let g = after(s, f, plain);
-    Case {
-        name: at,
-        sheet: a,
-        text: b,
-        units: c,
-        flags: d,
-        collect: e,
-        plain: f,
-        end: g,
-    }
 }
 
 fn add(counts: &mut [u64; 13], i: usize) {
@@ -196,42 +66,30 @@ fn run(s: &[u8], c: Case) -> Told {
     told_of(inputs::check_inputs(sheet, text, units, flags, inputs::WORDS, inputs::BYTES))
 }
 
-// One case; where it ends.
-fn replay(s: &[u8], at: usize, counts: &mut [u64; 13]) -> usize {
-    let c = case_at(s, at);
+fn replay(s: &[u8], c: Case, counts: &mut [u64; 13]) {
     let is = run(s, c);
     let should = stored(part(s, c.collect, c.plain));
     add(counts, CASES);
     add(counts, long(is.number));
     if is.number != should.number {
         add(counts, DIFFERENT);
-        return c.end;
+        return;
     }
     if is.line != should.line {
         add(counts, DIFFERENT);
     }
-    c.end
 }
 
-// One case and the LF after it; where the next starts. What is not as the format says counts as different, and nothing
-// after it is read.
-fn turn(s: &[u8], at: usize, counts: &mut [u64; 13]) -> usize {
-    if !starts(part(s, at, s.len()), b"case ") {
-        add(counts, DIFFERENT);
-        return s.len();
-    }
-    let end = replay(s, at, counts);
-    if byte(s, end) != b'\n' {
-        add(counts, DIFFERENT);
-        return s.len();
-    }
-    after(s, end, 1)
-}
-
+// What is not as the format says counts as different, and nothing after it is read.
 fn replay_all(s: &[u8], counts: &mut [u64; 13]) {
     let mut at = 0;
     while at < s.len() {
-        let next = turn(s, at, counts);
+        let Stored::At(c) = stored_cases::case_at(s, at) else {
+            add(counts, DIFFERENT);
+            return;
+        };
+        replay(s, c, counts);
+        let next = stored_cases::next_case(s, c);
         if next <= at {
             return;
         }
@@ -239,29 +97,10 @@ fn replay_all(s: &[u8], counts: &mut [u64; 13]) {
     }
 }
 
-// Room for the longest file.
-fn room() -> [u8; 2097152]
-    ensures { λ r. ⌜ 2097152 ≡ length r ⌝ }
-{
-    [0; 2097152]
-}
-
 fn replay_file(name: &[u8], counts: &mut [u64; 13]) {
-    let fd = os::open_read(name);
-    if fd < 0 {
-        os::fail(name);
-        return;
-    }
-    let mut space = room();
-    let n = io::read_full(fd, &mut space);
-    libc::close(fd);
-    replay_all(&space[..n], counts);
-}
-
-fn show(what: &[u8], n: u64) {
-    io::write_all(STDOUT_FILENO, what);
-    io::print_decimal(STDOUT_FILENO, n);
-    io::write_all(STDOUT_FILENO, b"\n");
+    let mut space = stored_cases::room();
+    let n = stored_cases::read_file(name, &mut space);
+    replay_all(part(&space, 0, n), counts);
 }
 
 fn count_of(counts: &[u64; 13], i: usize) -> u64 {

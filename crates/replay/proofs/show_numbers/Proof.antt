@@ -8,7 +8,7 @@ use Rattle.replay.proofs.show_numbers.Lts as lts
 use Rattle.io.proofs.print_decimal.Reads as print-decimal-reads
 use Rattle.io.proofs.write_all.Reads as write-all-reads
 use Rattle.replay.proofs.count_of.Reads as count-of-reads
-use Rattle.replay.proofs.show.Reads as show-reads
+use Rattle.stored_cases.proofs.show.Reads as show-reads
 
 abbrev Inv-loop : tie.InvT-loop
 Inv-loop counts i₀ t4 t5 i = i ≤ 11
