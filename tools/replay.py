@@ -9,7 +9,7 @@ CRATE = os.path.join(HERE, "crates", "replay")
 
 
 def cases():
-    """for each case its lent room and its seven parts; the format is that of crates/replay/data/README.md"""
+    """for each case its file, its lent room and its seven parts; the format is that of crates/replay/data/README.md"""
     for name in ("paper", "decisions", "generated", "limits"):
         data, at = open(os.path.join(CRATE, "data", name + ".txt"), "rb").read(), 0
         while at < len(data):
@@ -22,12 +22,12 @@ def cases():
                 at += int(length)
             assert data[at:at + 1] == b"\n"
             at += 1
-            yield int(room), parts
+            yield name, int(room), parts
 
 
 def expected():
     total, good, refused = 0, 0, [0] * 11
-    for _, parts in cases():
+    for _, _, parts in cases():
         answer = parts[5].split(b"\t")
         number = int(answer[1]) if answer[0] == b"refused" else 0
         total += 1

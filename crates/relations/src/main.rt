@@ -12,7 +12,6 @@ use stored_cases::part;
 ghost use mathlib.Core.Path.{_≡_};
 ghost use Prim.Native.Nat.{_*_, _≤_};
 ghost use lib.ListN.{length};
-ghost use Rattle.rules.specs.Answer.{bytesNeeded};
 ghost use Rattle.unicode.specs.Tables.{unicodeTables};
 ghost use Rattle.inputs.specs.Inputs.{GoodInputs};
 ghost use Rattle.model.specs.Memory.{Sound};
@@ -27,32 +26,25 @@ fn put_word(out: &mut [u8], is_ingredient: bool) -> usize {
 }
 
 // Its kind, index and relation as a line.
-fn put_component(
-    out: &mut [u8],
-    pairs: &[u32],
-    m: usize,
-    r: RelationRecord,
-    index: u32,
-    is_ingredient: bool,
-) -> usize
+fn show_component(pairs: &[u32], m: usize, r: RelationRecord, index: u32, is_ingredient: bool)
     requires { ⌜ (m ≤ 513) × (m * 2 ≤ length (now pairs)) ⌝ }
 {
-    let a = put_word(out, is_ingredient);
-    let b = output::put_number(out, a, index);
-    let c = entry_lines::put_relation(out, b, pairs, m, r, index, is_ingredient);
-    output::put_byte(out, c, b'\n')
+    let mut out = io::buffer();
+    let a = put_word(&mut out, is_ingredient);
+    let b = output::put_number(&mut out, a, index);
+    let c = entry_lines::put_relation(&mut out, b, pairs, m, r, index, is_ingredient);
+    let n = output::put_byte(&mut out, c, b'\n');
+    io::write_all(STDOUT_FILENO, part(&out, 0, n));
 }
 
 fn show_components(rows: &[u32], n: usize, pairs: &[u32], m: usize, is_ingredient: bool)
     requires { ⌜ (n ≤ 513) × (n * 12 ≤ length (now rows)) × (m ≤ 513) × (m * 2 ≤ length (now pairs)) ⌝ }
 {
-    let mut out = io::buffer();
     let mut i = 0;
     while i < n {
         let row = model::row_at(rows, i);
         let relation = row.relation;
-        let k = put_component(&mut out, pairs, m, relation, i as u32, is_ingredient);
-        io::write_all(STDOUT_FILENO, part(&out, 0, k));
+        show_component(pairs, m, relation, i as u32, is_ingredient);
         i += 1;
     }
 }
@@ -117,7 +109,7 @@ fn show_refusal(number: u32, line: u32) {
 // ---- cases
 
 fn run(t: &[u32], sheet: &[u8], text: &[u8], units: &[u8], flags: u32, words: &mut [u32])
-    requires { ⌜ (now t ≡ unicodeTables) × GoodInputs (now sheet) (now text) (now units) flags (length (now words)) bytesNeeded ⌝ }
+    requires { ⌜ (now t ≡ unicodeTables) × GoodInputs (now sheet) (now text) (now units) flags (length (now words)) 65536 ⌝ }
 {
     match pass::run(t, sheet, text, units, flags, words) {
         Ran::Recipe(h) => {
