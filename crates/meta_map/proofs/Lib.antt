@@ -1,0 +1,6 @@
+pub mod Chains
+pub mod Found
+pub mod Stored
+pub mod Printed
+pub mod Walks
+pub mod Metas
