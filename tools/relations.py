@@ -12,16 +12,12 @@ LIMITS = (b"ingredients-512", b"ingredients-513", b"cookware-256", b"cookware-25
           b"timers-257", b"inline-512", b"findings-end-1024", b"findings-end-1025", b"B20")
 
 
-def refusal(answer):
-    return int(answer.split(b"\t")[1]) if answer.startswith(b"refused\t") else 0
-
-
 def is_chosen(file, name, answer):
     """all of document 01's cases; the decisions with a reference and those that the pass refuses; some at the limits"""
     if file == "paper":
         return True
     if file == "decisions":
-        return b"\tref\t" in answer or 11 <= refusal(answer) <= 19
+        return b"\tref\t" in answer or 11 <= replay.refusal(answer) <= 19
     return file == "limits" and name in LIMITS
 
 
@@ -38,7 +34,7 @@ def counts(lines):
 def shown(parts):
     """what the program prints of a case"""
     name, answer = parts[0], parts[5]
-    if refusal(answer):
+    if replay.refusal(answer):
         return [name, answer[:-1]]
     lines = [line.split(b"\t") for line in answer[:-1].split(b"\n")]
     if lines[0] == [b"recipe", b"no"]:

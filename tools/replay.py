@@ -25,18 +25,16 @@ def cases():
             yield name, int(room), parts
 
 
+def refusal(answer):
+    return int(answer.split(b"\t")[1]) if answer.startswith(b"refused\t") else 0
+
+
 def expected():
-    total, good, refused = 0, 0, [0] * 11
-    for _, _, parts in cases():
-        answer = parts[5].split(b"\t")
-        number = int(answer[1]) if answer[0] == b"refused" else 0
-        total += 1
-        if 1 <= number <= 10:
-            refused[number] += 1
-        else:
-            good += 1
-    lines = ["cases %d" % total, "good %d" % good]
-    lines += ["refused %d: %d" % (n, refused[n]) for n in range(1, 11)]
+    answers = [parts[5] for _, _, parts in cases()]
+    refused = [refusal(answer) for answer in answers]
+    lines = ["cases %d" % len(answers), "pages %d" % refused.count(0)]
+    lines += ["without recipe %d" % sum(answer.startswith(b"recipe\tno\n") for answer in answers)]
+    lines += ["refused %d: %d" % (n, refused.count(n)) for n in range(1, 21)]
     return "\n".join(lines + ["different 0"]) + "\n"
 
 
