@@ -1,4 +1,2 @@
 pub mod Arms
 pub mod Sections
-pub mod Drawing
-pub mod Lines

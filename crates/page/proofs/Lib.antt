@@ -1,0 +1,3 @@
+pub mod Parts
+pub mod Words
+pub mod Joins

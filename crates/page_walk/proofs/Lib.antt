@@ -1,0 +1,4 @@
+pub mod Tracked
+pub mod Lines
+pub mod Turns
+pub mod Drawing

@@ -1,0 +1,4 @@
+pub mod Pages
+pub mod Passes
+pub mod Clears
+pub mod Prints

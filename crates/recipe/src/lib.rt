@@ -1,0 +1,161 @@
+// Recipe pages from event sheets: everything is lent, nothing is kept, and what was lent is zero again but for the page.
+ghost use mathlib.Core.Path.{_≡_};
+ghost use Prim.Native.Nat.{_≤_};
+ghost use lib.ListN.{length};
+ghost use Rattle.rules.specs.Answer.{wordsNeeded, bytesNeeded};
+ghost use Rattle.unicode.specs.Tables.{unicodeTables};
+ghost use Rattle.recipe.specs.Answers.{usedOf, answerCode, lengths, lentOf, pageOr20, Given, Answered, Collected, Coded, PrintedAt};
+use inputs::Inputs;
+use pass::Ran;
+
+pub enum Answer {
+    // The page's length.
+    Page(usize),
+    // A refusal's number and line.
+    Refused(u32, u32),
+}
+
+// A page that was written, or 20 where it did not fit.
+fn hand_out(n: usize, room: usize) -> Answer
+    ensures { λ r. ⌜ r ≡ pageOr20 n room ⌝ }
+{
+    if n <= room {
+        return Answer::Page(n);
+    }
+    Answer::Refused(20, 0)
+}
+
+// The pass, then the page.
+fn pass_and_write(
+    t: &[u32],
+    sheet: &[u8],
+    text: &[u8],
+    units: &[u8],
+    flags: u32,
+    words: &mut [u32],
+    bytes: usize,
+    out: &mut [u8],
+) -> Answer
+    requires { ⌜ Given (now t) (now sheet) (now text) (now units) flags (lengths (now words) bytes (now out)) ⌝ }
+    ensures { λ r. ⌜ Answered (now (sheet .entry)) (now (text .entry)) (now (units .entry)) flags (lengths (now (words .entry)) bytes (now (out .entry))) (now (out .exit)) r ⌝ }
+{
+    match pass::run(t, sheet, text, units, flags, words) {
+        Ran::Recipe(h) => {
+            let n = page::recipe_page(t, sheet, text, units, flags, words, h, out);
+            hand_out(n, out.len())
+        }
+        Ran::Failed => {
+            let n = page::failed_page(sheet, text, out);
+            hand_out(n, out.len())
+        }
+        Ran::Refused(n, l) => Answer::Refused(n, l),
+    }
+}
+
+// The answer, with memory left as it comes; `bytes` is how many bytes of work memory are lent.
+fn collected(
+    t: &[u32],
+    sheet: &[u8],
+    text: &[u8],
+    units: &[u8],
+    flags: u32,
+    words: &mut [u32],
+    bytes: usize,
+    out: &mut [u8],
+) -> Answer
+    requires { ⌜ now t ≡ unicodeTables ⌝ }
+    ensures { λ r. ⌜ Answered (now (sheet .entry)) (now (text .entry)) (now (units .entry)) flags (lengths (now (words .entry)) bytes (now (out .entry))) (now (out .exit)) r ⌝ }
+{
+    match inputs::check_inputs(sheet, text, units, flags, words.len(), bytes) {
+        Inputs::Refused(n, l) => Answer::Refused(n, l),
+        Inputs::Good => pass_and_write(t, sheet, text, units, flags, words, bytes, out),
+    }
+}
+
+// How many bytes of the output an answer hands out.
+fn used(r: Answer) -> usize
+    ensures { λ n. ⌜ n ≡ usedOf r ⌝ }
+{
+    match r {
+        Answer::Page(n) => n,
+        Answer::Refused(n, l) => 0,
+    }
+}
+
+// The page of a sheet with its text, its units and flags, at the front of `out`; or a refusal.
+pub fn collect(
+    sheet: &[u8],
+    text: &[u8],
+    units: &[u8],
+    flags: u32,
+    words: &mut [u32],
+    bytes: &mut [u8],
+    out: &mut [u8],
+) -> Answer
+    ensures { λ r. ⌜ Collected (now (sheet .entry)) (now (text .entry)) (now (units .entry)) flags (lentOf (now (words .entry)) (now (bytes .entry)) (now (out .entry))) (now (words .exit)) (now (bytes .exit)) (now (out .exit)) r ⌝ }
+{
+    let t = unicode::unicode_tables();
+    let r = collected(&t, sheet, text, units, flags, words, bytes.len(), out);
+    clearing::clear_words(words);
+    clearing::clear_bytes(bytes);
+    clearing::clear_from(out, used(r));
+    r
+}
+
+// What the programs print of an answer, put at the front of the output: the page, which is there already, or the line of
+// the refusal.
+pub fn print_answer(r: Answer, out: &mut [u8]) -> usize
+    requires { ⌜ (usedOf r ≤ length (now out)) × (30 ≤ length (now out)) ⌝ }
+    ensures { λ n. ⌜ PrintedAt r (now (out .entry)) (now (out .exit)) n ⌝ }
+{
+    match r {
+        Answer::Page(n) => n,
+        Answer::Refused(n, l) => output::write_refusal(out, n, l),
+    }
+}
+
+// ---- for C and Rust (include/recipe.h)
+
+fn wide(n: u32) -> u64
+    ensures { λ r. ⌜ r ≡ n ⌝ }
+{
+    n as u64
+}
+
+fn code(r: Answer) -> u64
+    ensures { λ n. ⌜ n ≡ answerCode r ⌝ }
+{
+    match r {
+        Answer::Page(n) => n as u64,
+        Answer::Refused(n, l) => wide(n) * 4294967296 + wide(l),
+    }
+}
+
+#[no_mangle]
+pub extern "C" fn recipe_words() -> usize
+    ensures { λ r. ⌜ r ≡ wordsNeeded ⌝ }
+{
+    inputs::WORDS
+}
+
+#[no_mangle]
+pub extern "C" fn recipe_bytes() -> usize
+    ensures { λ r. ⌜ r ≡ bytesNeeded ⌝ }
+{
+    inputs::BYTES
+}
+
+#[no_mangle]
+pub extern "C" fn recipe_collect(
+    sheet: &[u8],
+    text: &[u8],
+    units: &[u8],
+    flags: u32,
+    words: &mut [u32],
+    bytes: &mut [u8],
+    out: &mut [u8],
+) -> u64
+    ensures { λ r. ⌜ Coded (now (sheet .entry)) (now (text .entry)) (now (units .entry)) flags (lentOf (now (words .entry)) (now (bytes .entry)) (now (out .entry))) (now (words .exit)) (now (bytes .exit)) (now (out .exit)) r ⌝ }
+{
+    code(collect(sheet, text, units, flags, words, bytes, out))
+}
