@@ -1,11 +1,11 @@
 -- Memory whose front is zero, one place more a turn; and a part of memory that was cleared.
 use Prim.Native.Nat.{ℕ, _+_, _-_, _≤_, _<_}
-use mathlib.Core.Path.{_≡_, refl, ap, sym, _∙_}
-use mathlib.Core.List.{List, [], _++_, append-nil}
+use mathlib.Core.Path.{_≡_, refl, ap, _∙_}
+use mathlib.Core.List.{List, _++_, append-nil}
 use native.Mathlib.Nat.{le-antisymm}
 use native.Mathlib.Omega.{arith}
 use borrow.Author.Fill.{fill-none, fill-more}
-use lib.ListN.{length, take, drop, set, replicate, length-set, length-take, length-drop, drop-of-length-le}
+use lib.ListN.{length, take, drop, set, replicate, length-set, length-drop, drop-of-length-le}
 use lib.Seq.{take-all}
 
 -- the first i places of s₀ are cleared

@@ -8,15 +8,15 @@ ghost use lib.ListN.{length, take, replicate};
 pub fn clear_words(words: &mut [u32])
     ensures { λ r. ⌜ now (words .exit) ≡ replicate (length (now (words .entry))) 0 ⌝ }
 {
-    let mut i = 0;
-    while i < words.len() {
-        words[i] = 0;
-        i += 1;
+    let mut k = 0;
+    while k < words.len() {
+        words[k] = 0;
+        k += 1;
     }
 }
 
 // All bytes.
-pub fn clear_bytes(bytes: &mut [u8])
+fn clear_bytes(bytes: &mut [u8])
     ensures { λ r. ⌜ now (bytes .exit) ≡ replicate (length (now (bytes .entry))) 0 ⌝ }
 {
     let mut i = 0;

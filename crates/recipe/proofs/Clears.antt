@@ -1,12 +1,11 @@
 -- The answer once memory is cleared, and as one number.
 use Prim.Native.Nat.{ℕ, _+_, _-_, _*_, _≤_}
 use mathlib.Core.Path.{_≡_, refl, ap, sym, _∙_}
-use mathlib.Core.List.{List, [], _∷_, _++_}
+use mathlib.Core.List.{List, _++_}
 use native.Mathlib.Omega.{arith}
 use lib.ListN.{length, take, replicate, length-append, length-replicate}
 use lib.Seq.{take-at, length-take-le}
-use Rattle.rules.specs.Answer as rules
-use Rattle.rules.specs.Answer.{Lent, answered, declined, collectAnswer, outAfter, workAfter}
+use Rattle.rules.specs.Answer.{Lent, answered, outAfter, workAfter}
 use Rattle.recipe.specs.declared.Answer.{Answer}
 use Rattle.recipe.specs.declared.Answer.the-variants.{Page, Refused}
 use Rattle.recipe.specs.Answers.{answerOf, usedOf, codeOf, answerCode, Answered, Collected, Coded}
@@ -49,7 +48,7 @@ cleared-long o k h = rw (length-append, length-take-le k o h, length-replicate) 
 
 module _ {sheet text units : List ℕ} {flags : ℕ} {m : Lent} where
   pub collect-done : {o₁ w b o : List ℕ} {nw nb k : ℕ} {r : Answer} → Answered sheet text units flags m o₁ r → nw ≡ m .words → w ≡ replicate nw 0
-      → nb ≡ m .bytes → b ≡ replicate nb 0 → k ≡ usedOf r → o ≡ take k o₁ ++ replicate (length o₁ - k) 0 → Collected sheet text units flags m w b o r
+      → nb ≡ m .bytes → b ≡ replicate (nb - 0) 0 → k ≡ usedOf r → o ≡ take k o₁ ++ replicate (length o₁ - k) 0 → Collected sheet text units flags m w b o r
   unfolding workAfter
   collect-done {o₁} {w} {b} {o} {nw} {nb} {k} {r} a ew cw eb cb e c =
       let f : usedOf r ≤ length o₁ = rw (a .room) (a .fits) in
@@ -59,7 +58,7 @@ module _ {sheet text units : List ℕ} {flags : ℕ} {m : Lent} where
         fits = rw (q, cleared-long o₁ (usedOf r) f) f;
         out = q ∙ cleared-out o₁ r f ∙ rw (a .room, a .is);
         words = cw ∙ rw ew;
-        bytes = cb ∙ rw eb;
+        bytes = cb ∙ ap (λ (k : ℕ). replicate k 0) (let e : nb - 0 ≡ m .bytes = omega arith in e);
       }
 
 -- ---- as one number

@@ -1,12 +1,12 @@
 -- A page that was written at the front of the output, handed out.
 use Prim.Native.Nat.{ℕ, _+_, _≤_, _<_}
-use mathlib.Core.Path.{_≡_, refl, ap, sym, _∙_}
-use mathlib.Core.List.{List, [], _∷_, _++_}
+use mathlib.Core.Path.{_≡_, ap, sym, _∙_}
+use mathlib.Core.List.{List}
 use native.Mathlib.Omega.{arith}
 use borrow.Author.Tests.{le-leb, lt-leb}
 use lib.ListN.{length, take, drop}
 use lib.Seq.{take-at}
-use Rattle.rules.specs.Answer.{answered, declined, handOut}
+use Rattle.rules.specs.Answer.{answered, handOut}
 use Rattle.rules.proofs.Basics.{by-order}
 use Rattle.output.specs.Put.{Put}
 use Rattle.output.proofs.Puts.{keeps, put-room, put-no-room, put-fits}

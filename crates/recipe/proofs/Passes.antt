@@ -1,19 +1,16 @@
 -- One law for each way through the checks, the pass and the page.
 use Prim.Native.Nat.{ℕ, _≤_}
-use mathlib.Core.Path.{_≡_, refl, ap, sym, _∙_}
-use mathlib.Core.Bool.{false}
+use mathlib.Core.Path.{_≡_, ap, sym, _∙_}
 use mathlib.Core.List.{List}
 use native.Mathlib.Omega.{arith}
 use borrow.Author.Tests.{le-ltb}
 use lib.ListN.{length}
-use Rattle.rules.specs.Event.{Event}
-use Rattle.rules.specs.Units.{NamedUnit, readUnits}
-use Rattle.rules.specs.State.{State, Outcome, recipe, noRecipe, refusal}
+use Rattle.rules.specs.Units.{readUnits}
+use Rattle.rules.specs.State.{Outcome, refusal}
 use Rattle.rules.specs.Pass.{parseEvents, ended}
-use Rattle.rules.specs.Page.{recipePage, failedPage}
-use Rattle.rules.specs.Answer.{Lent, answered, declined, wordsNeeded, bytesNeeded, isShort, handOut, written, collectAnswer, events, eventsOr, readSheet, unitsOr}
+use Rattle.rules.specs.Answer.{Lent, wordsNeeded, bytesNeeded, isShort, handOut, written, collectAnswer, events, eventsOr, readSheet, unitsOr}
 use Rattle.unicode.specs.Tables.{unicodeTables}
-use Rattle.inputs.specs.Inputs.{lent, InputsChecked, GoodInputs}
+use Rattle.inputs.specs.Inputs.{InputsChecked, GoodInputs}
 use Rattle.inputs.specs.declared.Inputs.{Inputs}
 use Rattle.inputs.specs.declared.Inputs.the-variants as inputs
 use Rattle.inputs.proofs.Answers.{told-good, told-refused, refused-collect, good-collect}
@@ -24,7 +21,7 @@ use Rattle.pass.specs.declared.Ran.{Ran}
 use Rattle.pass.specs.declared.Ran.the-variants as ran
 use Rattle.page.specs.Pages.{RecipeGiven, RecipePut, FailedPut}
 use Rattle.recipe.specs.declared.Answer.{Answer}
-use Rattle.recipe.specs.declared.Answer.the-variants.{Page, Refused}
+use Rattle.recipe.specs.declared.Answer.the-variants.{Refused}
 use Rattle.recipe.specs.Answers.{answerOf, usedOf, pageOr20, Given, Answered}
 use Rattle.recipe.proofs.Pages.{Handed, page-handed}
 
@@ -42,13 +39,12 @@ module _ {sheet text units : List ℕ} {flags : ℕ} (m : Lent) {a : Inputs} (p 
 module _ {t sheet text units : List ℕ} {flags : ℕ} {m : Lent} (g : Given t sheet text units flags m) where
   pub run-given : walks.Lent t units × (length sheet ≤ 65536) × (24157 ≤ m .words) × (readSheet text sheet ≡ events (eventsOr (readSheet text sheet)))
   unfolding wordsNeeded
-  run-given =
-      (
-        record { tables = g .tables; units = g .inputs .units-some },
-        g .inputs .sheet-short,
-        omega (arith, g .inputs .words-enough),
-        g .inputs .sheet-read,
-      )
+  run-given = (
+    record { tables = g .tables; units = g .inputs .units-some },
+    g .inputs .sheet-short,
+    omega (arith, g .inputs .words-enough),
+    g .inputs .sheet-read,
+  )
 
   -- as many bytes as are needed serve as well as more
   good-fewer : {n : ℕ} → n ≡ m .words → GoodInputs sheet text units flags n bytesNeeded

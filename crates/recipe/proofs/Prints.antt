@@ -1,5 +1,5 @@
 -- What the programs print.
-use Prim.Native.Nat.{ℕ, zero, suc, _+_, _/_, _%_, _≤_, _<_}
+use Prim.Native.Nat.{ℕ, zero, suc, _+_, _/_, _%_, _≤_}
 use mathlib.Core.Path.{_≡_, refl, ap, sym, _∙_}
 use mathlib.Core.List.{List, [], _∷_, _++_}
 use native.Mathlib.Omega.{arith}
@@ -8,7 +8,7 @@ use lib.ListN.{length, take, drop, length-append}
 use lib.Seq.{take-at}
 use Rattle.rules.specs.Basic.{codes, tab, lf, digits, decimal}
 use Rattle.rules.specs.Sheet.{escape, escapeChar, refusedLine}
-use Rattle.rules.specs.Answer.{answered, declined, printed}
+use Rattle.rules.specs.Answer.{printed}
 use Rattle.rules.proofs.Basics.{pick-either}
 use Rattle.rules.proofs.Numbers.{escape-decimal}
 use Rattle.output.specs.Put.{Put, tabbed}
@@ -35,8 +35,7 @@ unfolding refusedLine tabbed escape escapeChar
 refused-short n l =
     let a : List ℕ = tab ∷ (decimal l ++ []) in
     rw (line-tabbed (codes "refused") (decimal n ∷ decimal l ∷ []), escape-decimal n, escape-decimal l)
-    (omega
-    (
+    (omega (
       arith,
       decimal-short n,
       decimal-short l,

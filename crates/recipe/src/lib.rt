@@ -97,7 +97,7 @@ pub fn collect(
     let t = unicode::unicode_tables();
     let r = collected(&t, sheet, text, units, flags, words, bytes.len(), out);
     clearing::clear_words(words);
-    clearing::clear_bytes(bytes);
+    clearing::clear_from(bytes, 0);
     clearing::clear_from(out, used(r));
     r
 }

@@ -9,10 +9,10 @@ use Rattle.clearing.proofs.clear_words.Reads as reads
 use Rattle.clearing.proofs.clear_words.Lts as lts
 
 abbrev Inv-loop : tie.InvT-loop
-Inv-loop s₀ i₀ s i = Zeroed s₀ s i
+Inv-loop s₀ k₀ s k = Zeroed s₀ s k
 
 abbrev μ-loop : tie.MeasureT-loop
-μ-loop s₀ i₀ s i = length s₀ - i
+μ-loop s₀ k₀ s k = length s₀ - k
 
 loop-holds : tie.Need-loop-holds Inv-loop μ-loop
 loop-holds c = zero-start
@@ -23,8 +23,8 @@ mul-words c = search needs
 slice-write-words : tie.Need-slice-write-words Inv-loop μ-loop
 slice-write-words c = search needs
 
-add-i : tie.Need-add-i Inv-loop μ-loop
-add-i c = search needs
+add-k : tie.Need-add-k Inv-loop μ-loop
+add-k c = search needs
 
 loop-less : tie.Need-loop-less Inv-loop μ-loop
 loop-less c = search needs
@@ -40,4 +40,4 @@ returns c = zero-end (c .before .loop .inv) (c .loop-test .left)
 
 pub clear-words-spec : {M : Type 1} → statement M
 clear-words-spec =
-    tie.close (tie.spec Inv-loop μ-loop loop-holds mul-words slice-write-words add-i loop-less loop-again same-length returns)
+    tie.close (tie.spec Inv-loop μ-loop loop-holds mul-words slice-write-words add-k loop-less loop-again same-length returns)

@@ -6,7 +6,6 @@ use Rattle.recipe.proofs.collect.Statement.{statement}
 use Rattle.recipe.proofs.collect.Tie as tie
 use Rattle.recipe.proofs.collect.Reads as reads
 use Rattle.recipe.proofs.collect.Lts as lts
-use Rattle.clearing.proofs.clear_bytes.Reads as clear-bytes-reads
 use Rattle.clearing.proofs.clear_from.Reads as clear-from-reads
 use Rattle.clearing.proofs.clear_words.Reads as clear-words-reads
 use Rattle.recipe.proofs.collected.Reads as collected-reads
@@ -30,16 +29,16 @@ clear-words-requires : tie.Need-clear-words-requires
 clear-words-requires c κs = search needs
 
 -- src/lib.rt:100:5
-clear-bytes-requires : tie.Need-clear-bytes-requires
-clear-bytes-requires c κs = search needs
+clear-from-requires : tie.Need-clear-from-requires
+clear-from-requires c κs = search needs
 
 -- src/lib.rt:101:31
 used-requires : tie.Need-used-requires
 used-requires c κs = search needs
 
 -- src/lib.rt:101:5
-clear-from-requires : tie.Need-clear-from-requires
-clear-from-requires c κs = search needs
+clear-from-requires-2 : tie.Need-clear-from-requires-2
+clear-from-requires-2 c κs = search needs
 
 -- src/lib.rt:86:1
 same-length : tie.Need-same-length
@@ -55,7 +54,7 @@ same-length-3 c = search needs
 
 -- src/lib.rt:86:1
 returns : tie.Need-returns
-returns c = collect-done (c .before .before .before .before .before .before .before .before .before .before .before .before .before .before .before .before .before .collected .ensures) (c .before .before .before .before .before .before .before .before .before .before .before .before .before .before .before .before .before .collected .kept .1 .1 .1 .1 .1 .0) (c .before .before .before .before .before .before .before .before .before .before .before .clear-words .ensures) refl (c .before .before .before .before .before .before .before .clear-bytes .ensures) (c .before .before .before .used .ensures) (c .before .before .clear-from .ensures)
+returns c = collect-done (c .before .before .before .before .before .before .before .before .before .before .before .before .before .before .before .before .before .collected .ensures) (c .before .before .before .before .before .before .before .before .before .before .before .before .before .before .before .before .before .collected .kept .1 .1 .1 .1 .1 .0) (c .before .before .before .before .before .before .before .before .before .before .before .clear-words .ensures) refl (c .before .before .before .before .before .before .before .clear-from .ensures) (c .before .before .before .used .ensures) (c .before .before .clear-from2 .ensures)
 
 pub collect-spec : {M : Type 1} → statement M
 collect-spec =
@@ -65,9 +64,9 @@ collect-spec =
     slice-aggregate-collected
     collected-requires
     clear-words-requires
-    clear-bytes-requires
-    used-requires
     clear-from-requires
+    used-requires
+    clear-from-requires-2
     same-length
     same-length-2
     same-length-3
