@@ -1,7 +1,7 @@
 #!/usr/bin/env python3
 """reading.py: instructions per byte of the sheet that reading takes (all refusals 1 to 10: UTF-8, lines, fields, numbers, spans),
-counted by callgrind on realistic sheets of about 16, 32 and 64 KB by the difference to the next smaller one. Run by hand; it proves
-`replay` first. REPLAY names a program that is built already."""
+counted by callgrind on realistic sheets of about 16, 32 and 64 KB by the difference to the next smaller one. Their last line is no
+event, so that nothing but reading is done. Run by hand; it proves `replay` first. REPLAY names a program that is built already."""
 import os
 import re
 import subprocess
@@ -22,7 +22,7 @@ STEP = [
 
 def sheet(size):
     step = ("\n".join(STEP) + "\n").encode()
-    return step * (size // len(step))
+    return step * (size // len(step)) + b"x\n"
 
 
 def count(replay, work, bytes_):
@@ -30,7 +30,7 @@ def count(replay, work, bytes_):
     with open(os.path.join(work, "generated.txt"), "wb") as f:
         f.write(b"case 0 " + b" ".join(str(len(p)).encode() for p in parts) + b"\n" + b"".join(parts) + b"\n")
     run = subprocess.run(["valgrind", "--tool=callgrind", "--callgrind-out-file=/dev/null", replay], cwd=work, capture_output=True, text=True)
-    assert "good 1\n" in run.stdout, run.stdout
+    assert "refused 8: 1\n" in run.stdout, run.stdout
     return int(re.search(r"Collected : (\d+)", run.stderr).group(1))
 
 

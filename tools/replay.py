@@ -9,7 +9,7 @@ CRATE = os.path.join(HERE, "crates", "replay")
 
 
 def cases():
-    """for each case its lent room and its seven parts; the format is that of crates/replay/data/README.md"""
+    """for each case its file, its lent room and its seven parts; the format is that of crates/replay/data/README.md"""
     for name in ("paper", "decisions", "generated", "limits"):
         data, at = open(os.path.join(CRATE, "data", name + ".txt"), "rb").read(), 0
         while at < len(data):
@@ -22,21 +22,19 @@ def cases():
                 at += int(length)
             assert data[at:at + 1] == b"\n"
             at += 1
-            yield int(room), parts
+            yield name, int(room), parts
+
+
+def refusal(answer):
+    return int(answer.split(b"\t")[1]) if answer.startswith(b"refused\t") else 0
 
 
 def expected():
-    total, good, refused = 0, 0, [0] * 11
-    for _, parts in cases():
-        answer = parts[5].split(b"\t")
-        number = int(answer[1]) if answer[0] == b"refused" else 0
-        total += 1
-        if 1 <= number <= 10:
-            refused[number] += 1
-        else:
-            good += 1
-    lines = ["cases %d" % total, "good %d" % good]
-    lines += ["refused %d: %d" % (n, refused[n]) for n in range(1, 11)]
+    answers = [parts[5] for _, _, parts in cases()]
+    refused = [refusal(answer) for answer in answers]
+    lines = ["cases %d" % len(answers), "pages %d" % refused.count(0)]
+    lines += ["without recipe %d" % sum(answer.startswith(b"recipe\tno\n") for answer in answers)]
+    lines += ["refused %d: %d" % (n, refused.count(n)) for n in range(1, 21)]
     return "\n".join(lines + ["different 0"]) + "\n"
 
 

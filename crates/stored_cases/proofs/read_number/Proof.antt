@@ -2,11 +2,11 @@ use borrow.Author.Needs.{needs}
 use Prim.Native.Nat.{_-_}
 use lib.ListN.{length}
 use native.Mathlib.Omega.{arith}
-use Rattle.replay.proofs.read_number.Statement.{statement}
-use Rattle.replay.proofs.read_number.Tie as tie
-use Rattle.replay.proofs.read_number.Reads as reads
-use Rattle.replay.proofs.read_number.Lts as lts
-use Rattle.replay.proofs.wide.Reads as wide-reads
+use Rattle.stored_cases.proofs.read_number.Statement.{statement}
+use Rattle.stored_cases.proofs.read_number.Tie as tie
+use Rattle.stored_cases.proofs.read_number.Reads as reads
+use Rattle.stored_cases.proofs.read_number.Lts as lts
+use Rattle.stored_cases.proofs.wide.Reads as wide-reads
 
 abbrev Inv-loop : tie.InvT-loop
 Inv-loop s at n₀ i₀ n i = Unit {0}

@@ -2,10 +2,10 @@ use borrow.Author.Needs.{needs}
 use mathlib.Core.Path.{sym}
 use Prim.Native.Nat.{ℕ}
 use lib.ListN.{length-replicate}
-use Rattle.replay.proofs.room.Statement.{statement}
-use Rattle.replay.proofs.room.Tie as tie
-use Rattle.replay.proofs.room.Reads as reads
-use Rattle.replay.proofs.room.Lts as lts
+use Rattle.stored_cases.proofs.room.Statement.{statement}
+use Rattle.stored_cases.proofs.room.Tie as tie
+use Rattle.stored_cases.proofs.room.Reads as reads
+use Rattle.stored_cases.proofs.room.Lts as lts
 
 returns : tie.Need-returns
 returns c = sym (length-replicate {0} {A = ℕ} 2097152 0)
