@@ -430,7 +430,7 @@ pub fn same_name(t: &[u32], a: &[u8], b: &[u8]) -> bool
                 return false;
             }
             Bytes::Unclear => {
-                return same_rest(t, &a[i..], &b[i..]);
+                break;
             }
         }
     }

@@ -93,38 +93,6 @@ same-rest-requires c κs = search needs
 returns-2 : tie.Need-returns-2 Inv-loop μ-loop
 returns-2 c = search (needs, rests)
 
--- src/lib.rt:437:18
-sub-same-rest-3 : tie.Need-sub-same-rest-3 Inv-loop μ-loop
-sub-same-rest-3 c = search needs
-
--- src/lib.rt:437:18
-part-same-rest-start-3 : tie.Need-part-same-rest-start-3 Inv-loop μ-loop
-part-same-rest-start-3 c = search needs
-
--- src/lib.rt:437:18
-part-same-rest-end-3 : tie.Need-part-same-rest-end-3 Inv-loop μ-loop
-part-same-rest-end-3 c = search needs
-
--- src/lib.rt:437:27
-sub-same-rest-4 : tie.Need-sub-same-rest-4 Inv-loop μ-loop
-sub-same-rest-4 c = search needs
-
--- src/lib.rt:437:27
-part-same-rest-start-4 : tie.Need-part-same-rest-start-4 Inv-loop μ-loop
-part-same-rest-start-4 c = search needs
-
--- src/lib.rt:437:27
-part-same-rest-end-4 : tie.Need-part-same-rest-end-4 Inv-loop μ-loop
-part-same-rest-end-4 c = search needs
-
--- src/lib.rt:437:5
-same-rest-requires-2 : tie.Need-same-rest-requires-2 Inv-loop μ-loop
-same-rest-requires-2 c κs = search needs
-
--- src/lib.rt:417:1
-returns-3 : tie.Need-returns-3 Inv-loop μ-loop
-returns-3 c = search (needs, rests)
-
 pub same-name-spec : {M : Type 1} → statement M
 same-name-spec =
     tie.close
@@ -148,12 +116,4 @@ same-name-spec =
     part-same-rest-start-2
     part-same-rest-end-2
     same-rest-requires
-    returns-2
-    sub-same-rest-3
-    part-same-rest-start-3
-    part-same-rest-end-3
-    sub-same-rest-4
-    part-same-rest-start-4
-    part-same-rest-end-4
-    same-rest-requires-2
-    returns-3)
+    returns-2)
