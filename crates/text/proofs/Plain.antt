@@ -1,13 +1,13 @@
 -- Names that are compared byte by byte as long as their bytes tell.
-use Prim.Native.Nat.{ℕ, _+_, _-_, _≤_, _<_}
+use Prim.Native.Nat.{ℕ, _+_, _-_, _%_, _≤_, _<_}
 use mathlib.Core.Path.{_≡_, refl, sym, ap, _∙_}
 use mathlib.Core.Bool.{Bool, true, false, not, _&&_}
 use mathlib.Core.List.{List, [], _∷_}
 use native.Mathlib.Omega.{arith}
-use borrow.Author.Tests.{eq-eqb, ne-eqb, eqb-true, eqb-false, not-true}
-use lib.Dec.{eqb}
+use borrow.Author.Tests.{eq-eqb, ne-eqb, lt-ltb, le-ltb, eqb-true, eqb-false, not-true}
+use lib.Dec.{eqb, ltb}
 use lib.ListN.{length, getD, take, drop}
-use Rattle.rules.specs.Basic.{within, eqList}
+use Rattle.rules.specs.Basic.{pick, within, eqList}
 use Rattle.rules.specs.Unicode.{fold, foldName, sameName}
 use Rattle.rules.proofs.Basics.{and-left, and-right, within-yes, within-low, within-high, within-from, within-to, by-order}
 use Rattle.utf8.proofs.Firsts.{part-rest}
@@ -25,17 +25,19 @@ use Rattle.text.proofs.Paths.{past-none}
 -- ---- the ways of `is_plain`, `is_single` and `lower`
 
 module _ (c : ℕ) where
+  pub plain-after : 92 < c → ltb c 127 ≡ isPlain c
+  unfolding isPlain
+  plain-after h = by-order c 126
+      (λ l. rw (lt-ltb c 127 (omega arith), within-yes 33 126 c (omega arith) l, ne-eqb c 92 (λ e. omega arith)))
+      (λ l. rw (le-ltb c 127 (omega arith), within-high 33 126 c (omega arith)))
+
   pub plain-low : c < 33 → false ≡ isPlain c
   unfolding isPlain
   plain-low h = rw (within-low 33 126 c h)
 
-  pub plain-high : 126 < c → false ≡ isPlain c
+  pub plain-before : c ≤ 92 → 33 ≤ c → not (eqb c 92) ≡ isPlain c
   unfolding isPlain
-  plain-high h = rw (within-high 33 126 c h)
-
-  pub plain-inside : 33 ≤ c → c ≤ 126 → not (eqb c 92) ≡ isPlain c
-  unfolding isPlain
-  plain-inside h g = rw (within-yes 33 126 c h g)
+  plain-before h g = rw (within-yes 33 126 c g (omega arith))
 
   module _ (h : c < 128) where
     pub lower-before : c < 65 → c ∷ [] ≡ fold c
@@ -113,6 +115,13 @@ bytes-equal {a} {b} {i} p q e =
     let f = ascii-fold (getD a i 0) (p .below) in
     bytes-same p q _ _ f (f ∙ ap fold e) refl
 
+case-apart : (c : ℕ) → pick (within 65 90 c) (c + 32) c % 32 ≡ c % 32
+case-apart c = go (within 65 90 c)
+  where
+    go : (upper : Bool) → pick upper (c + 32) c % 32 ≡ c % 32
+    go true = omega arith
+    go false = refl
+
 -- ---- the ways of `compare_at`
 
 module _ (c : ℕ) {r : Bool} (e : r ≡ isPlain c) where
@@ -128,15 +137,23 @@ module _ (a b : List ℕ) (i : ℕ) (h : (i < length a) × (i < length b)) where
     pub compare-equal : getD a i 0 ≡ getD b i 0 → sameAfter a b i Same ≡ sameFrom a b i
     compare-equal e = bytes-equal left (plain-stands b i (h .1) (ap isPlain (sym e) ∙ (sym er ∙ tr))) e
 
-    module _ {q : Bool} (eq : q ≡ isPlain (getD b i 0)) (tq : q ≡ true) {l m : ℕ} (el : l ∷ [] ≡ fold (getD a i 0)) (em : m ∷ [] ≡ fold (getD b i 0)) where
+    module _ {q : Bool} (eq : q ≡ isPlain (getD b i 0)) (tq : q ≡ true) where
       right : Stands b i
       right = plain-stands b i (h .1) (sym eq ∙ tq)
 
-      pub compare-same : l ≡ m → sameAfter a b i Same ≡ sameFrom a b i
-      compare-same = bytes-same left right l m el em
+      -- the two cases of a letter are 32 apart
+      pub compare-apart : (getD a i 0 % 32 ≡ getD b i 0 % 32 → ⊥) → sameAfter a b i Other ≡ sameFrom a b i
+      compare-apart n =
+          let f = ascii-fold (getD a i 0) (left .below) in
+          let g = ascii-fold (getD b i 0) (right .below) in
+          bytes-other left right _ _ f g (λ e. n (sym (case-apart (getD a i 0)) ∙ (ap (λ (z : ℕ). z % 32) e ∙ case-apart (getD b i 0))))
 
-      pub compare-other : (l ≡ m → ⊥) → sameAfter a b i Other ≡ sameFrom a b i
-      compare-other = bytes-other left right l m el em
+      module _ {l m : ℕ} (el : l ∷ [] ≡ fold (getD a i 0)) (em : m ∷ [] ≡ fold (getD b i 0)) where
+        pub compare-same : l ≡ m → sameAfter a b i Same ≡ sameFrom a b i
+        compare-same = bytes-same left right l m el em
+
+        pub compare-other : (l ≡ m → ⊥) → sameAfter a b i Other ≡ sameFrom a b i
+        compare-other = bytes-other left right l m el em
 
   pub compare-single : isSingle a i ≡ true → isSingle b i ≡ true → sameAfter a b i Same ≡ sameFrom a b i
   compare-single x y = bytes-equal (single-stands a i (h .0) x) (single-stands b i (h .1) y) (single-blank a i x ∙ sym (single-blank b i y))

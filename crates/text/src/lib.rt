@@ -335,10 +335,10 @@ fn same_rest(t: &[u32], a: &[u8], b: &[u8]) -> bool
 fn is_plain(c: u8) -> bool
     ensures { λ r. ⌜ r ≡ isPlain c ⌝ }
 {
-    if c < 33 {
-        return false;
+    if b'\\' < c {
+        return c < 127;
     }
-    if 126 < c {
+    if c < 33 {
         return false;
     }
     c != b'\\'
@@ -392,6 +392,9 @@ fn compare_at(a: &[u8], b: &[u8], i: usize) -> Bytes
         }
         if !is_plain(y) {
             return Bytes::Unclear;
+        }
+        if x % 32 != y % 32 {
+            return Bytes::Other;
         }
         if lower(x) == lower(y) {
             return Bytes::Same;

@@ -1,7 +1,7 @@
 use borrow.Author.Needs.{needs}
 use mathlib.Core.Path.{sym, _∙_}
 use borrow.Author.Tests.{not-false}
-use Rattle.text.proofs.Plain.{plain-below, compare-equal, compare-same, compare-other, compare-single, compare-unclear}
+use Rattle.text.proofs.Plain.{plain-below, compare-equal, compare-apart, compare-same, compare-other, compare-single, compare-unclear}
 use Rattle.text.proofs.compare_at.Statement.{statement}
 use Rattle.text.proofs.compare_at.Tie as tie
 use Rattle.text.proofs.compare_at.Reads as reads
@@ -34,41 +34,45 @@ is-plain-requires-2 c κs = search needs
 returns-2 : tie.Need-returns-2
 returns-2 c = compare-unclear _ _ _
 
--- src/lib.rt:396:12
-lower-requires : tie.Need-lower-requires
-lower-requires c κs = plain-below _ (c .before .before .before .before .is-plain .ensures) (c .before .before .before .if1 .taken)
-
--- src/lib.rt:396:24
-lower-requires-2 : tie.Need-lower-requires-2
-lower-requires-2 c κs = plain-below _ (c .before .before .is-plain2 .ensures) (not-false _ (c .before .if3 .left))
-
 -- src/lib.rt:397:13
 returns-3 : tie.Need-returns-3
-returns-3 c = compare-same _ _ _ (c .before .before .before .before .before .before .before .before .before .before .before .before .pre) (c .before .before .before .before .before .before .before .is-plain .ensures) (c .before .before .before .before .before .before .if1 .taken) (c .before .before .before .before .is-plain2 .ensures) (not-false _ (c .before .before .before .if3 .left)) (c .before .before .lower .ensures) (c .before .lower2 .ensures) (c .if4 .taken)
+returns-3 c = compare-apart _ _ _ (c .before .before .before .before .before .before .before .before .before .before .pre) (c .before .before .before .before .before .is-plain .ensures) (c .before .before .before .before .if1 .taken) (c .before .before .is-plain2 .ensures) (not-false _ (c .before .if3 .left)) (c .if4 .taken)
 
--- src/lib.rt:399:9
+-- src/lib.rt:399:12
+lower-requires : tie.Need-lower-requires
+lower-requires c κs = plain-below _ (c .before .before .before .before .before .is-plain .ensures) (c .before .before .before .before .if1 .taken)
+
+-- src/lib.rt:399:24
+lower-requires-2 : tie.Need-lower-requires-2
+lower-requires-2 c κs = plain-below _ (c .before .before .before .is-plain2 .ensures) (not-false _ (c .before .before .if3 .left))
+
+-- src/lib.rt:400:13
 returns-4 : tie.Need-returns-4
-returns-4 c = compare-other _ _ _ (c .before .before .before .before .before .before .before .before .before .before .before .before .pre) (c .before .before .before .before .before .before .before .is-plain .ensures) (c .before .before .before .before .before .before .if1 .taken) (c .before .before .before .before .is-plain2 .ensures) (not-false _ (c .before .before .before .if3 .left)) (c .before .before .lower .ensures) (c .before .lower2 .ensures) (c .if4 .left)
-
--- src/lib.rt:401:9
-is-single-requires : tie.Need-is-single-requires
-is-single-requires c κs = search needs
+returns-4 c = compare-same _ _ _ (c .before .before .before .before .before .before .before .before .before .before .before .before .before .pre) (c .before .before .before .before .before .before .before .before .is-plain .ensures) (c .before .before .before .before .before .before .before .if1 .taken) (c .before .before .before .before .before .is-plain2 .ensures) (not-false _ (c .before .before .before .before .if3 .left)) (c .before .before .lower .ensures) (c .before .lower2 .ensures) (c .if5 .taken)
 
 -- src/lib.rt:402:9
 returns-5 : tie.Need-returns-5
-returns-5 c = compare-unclear _ _ _
+returns-5 c = compare-other _ _ _ (c .before .before .before .before .before .before .before .before .before .before .before .before .before .pre) (c .before .before .before .before .before .before .before .before .is-plain .ensures) (c .before .before .before .before .before .before .before .if1 .taken) (c .before .before .before .before .before .is-plain2 .ensures) (not-false _ (c .before .before .before .before .if3 .left)) (c .before .before .lower .ensures) (c .before .lower2 .ensures) (c .if5 .left)
 
 -- src/lib.rt:404:9
-is-single-requires-2 : tie.Need-is-single-requires-2
-is-single-requires-2 c κs = search needs
+is-single-requires : tie.Need-is-single-requires
+is-single-requires c κs = search needs
 
 -- src/lib.rt:405:9
 returns-6 : tie.Need-returns-6
 returns-6 c = compare-unclear _ _ _
 
--- src/lib.rt:383:1
+-- src/lib.rt:407:9
+is-single-requires-2 : tie.Need-is-single-requires-2
+is-single-requires-2 c κs = search needs
+
+-- src/lib.rt:408:9
 returns-7 : tie.Need-returns-7
-returns-7 c = compare-single _ _ _ (c .before .before .before .before .before .before .before .before .before .before .pre) (sym (c .before .before .before .is-single .ensures) ∙ not-false _ (c .before .before .if5 .left)) (sym (c .before .is-single2 .ensures) ∙ not-false _ (c .if6 .left))
+returns-7 c = compare-unclear _ _ _
+
+-- src/lib.rt:383:1
+returns-8 : tie.Need-returns-8
+returns-8 c = compare-single _ _ _ (c .before .before .before .before .before .before .before .before .before .before .pre) (sym (c .before .before .before .is-single .ensures) ∙ not-false _ (c .before .before .if6 .left)) (sym (c .before .is-single2 .ensures) ∙ not-false _ (c .if7 .left))
 
 pub compare-at-spec : {M : Type 1} → statement M
 compare-at-spec =
@@ -80,12 +84,13 @@ compare-at-spec =
     returns
     is-plain-requires-2
     returns-2
+    returns-3
     lower-requires
     lower-requires-2
-    returns-3
     returns-4
-    is-single-requires
     returns-5
-    is-single-requires-2
+    is-single-requires
     returns-6
-    returns-7)
+    is-single-requires-2
+    returns-7
+    returns-8)
