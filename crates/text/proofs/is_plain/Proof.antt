@@ -1,5 +1,3 @@
-use borrow.Author.Needs.{needs}
-use native.Mathlib.Omega.{arith}
 use Rattle.text.proofs.Plain.{plain-after, plain-low, plain-before}
 use Rattle.text.proofs.is_plain.Statement.{statement}
 use Rattle.text.proofs.is_plain.Tie as tie

@@ -1,5 +1,4 @@
 use borrow.Author.Needs.{needs}
-use native.Mathlib.Omega.{arith}
 use Rattle.text.proofs.Plain.{single-other, single-last, single-next}
 use Rattle.text.proofs.is_single.Statement.{statement}
 use Rattle.text.proofs.is_single.Tie as tie
