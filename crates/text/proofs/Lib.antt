@@ -2,3 +2,4 @@ pub mod Trims
 pub mod Writes
 pub mod Names
 pub mod Paths
+pub mod Plain

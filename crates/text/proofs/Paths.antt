@@ -23,7 +23,7 @@ use Rattle.content.proofs.Kept.{retain-front, retain-other, retain-keeps, retai
 use Rattle.content.proofs.Spells.{spell-cons, escape-highs, char-written, field-spell, content-scalars}
 use Rattle.text.specs.Paths.{isBack, pathBytes}
 
-past-none : (w : List ℕ) (i : ℕ) → length w ≤ i → getD w i 0 ≡ 0
+pub past-none : (w : List ℕ) (i : ℕ) → length w ≤ i → getD w i 0 ≡ 0
 past-none [] i h = refl
 past-none (x ∷ w) zero h = absurd (omega arith)
 past-none (x ∷ w) (suc i) h = past-none w i (omega arith)

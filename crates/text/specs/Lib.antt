@@ -1,3 +1,4 @@
 pub mod Trims
 pub mod Names
 pub mod Paths
+pub mod Plain

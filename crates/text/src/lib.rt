@@ -3,16 +3,20 @@
 use unicode::Folded;
 ghost use mathlib.Core.Path.{_≡_};
 ghost use mathlib.Core.Bool.{_&&_};
+ghost use mathlib.Core.List.{[], _∷_};
+ghost use Prim.Native.Nat.{_≤_, _<_};
 ghost use lib.Dec.{eqb};
+ghost use lib.ListN.{length};
 ghost use Rattle.rules.specs.Basic.{blank, any};
 ghost use Rattle.rules.specs.Text.{retain, trimEnd, trimMatches};
-ghost use Rattle.rules.specs.Unicode.{isAlphanumeric, sameName};
+ghost use Rattle.rules.specs.Unicode.{isAlphanumeric, fold, sameName};
 ghost use Rattle.content.specs.Contents.{contentIn, keptIn};
 ghost use Rattle.unicode.specs.Tables.{unicodeTables};
 ghost use Rattle.output.specs.Put.{Put};
 ghost use Rattle.text.specs.Trims.{dropsOf, StartAt, EndAt, TrimmedBy, TrimmedTo, UnitTrimmedTo, PutTrimmed};
 ghost use Rattle.text.specs.Paths.{isBack, pathBytes};
 ghost use Rattle.text.specs.Names.{startCursor, stepOf, foldFrom, rest, told};
+ghost use Rattle.text.specs.Plain.{isPlain, isSingle, sameFrom, sameAfter};
 
 // Which characters a trimming drops at both ends.
 pub enum Dropped {
@@ -288,8 +292,8 @@ pub fn next_folded(t: &[u32], s: &[u8], c: Cursor) -> Step
     }
 }
 
-// Whether two fields have the same folding, their blanks collapsed.
-pub fn same_name(t: &[u32], a: &[u8], b: &[u8]) -> bool
+// Whether two fields have the same folding, their blanks collapsed: both folded as they are read.
+fn same_rest(t: &[u32], a: &[u8], b: &[u8]) -> bool
     requires { ⌜ now t ≡ unicodeTables ⌝ }
     ensures { λ r. ⌜ r ≡ sameName (keptIn (now (a .entry))) (keptIn (now (b .entry))) ⌝ }
 {
@@ -325,4 +329,113 @@ pub fn same_name(t: &[u32], a: &[u8], b: &[u8]) -> bool
             }
         }
     }
+}
+
+// Whether a byte stands for itself wherever it stands, is kept, and is below 128: printed, no blank, no backslash.
+fn is_plain(c: u8) -> bool
+    ensures { λ r. ⌜ r ≡ isPlain c ⌝ }
+{
+    if b'\\' < c {
+        return c < 127;
+    }
+    if c < 33 {
+        return false;
+    }
+    c != b'\\'
+}
+
+// Whether a blank stands at a place and none after it.
+fn is_single(s: &[u8], i: usize) -> bool
+    requires { ⌜ i < length (now s) ⌝ }
+    ensures { λ r. ⌜ r ≡ isSingle (now (s .entry)) i ⌝ }
+{
+    if s[i] != 32 {
+        return false;
+    }
+    let j = i + 1;
+    if s.len() <= j {
+        return true;
+    }
+    s[j] != 32
+}
+
+// What a byte below 128 folds to.
+fn lower(c: u8) -> u8
+    requires { ⌜ c < 128 ⌝ }
+    ensures { λ r. ⌜ r ∷ [] ≡ fold c ⌝ }
+{
+    if c < 65 {
+        return c;
+    }
+    if 90 < c {
+        return c;
+    }
+    c + 32
+}
+
+// What the bytes at one place tell of two names that are the same before it.
+enum Bytes {
+    Same,
+    Other,
+    Unclear,
+}
+
+fn compare_at(a: &[u8], b: &[u8], i: usize) -> Bytes
+    requires { ⌜ (i < length (now a)) × (i < length (now b)) ⌝ }
+    ensures { λ r. ⌜ sameAfter (now (a .entry)) (now (b .entry)) i r ≡ sameFrom (now (a .entry)) (now (b .entry)) i ⌝ }
+{
+    let x = a[i];
+    let y = b[i];
+    if is_plain(x) {
+        if x == y {
+            return Bytes::Same;
+        }
+        if !is_plain(y) {
+            return Bytes::Unclear;
+        }
+        if x % 32 != y % 32 {
+            return Bytes::Other;
+        }
+        if lower(x) == lower(y) {
+            return Bytes::Same;
+        }
+        return Bytes::Other;
+    }
+    if !is_single(a, i) {
+        return Bytes::Unclear;
+    }
+    if !is_single(b, i) {
+        return Bytes::Unclear;
+    }
+    Bytes::Same
+}
+
+fn shorter(n: usize, m: usize) -> usize
+    ensures { λ r. ⌜ (r ≤ n) × (r ≤ m) ⌝ }
+{
+    if n < m { n } else { m }
+}
+
+// Whether two fields have the same folding, their blanks collapsed. No table is asked as long as their bytes tell.
+pub fn same_name(t: &[u32], a: &[u8], b: &[u8]) -> bool
+    requires { ⌜ now t ≡ unicodeTables ⌝ }
+    ensures { λ r. ⌜ r ≡ sameName (keptIn (now (a .entry))) (keptIn (now (b .entry))) ⌝ }
+{
+    let n = shorter(a.len(), b.len());
+    let mut i = 0;
+    while i < n {
+        let k = compare_at(a, b, i);
+        match k {
+            Bytes::Same => {
+                i += 1;
+            }
+            Bytes::Other => {
+                return false;
+            }
+            Bytes::Unclear => {
+                break;
+            }
+        }
+    }
+    same_rest(t, &a[i..], &b[i..])
 }
