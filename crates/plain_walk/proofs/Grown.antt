@@ -40,7 +40,7 @@ bare-set i n (e ∷ es) =
     pick-either (λ (x : List Entry). each bare x ≡ each bare (e ∷ es)) (eqb i (length es)) _ _
     (λ b. ap (λ (r : Relation). setRelation r e ∷ each bare es) (bare-referred n (e .relation))) (λ b. ap (λ (x : List Entry). bare e ∷ x) (bare-set i n es))
 
-bare-more : (o : Option Earlier) (es : List Entry) → each bare (referred o es) ≡ each bare es
+pub bare-more : (o : Option Earlier) (es : List Entry) → each bare (referred o es) ≡ each bare es
 unfolding referred
 bare-more none es = refl
 bare-more (some d) es = bare-set (d .index) (length es) es
