@@ -9,6 +9,7 @@ use Rattle.rules.specs.Unicode.{foldName}
 use Rattle.rules.specs.Event.{Component, ComponentEvent, ingredientEvent, cookwareEvent, timerEvent, Inside, endEvent, textEvent, componentEvent, Event, between, inside, parserEvent}
 use Rattle.rules.specs.Model.{Kind, ingredient, cookware}
 use Rattle.rules.specs.Modes.{isComponents}
+use Rattle.rules.specs.Plain.{markRef}
 use Rattle.content.specs.Contents.{keptIn}
 use Rattle.model.specs.Rows.{rowAt, rowOf}
 use Rattle.model.specs.Memory.{defineOf}
@@ -26,6 +27,11 @@ refersAs Definition i = none
 refersAs (Reference Ingredient) i = some i
 refersAs (Reference Step) i = none
 refersAs (Reference Section) i = none
+
+-- REF added where a line refers without it
+unfoldable pub markedAs : Component → Option ℕ → Component
+markedAs c none = c
+markedAs c (some d) = markRef c
 
 -- 23, where `to` is what a line refers to without REF, and `last` the last of its name without REF
 unfoldable pub faultAs : Option ℕ → Option ℕ → Option ℕ
