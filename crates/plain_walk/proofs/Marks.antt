@@ -25,7 +25,7 @@ use Rattle.model.specs.declared.Relation.the-variants.{Definition, Reference}
 use Rattle.model.specs.declared.Target.the-variants.{Ingredient, Step, Section}
 use Rattle.lookup.specs.Names.{namePart, sameRow, earlierIn, rowsIn}
 use Rattle.lookup.proofs.Names.{name-of, rows-search}
-use Rattle.plain_walk.specs.Rows.{refersAs, faultAs, markedAs, implicitIn, lastIn}
+use Rattle.plain_walk.specs.Rows.{refersAs, faultAs, markedAs, implicitRow, lastRow, implicitIn, kindFault}
 use Rattle.plain_walk.proofs.Grown.{bareRelation, bare, indexOf, bare-search}
 use Rattle.plain_walk.proofs.Added.{HasRow}
 
@@ -148,7 +148,7 @@ module _ (units : List NamedUnit) (flags : ℕ) (k : Kind) (c : Component) (st :
 
   module _ (h : c .modifiers .ref ≡ false → Named) where
     pub implicit-row : onSome indexOf (implicitOf c to) ≡ implicitIn w k c (length (tableOf k st))
-    unfolding implicitOf implicitIn
+    unfolding implicitOf implicitIn implicitRow
     implicit-row = go (c .modifiers .ref) refl
       where
         go : (b : Bool) → c .modifiers .ref ≡ b
@@ -161,7 +161,8 @@ module _ (units : List NamedUnit) (flags : ℕ) (k : Kind) (c : Component) (st :
     marked-row = marked-as c (implicitOf c to) ∙ ap (markedAs c) implicit-row
 
     pub fault-row : EachRow (Fits k sheet) (rowsIn k w) n
-        → implicitFault (newEntry k c st) (tableOf k st) (implicitOf c to) ≡ faultAs (implicitIn w k c (length (tableOf k st))) (lastIn w sheet k (length (tableOf k st)))
+        → implicitFault (newEntry k c st) (tableOf k st) (implicitOf c to) ≡ kindFault w sheet k c (length (tableOf k st))
+    unfolding kindFault
     fault-row z =
         fault-as (newEntry k c st) (tableOf k st) (implicitOf c to)
         ∙ ap (λ (x : Option ℕ). faultAs x (onSome indexOf (sameNameOf true (newEntry k c st) (tableOf k st)))) implicit-row
@@ -169,8 +170,8 @@ module _ (units : List NamedUnit) (flags : ℕ) (k : Kind) (c : Component) (st :
       where
         go : (b : Bool) → c .modifiers .ref ≡ b
             → faultAs (implicitIn w k c (length (tableOf k st))) (onSome indexOf (sameNameOf true (newEntry k c st) (tableOf k st)))
-            ≡ faultAs (implicitIn w k c (length (tableOf k st))) (lastIn w sheet k (length (tableOf k st)))
-        go true q = unfold implicitIn faultAs in rw q
+            ≡ faultAs (implicitIn w k c (length (tableOf k st))) (lastRow (rowsIn k w) sheet (length (tableOf k st)))
+        go true q = unfold implicitIn implicitRow faultAs in rw q
         go false q =
-            unfold lastIn in
+            unfold lastRow in
             ap (faultAs (implicitIn w k c (length (tableOf k st)))) (sym (last-row units flags k c st sheet (rowsIn k w) pairs m n (h q .row) z))

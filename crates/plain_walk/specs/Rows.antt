@@ -1,5 +1,6 @@
--- What the rows of work memory say after the pass of a component's line: what it refers to without REF, and 22 and 23.
-use Prim.Native.Nat.{ℕ}
+-- What the rows of work memory say, after the pass, of a component's line: what it refers to without REF, 22 and 23.
+use Prim.Native.Nat.{ℕ, _<_}
+use mathlib.Core.Path.{_≡_}
 use mathlib.Core.List.{List, []}
 use mathlib.Core.Bool.{Bool, true, false}
 use mathlib.Core.Option.{Option, none, some}
@@ -18,6 +19,7 @@ use Rattle.model.specs.declared.Relation.the-variants.{Definition, Reference}
 use Rattle.model.specs.declared.Target.the-variants.{Ingredient, Step, Section}
 use Rattle.model.specs.declared.Open.{Open}
 use Rattle.model.specs.declared.Open.the-variants as block
+use Rattle.model.specs.declared.Held.{Held}
 use Rattle.lookup.specs.Names.{namePart, sameRow, rowsIn}
 use Rattle.following.specs.declared.Follow.{Follow}
 
@@ -39,21 +41,31 @@ faultAs none last = none
 faultAs (some d) none = some 23
 faultAs (some d) (some l) = pick (eqb d l) none (some 23)
 
+-- ---- the rows of a kind
+
+module _ (rows : List ℕ) where
+  -- what row n refers to, where its line has no REF
+  unfoldable pub implicitRow : Bool → ℕ → Option ℕ
+  implicitRow ref n = pick ref none (refersAs (rowOf (rowAt 12 rows n) .relation .relation) (rowOf (rowAt 12 rows n) .relation .index))
+
+  -- the last row before row n that has its name, and no REF
+  unfoldable pub lastRow : List ℕ → ℕ → Option ℕ
+  lastRow sheet n = sameRow sheet (foldName (keptIn (namePart sheet (rowOf (rowAt 12 rows n))))) true false rows n
+
+-- ---- the rows in work memory
+
 module _ (w : List ℕ) where
   -- what the component c in row n refers to without REF on its line
   unfoldable pub implicitIn : Kind → Component → ℕ → Option ℕ
-  implicitIn k c n =
-      pick (c .modifiers .ref) none
-      (refersAs (rowOf (rowAt 12 (rowsIn k w) n) .relation .relation) (rowOf (rowAt 12 (rowsIn k w) n) .relation .index))
+  implicitIn k c n = implicitRow (rowsIn k w) (c .modifiers .ref) n
 
   module _ (sheet : List ℕ) where
-    -- the last row before row n that has its name, and no REF
-    unfoldable pub lastIn : Kind → ℕ → Option ℕ
-    lastIn k n = sameRow sheet (foldName (keptIn (namePart sheet (rowOf (rowAt 12 (rowsIn k w) n))))) true false (rowsIn k w) n
+    unfoldable pub kindFault : Kind → Component → ℕ → Option ℕ
+    kindFault k c n = faultAs (implicitIn k c n) (lastRow (rowsIn k w) sheet n)
 
     unfoldable pub markFaultIn : ComponentEvent → Follow → Option ℕ
-    markFaultIn (ingredientEvent c i) f = faultAs (implicitIn ingredient c (f .ingredients)) (lastIn ingredient (f .ingredients))
-    markFaultIn (cookwareEvent c) f = faultAs (implicitIn cookware c (f .cookware)) (lastIn cookware (f .cookware))
+    markFaultIn (ingredientEvent c i) f = kindFault ingredient c (f .ingredients)
+    markFaultIn (cookwareEvent c) f = kindFault cookware c (f .cookware)
     markFaultIn (timerEvent s n q) f = none
 
     -- 22, then 23
@@ -70,3 +82,23 @@ module _ (w : List ℕ) where
     faultIn (inside (textEvent t)) f = none
     faultIn (inside (componentEvent c)) f = componentFaultIn c (f .block) f
     faultIn (parserEvent s n) f = none
+
+-- ---- a component's line in a step has its row
+
+unfoldable pub RowOf : ComponentEvent → Follow → Held → Type 0
+RowOf (ingredientEvent c i) f h = f .ingredients < h .counts .ingredients
+RowOf (cookwareEvent c) f h = f .cookware < h .counts .cookware
+RowOf (timerEvent s n q) f h = Unit
+
+unfoldable pub RowIn : ComponentEvent → Open → Follow → Held → Type 0
+RowIn c block.Nothing f h = Unit
+RowIn c block.Step f h = RowOf c f h
+RowIn c block.Text f h = Unit
+RowIn c block.TextMode f h = Unit
+
+unfoldable pub RowFor : Event → Follow → Held → Type 0
+RowFor (between b) f h = Unit
+RowFor (inside (endEvent k)) f h = Unit
+RowFor (inside (textEvent t)) f h = Unit
+RowFor (inside (componentEvent c)) f h = RowIn c (f .block) f h
+RowFor (parserEvent s n) f h = Unit
