@@ -47,6 +47,22 @@ module _ (units : List NamedUnit) (flags : ℕ) where
   ingredient-pushed c none items st after q r = made-pushed ingredient (madeByName units flags ingredient c st) items st after q
   ingredient-pushed c (some i) items st after q r = no-step (rw r at q)
 
+  pub ingredient-refused : {P : Type 0} (c : Component) (i : Intermediate) (items : List Item) (st after : State) → onComponent units flags (ingredientEvent c (some i)) items st ≡ next after
+      → c .modifiers .ref ≡ false → P
+  unfolding onComponent unlessFault intermediateFault
+  ingredient-refused c i items st after q r = no-step (rw r at q)
+
+  -- with REF or without
+  pub ingredient-made : (c : Component) (i : Option Intermediate) (items : List Item) (st after : State) → onComponent units flags (ingredientEvent c i) items st ≡ next after
+      → tableOf ingredient after ≡ pushed (makeIngredient units flags c i st) (tableOf ingredient st)
+  unfolding onComponent unlessFault
+  ingredient-made c i items st after = go (intermediateFault c i)
+    where
+      go : (o : Option ℕ) → unlessFault o (onMade units flags ingredient (makeIngredient units flags c i st) items st) ≡ next after
+          → tableOf ingredient after ≡ pushed (makeIngredient units flags c i st) (tableOf ingredient st)
+      go none q = made-pushed ingredient (makeIngredient units flags c i st) items st after q
+      go (some n) q = no-step q
+
   pub cookware-pushed : (c : Component) (items : List Item) (st after : State) → onComponent units flags (cookwareEvent c) items st ≡ next after
       → tableOf cookware after ≡ pushed (madeByName units flags cookware c st) (tableOf cookware st)
   unfolding onComponent makeCookware

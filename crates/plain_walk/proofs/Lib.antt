@@ -1,3 +1,4 @@
 pub mod Grown
 pub mod Added
 pub mod Marks
+pub mod Same
