@@ -2,3 +2,5 @@ pub mod Grown
 pub mod Added
 pub mod Marks
 pub mod Same
+pub mod Behinds
+pub mod Forming
