@@ -4,3 +4,5 @@ pub mod Marks
 pub mod Same
 pub mod Behinds
 pub mod Forming
+pub mod Faults
+pub mod FaultLines
