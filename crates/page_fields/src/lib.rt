@@ -59,7 +59,7 @@ pub fn put_optional(t: &[u32], out: &mut [u8], at: usize, line: &[u8], o: OptTex
 
 // ---- quantities
 
-fn put_kind(out: &mut [u8], at: usize, kind: ValueKind) -> usize
+pub fn put_kind(out: &mut [u8], at: usize, kind: ValueKind) -> usize
     ensures { λ r. ⌜ Put (tabbed (kindField (kindIn kind) ∷ [])) (now (out .entry)) at (now (out .exit)) r ⌝ }
 {
     match kind {
