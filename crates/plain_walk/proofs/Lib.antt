@@ -6,3 +6,4 @@ pub mod Behinds
 pub mod Forming
 pub mod Faults
 pub mod FaultLines
+pub mod Becomes

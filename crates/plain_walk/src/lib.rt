@@ -7,12 +7,26 @@ ghost use Rattle.unicode.specs.Tables.{unicodeTables};
 ghost use Rattle.events.specs.declared.EventView.the-variants as event;
 ghost use Rattle.plain_walk.specs.Rows.{implicitRow};
 ghost use Rattle.plain_walk.specs.Faults.{RowNamed, ComponentReady, InsideReady, EventReady, ImplicitFound, RowFault, StepFault, LineFault};
+ghost use mathlib.Core.Bool.{true, _&&_};
+ghost use Rattle.rules.specs.Utf8.{isUtf8};
+ghost use Rattle.rules.specs.Modes.{hasModes, keyOf, keyText};
+ghost use Rattle.rules.specs.Plain.{isModeKey};
+ghost use Rattle.parts.specs.Views.{textIn, TextWithin};
+ghost use Rattle.events.specs.Views.{BetweenWithin, EventWithin};
+ghost use Rattle.model.specs.declared.Open.the-variants as block;
+ghost use Rattle.plain_walk.specs.Becomes.{PlainFit, Few, StartTold, BetweenTold, ComponentTold, BlockTold, TextTold, EventTold, PlainWritten};
+use components::ComponentView;
+use events::Between;
+use events::BlockKind;
 use events::ComponentEvent;
 use events::EventView;
 use events::Inside;
 use following::Follow;
 use lookup::Same;
+use model::Define;
 use model::Open;
+use parts::Span;
+use parts::TextView;
 
 fn wide(x: u32) -> usize
     ensures { λ r. ⌜ r ≡ x ⌝ }
@@ -123,4 +137,188 @@ pub fn line_fault(t: &[u32], sheet: &[u8], words: &[u32], e: EventView, f: Follo
         EventView::Inside(i) => inside_fault(t, sheet, words, i, f),
         EventView::Finding(s, n) => 0,
     }
+}
+
+// ---- what a line becomes
+
+pub enum Plain {
+    Dropped,
+    Copied,
+    StartText,
+    EndText,
+    // A component in text mode, by its span.
+    Source(Span),
+    // With REF added; whether it is an ingredient.
+    Marked(bool, ComponentView),
+}
+
+// Whether a `meta` line sets a mode, or would.
+fn is_mode_line(t: &[u32], flags: u32, line: &[u8], key: TextView) -> bool
+    requires { ⌜ (now t ≡ unicodeTables) × TextWithin (now line) key ⌝ }
+    ensures { λ r. ⌜ r ≡ (hasModes flags && isModeKey (keyOf (keyText (textIn (now (line .entry)) key)))) ⌝ }
+{
+    let odd = flags % 2;
+    if odd == 1 {
+        let kp = key.content;
+        let k = parts::part_of(line, kp);
+        match config_keys::key_of(t, k) {
+            config_keys::Key::Define => {
+                return true;
+            }
+            config_keys::Key::Duplicate => {
+                return true;
+            }
+            config_keys::Key::Unknown => {
+                return false;
+            }
+            config_keys::Key::Ordinary => {
+                return false;
+            }
+        }
+    }
+    false
+}
+
+fn start_plain(kind: BlockKind, f: Follow) -> Plain
+    ensures { λ r. ⌜ StartTold kind f r ⌝ }
+{
+    match kind {
+        BlockKind::Step => {
+            let define = f.define;
+            if blocks::is_text(define) {
+                return Plain::StartText;
+            }
+            if blocks::is_components(define) {
+                return Plain::Dropped;
+            }
+            Plain::Copied
+        }
+        BlockKind::Text => Plain::Copied,
+    }
+}
+
+fn between_plain(t: &[u32], flags: u32, line: &[u8], b: Between, f: Follow) -> Plain
+    requires { ⌜ (now t ≡ unicodeTables) × BetweenWithin (now line) b ⌝ }
+    ensures { λ r. ⌜ BetweenTold flags (now (line .entry)) b f r ⌝ }
+{
+    match b {
+        Between::Meta(key, value) => {
+            if is_mode_line(t, flags, line, key) {
+                return Plain::Dropped;
+            }
+            Plain::Copied
+        }
+        Between::Section(name) => Plain::Copied,
+        Between::Start(kind) => start_plain(kind, f),
+    }
+}
+
+// A component in a step that is kept.
+fn component_plain(words: &[u32], c: ComponentEvent, f: Follow) -> Plain
+    requires { ⌜ (24157 ≤ length (now words)) × Few f ⌝ }
+    ensures { λ r. ⌜ ComponentTold (now (words .entry)) c f r ⌝ }
+{
+    match c {
+        ComponentEvent::Ingredient(v, i) => {
+            let n = wide(f.ingredients);
+            let m = v.modifiers;
+            match implicit_row(&words[0..6156], n, m.reference) {
+                Same::Nothing => Plain::Copied,
+                Same::At(d) => Plain::Marked(true, v),
+            }
+        }
+        ComponentEvent::Cookware(v) => {
+            let n = wide(f.cookware);
+            let m = v.modifiers;
+            match implicit_row(&words[6156..9240], n, m.reference) {
+                Same::Nothing => Plain::Copied,
+                Same::At(d) => Plain::Marked(false, v),
+            }
+        }
+        ComponentEvent::Timer(s, n, q) => Plain::Copied,
+    }
+}
+
+// A line in a step.
+fn step_plain(words: &[u32], i: Inside, f: Follow) -> Plain
+    requires { ⌜ (24157 ≤ length (now words)) × Few f ⌝ }
+    ensures { λ r. ⌜ BlockTold (now (words .entry)) i block.Step f r ⌝ }
+{
+    let define = f.define;
+    if blocks::is_components(define) {
+        return Plain::Dropped;
+    }
+    match i {
+        Inside::End(kind) => Plain::Copied,
+        Inside::Text(body) => Plain::Copied,
+        Inside::Component(c) => component_plain(words, c, f),
+    }
+}
+
+// A line in text mode.
+fn text_plain(i: Inside) -> Plain
+    ensures { λ r. ⌜ TextTold i r ⌝ }
+{
+    match i {
+        Inside::End(kind) => Plain::EndText,
+        Inside::Text(body) => Plain::Copied,
+        Inside::Component(c) => Plain::Source(blocks::component_span(c)),
+    }
+}
+
+fn inside_plain(words: &[u32], i: Inside, f: Follow) -> Plain
+    requires { ⌜ (24157 ≤ length (now words)) × Few f ⌝ }
+    ensures { λ r. ⌜ BlockTold (now (words .entry)) i (f .block) f r ⌝ }
+{
+    let b = f.block;
+    match b {
+        Open::Nothing => Plain::Copied,
+        Open::Step => step_plain(words, i, f),
+        Open::Text => Plain::Copied,
+        Open::TextMode => text_plain(i),
+    }
+}
+
+pub fn plain_of(
+    t: &[u32],
+    flags: u32,
+    line: &[u8],
+    words: &[u32],
+    e: EventView,
+    f: Follow,
+) -> Plain
+    requires { ⌜ (now t ≡ unicodeTables) × EventWithin (now line) e × (24157 ≤ length (now words)) × Few f ⌝ }
+    ensures { λ r. ⌜ EventTold flags (now (words .entry)) (now (line .entry)) e f r ⌝ }
+{
+    match e {
+        EventView::Between(b) => between_plain(t, flags, line, b, f),
+        EventView::Inside(i) => inside_plain(words, i, f),
+        EventView::Finding(s, n) => Plain::Copied,
+    }
+}
+
+// ---- its bytes
+
+fn plain_line(rest: &mut [u8], text: &[u8], line: &[u8], p: Plain) -> usize
+    requires { ⌜ (isUtf8 (now text) ≡ true) × PlainFit (now text) (now line) p ⌝ }
+    ensures { λ r. ⌜ PlainWritten (now (text .entry)) (now (line .entry)) p (now (rest .entry)) 0 (now (rest .exit)) r ⌝ }
+{
+    match p {
+        Plain::Dropped => 0,
+        Plain::Copied => plain_lines::copied_line(rest, line),
+        Plain::StartText => plain_lines::start_text_line(rest),
+        Plain::EndText => plain_lines::end_text_line(rest),
+        Plain::Source(s) => plain_lines::source_line(rest, text, s),
+        Plain::Marked(b, v) => plain_lines::marked_line(rest, line, b, v),
+    }
+}
+
+pub fn put_plain(out: &mut [u8], at: usize, text: &[u8], line: &[u8], p: Plain) -> usize
+    requires { ⌜ (isUtf8 (now text) ≡ true) × PlainFit (now text) (now line) p ⌝ }
+    ensures { λ r. ⌜ PlainWritten (now (text .entry)) (now (line .entry)) p (now (out .entry)) at (now (out .exit)) r ⌝ }
+{
+    if out.len() < at {
+        return out.len() + 1;
+    }
+    at + plain_line(&mut out[at..], text, line, p)
 }
