@@ -1,12 +1,14 @@
 -- What each kind of line becomes.
-use Prim.Native.Nat.{ℕ, _%_, _*_, _≤_}
+use Prim.Native.Nat.{ℕ, _+_, _-_, _%_, _*_, _≤_, _<_}
 use mathlib.Core.Path.{_≡_, refl, sym, ap, _∙_, subst}
 use mathlib.Core.List.{List, [], _∷_}
 use mathlib.Core.Bool.{Bool, true, false, _&&_}
 use mathlib.Core.Option.{Option, none, some}
+use native.Mathlib.Omega.{arith}
 use borrow.Author.Tests.{eq-eqb, ne-eqb}
 use lib.Dec.{eqb}
-use lib.ListN.{length, take, drop}
+use lib.ListN.{length, take, drop, length-drop}
+use lib.Seq.{length-take-le}
 use Rattle.rules.specs.Basic.{pick, all}
 use Rattle.rules.specs.Text.{textTrimmed}
 use Rattle.rules.specs.Words.{stepKind, textKind}
@@ -57,7 +59,7 @@ use Rattle.plain_lines.specs.Lines.{sourceAt}
 use Rattle.plain_walk.specs.Rows.{markedAs, implicitRow, implicitIn}
 use Rattle.plain_walk.specs.Lines.{unlessDropped, betweenPlain, ingredientPlain, componentPlain, stepPlain, insidePlain, plainIn}
 use Rattle.plain_walk.specs.Faults.{ImplicitFound}
-use Rattle.plain_walk.specs.Becomes.{plainAs, PlainFit, StartTold, BetweenTold, ComponentTold, BlockTold, TextTold, EventTold}
+use Rattle.plain_walk.specs.Becomes.{plainAs, PlainFit, Few, StartTold, BetweenTold, ComponentTold, BlockTold, TextTold, EventTold}
 use Rattle.plain_walk.specs.declared.Plain.{Plain}
 use Rattle.plain_walk.specs.declared.Plain.the-variants.{Dropped, Copied, StartText, EndText, Source, Marked}
 
@@ -125,6 +127,20 @@ module _ (flags : ℕ) (line : List ℕ) (f : Follow) {b : Between} where
   start-told k q g = between-as (between.Start k) q (g .at flags line)
 
 -- ---- components in a step
+
+-- the row of an ingredient or of cookware is in its window
+module _ (w : List ℕ) (f : Follow) (l : 24157 ≤ length w) (z : Few f) where
+  pub ingredient-room : {n : ℕ} → n ≡ f .ingredients → (n < 513) × (n * 12 + 12 ≤ length (take 6156 (drop 0 w)))
+  ingredient-room e =
+      let d : length (drop 0 w) ≡ length w - 0 = length-drop 0 w in
+      let k : length (take 6156 (drop 0 w)) ≡ 6156 = length-take-le 6156 (drop 0 w) (omega (arith, d, l)) in
+      (omega (arith, e, z .ingredients), omega (arith, e, z .ingredients, k))
+
+  pub cookware-room : {n : ℕ} → n ≡ f .cookware → (n < 513) × (n * 12 + 12 ≤ length (take 3084 (drop 6156 w)))
+  cookware-room e =
+      let d : length (drop 6156 w) ≡ length w - 6156 = length-drop 6156 w in
+      let k : length (take 3084 (drop 6156 w)) ≡ 3084 = length-take-le 3084 (drop 6156 w) (omega (arith, d, l)) in
+      (omega (arith, e, z .cookware), omega (arith, e, z .cookware, k))
 
 module _ (w : List ℕ) (f : Follow) {c : ComponentEvent} where
   component-as : (y : ComponentEvent) {r : Plain} → c ≡ y → ComponentTold w y f r → ComponentTold w c f r

@@ -7,7 +7,8 @@ use native.Mathlib.Omega.{arith}
 use lib.ListN.{length}
 use Rattle.rules.specs.Event.{Event, metaEvent, sectionEvent, startEvent, endEvent, textEvent, componentEvent, ComponentEvent, ingredientEvent, cookwareEvent, timerEvent, between, inside, parserEvent}
 use Rattle.rules.specs.Units.{NamedUnit}
-use Rattle.rules.specs.State.{State, firstState, next}
+use Rattle.rules.specs.Model.{ingredient, cookware}
+use Rattle.rules.specs.State.{State, firstState, tableOf, next}
 use Rattle.rules.specs.Pass.{onEvent}
 use Rattle.events.specs.declared.EventView.{EventView}
 use Rattle.events.specs.Views.{eventIn}
@@ -22,6 +23,7 @@ use Rattle.following.proofs.Betweens.{line-grows}
 use Rattle.following.proofs.Laws.{follows-first}
 use Rattle.following.proofs.Walking.{Walking}
 use Rattle.plain_walk.specs.Lines.{Behind}
+use Rattle.plain_walk.specs.Becomes.{Few}
 
 pub behind-first : Behind firstState firstFollow
 unfolding withInline firstFollow
@@ -85,3 +87,7 @@ module _ (text : List ℕ) (us : List NamedUnit) (flags : ℕ) where
 pub behind-none : {st : State} {f : Follow} → Behind st f → f .inline + 0 ≤ 100000
 unfolding withInline
 behind-none b = let e : _ ≡ _ = ap (λ (x : Follow). x .inline) (b .is) in omega (arith, e)
+
+pub behind-few : {st : State} {f : Follow} {a b : ℕ} → Behind st f → length (tableOf ingredient st) ≤ a → length (tableOf cookware st) ≤ b → a ≤ 512 → b ≤ 256 → Few f
+unfolding withInline followOf tableOf
+behind-few e x y m n = subst Few (sym (e .is)) (record { ingredients = omega (arith, x, m); cookware = omega (arith, y, n) })

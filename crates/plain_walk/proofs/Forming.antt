@@ -14,7 +14,7 @@ use Rattle.rules.specs.Event.{Event, spansOf}
 use Rattle.rules.specs.Units.{NamedUnit}
 use Rattle.rules.specs.Read.{parseLine}
 use Rattle.rules.specs.Write.{writeLine}
-use Rattle.rules.specs.Model.{Kind}
+use Rattle.rules.specs.Model.{Kind, ingredient, cookware}
 use Rattle.rules.specs.State.{State, firstState, tableOf, next, Walk, going}
 use Rattle.rules.specs.Pass.{walk, onEvent}
 use Rattle.rules.specs.Plain.{Traced, traceFrom, plainEvent, plainEvents, plainFault, sheetOf}
@@ -38,10 +38,11 @@ use Rattle.following.specs.Follow.{Followed, Room}
 use Rattle.following.proofs.Walking.{Walking, Went, walking-first, walking-next, walking-ends}
 use Rattle.plain_walk.specs.Rows.{faultIn, RowFor}
 use Rattle.plain_walk.specs.Lines.{Behind, plainIn}
+use Rattle.plain_walk.specs.Becomes.{Few}
 use Rattle.plain_walk.specs.Walk.{Final, Collected}
 use Rattle.plain_walk.proofs.Grown.{Grown, walk-grown}
-use Rattle.plain_walk.proofs.Same.{plain-same, fault-same, row-there}
-use Rattle.plain_walk.proofs.Behinds.{behind-first, behind-next, behind-room}
+use Rattle.plain_walk.proofs.Same.{plain-same, fault-same, row-there, table-most}
+use Rattle.plain_walk.proofs.Behinds.{behind-first, behind-next, behind-room, behind-few}
 
 -- ---- bytes of lines
 
@@ -100,6 +101,14 @@ module _ (text : List ℕ) (us : List NamedUnit) (flags : ℕ) (sheet w : List �
   module _ {o₀ : List ℕ} {at number : ℕ} {f : Follow} {o : List ℕ} {n : ℕ} (d : Forming o₀ at number f o n) where
     pub forming-room : at < 100000 → Room f
     forming-room m = behind-room text us flags (d .walking) (d .behind) (omega (arith, d .low))
+
+    -- there are no more components yet than at the end
+    pub forming-few : Few f
+    forming-few =
+        behind-few (d .behind)
+        (table-most ingredient (d .st) (d .memory) (walk-grown text us flags (d .es) number (d .st) (d .final) (d .walking .goes) ingredient))
+        (table-most cookware (d .st) (d .memory) (walk-grown text us flags (d .es) number (d .st) (d .final) (d .walking .goes) cookware))
+        (d .memory .ingredients) (d .memory .cookware)
 
     -- no line is left
     none-left : length sheet ≤ at → trace number (d .st) (d .es) ≡ []

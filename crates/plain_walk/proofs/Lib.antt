@@ -7,3 +7,5 @@ pub mod Forming
 pub mod Faults
 pub mod FaultLines
 pub mod Becomes
+pub mod Writes
+pub mod Turns

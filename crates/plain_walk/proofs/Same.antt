@@ -1,11 +1,12 @@
 -- A line of an accepted walk: its form and its fault by the rules are those by work memory.
-use Prim.Native.Nat.{ℕ, _<_}
+use Prim.Native.Nat.{ℕ, _+_, _≤_, _<_}
 use mathlib.Core.Path.{_≡_, refl, sym, ap, _∙_, subst}
 use mathlib.Core.List.{List, [], _∷_}
 use mathlib.Core.Bool.{Bool, true, false}
 use mathlib.Core.Option.{Option, none, some}
-use lib.ListN.{length}
-use Rattle.rules.specs.Basic.{pick}
+use native.Mathlib.Omega.{arith}
+use lib.ListN.{length, length-append}
+use Rattle.rules.specs.Basic.{pick, each}
 use Rattle.rules.specs.Words.{stepKind, textKind, DefineMode}
 use Rattle.rules.specs.Event.{Component, Intermediate, Between, metaEvent, sectionEvent, startEvent, ComponentEvent, ingredientEvent, cookwareEvent, timerEvent, Inside, endEvent, textEvent, componentEvent, Event, between, inside, parserEvent}
 use Rattle.rules.specs.Units.{NamedUnit}
@@ -21,6 +22,7 @@ use Rattle.model.specs.Rows.{entriesIn}
 use Rattle.model.specs.Memory.{stateIn, stateOf, defineOf}
 use Rattle.model.specs.Fits.{Fits, EachRow, AllFit}
 use Rattle.model.specs.declared.Held.{Held}
+use Rattle.model.proofs.Tables.{entries-length}
 use Rattle.memory.specs.Pushes.{countOf, pairsOf}
 use Rattle.lookup.specs.Names.{rowsIn, pairsIn}
 use Rattle.following.specs.declared.Follow.{Follow}
@@ -30,7 +32,7 @@ use Rattle.following.proofs.Grows.{mode-back}
 use Rattle.plain_walk.specs.Rows.{markedAs, implicitRow, implicitIn, markFaultIn, componentFaultIn, faultIn, RowOf, RowIn, RowFor}
 use Rattle.plain_walk.specs.Lines.{Behind, unlessDropped, betweenPlain, ingredientPlain, componentPlain, stepPlain, insidePlain, plainIn}
 use Rattle.plain_walk.specs.Walk.{Final}
-use Rattle.plain_walk.proofs.Grown.{Grown}
+use Rattle.plain_walk.proofs.Grown.{bare, bare-length, Grown}
 use Rattle.plain_walk.proofs.Added.{ingredient-pushed, ingredient-refused, ingredient-made, cookware-pushed, HasRow, has-row}
 use Rattle.plain_walk.proofs.Marks.{Named, marked-row, fault-row}
 
@@ -49,6 +51,13 @@ table-rows cookware sheet w h = refl
 fit-rows : (k : Kind) {sheet w : List ℕ} {h : Held} → AllFit sheet w h → EachRow (Fits k sheet) (rowsIn k w) (countOf k h)
 fit-rows ingredient z = z .ingredients
 fit-rows cookware z = z .cookware
+
+-- no table is longer than at the end
+pub table-most : (k : Kind) {sheet w : List ℕ} {h : Held} (st : State) {final : State} → Final sheet w h final → Grown (tableOf k st) (tableOf k final) → length (tableOf k st) ≤ countOf k h
+table-most k {sheet} {w} {h} st {final} z g =
+    let n : length (tableOf k final) ≡ countOf k h = ap length (sym (blank-table k final) ∙ (ap (tableOf k) (sym (z .memory)) ∙ table-rows k sheet w h)) ∙ entries-length k sheet (rowsIn k w) (pairsIn k w) (pairsOf k h) (countOf k h) in
+    let m : length (each bare (tableOf k final)) ≡ length (g .more) + length (each bare (tableOf k st)) = ap length (g .is) ∙ length-append (g .more) (each bare (tableOf k st)) in
+    omega (arith, n, m, bare-length (tableOf k final), bare-length (tableOf k st))
 
 ingredient-alone : (c : Component) (o : Option ℕ) → ingredientEvent (markedAs c o) none ≡ ingredientPlain c none o
 unfolding markedAs ingredientPlain

@@ -1,5 +1,5 @@
 -- What a line becomes, as the code tells it, and what its writer leaves.
-use Prim.Native.Nat.{ℕ, _≤_}
+use Prim.Native.Nat.{ℕ, _+_, _≤_}
 use mathlib.Core.Path.{_≡_}
 use mathlib.Core.List.{List, [], _∷_}
 use mathlib.Core.Bool.{Bool, true}
@@ -86,3 +86,4 @@ pub record EventTold (flags : ℕ) (w line : List ℕ) (e : EventView) (f : Foll
 
 pub record PlainWritten (text line : List ℕ) (p : Plain) (o₀ : List ℕ) (at : ℕ) (o : List ℕ) (r : ℕ) : Type 0 where
   pub put : (e : Event) → parseLine line ≡ some e → Without lf line → Put (sheetOf (plainAs text line e p)) o₀ at o r
+  pub most : r ≤ length o₀ + 1

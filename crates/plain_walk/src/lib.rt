@@ -9,12 +9,15 @@ ghost use Rattle.plain_walk.specs.Rows.{implicitRow};
 ghost use Rattle.plain_walk.specs.Faults.{RowNamed, ComponentReady, InsideReady, EventReady, ImplicitFound, RowFault, StepFault, LineFault};
 ghost use mathlib.Core.Bool.{true, _&&_};
 ghost use Rattle.rules.specs.Utf8.{isUtf8};
+ghost use Rattle.rules.specs.Units.{readUnits};
+ghost use Rattle.rules.specs.Answer.{unitsOr, eventsOr, readSheet, events};
 ghost use Rattle.rules.specs.Modes.{hasModes, keyOf, keyText};
 ghost use Rattle.rules.specs.Plain.{isModeKey};
 ghost use Rattle.parts.specs.Views.{textIn, TextWithin};
 ghost use Rattle.events.specs.Views.{BetweenWithin, EventWithin};
 ghost use Rattle.model.specs.declared.Open.the-variants as block;
 ghost use Rattle.plain_walk.specs.Becomes.{PlainFit, Few, StartTold, BetweenTold, ComponentTold, BlockTold, TextTold, EventTold, PlainWritten};
+ghost use Rattle.plain_walk.specs.Walk.{Collected, FormWritten};
 use components::ComponentView;
 use events::Between;
 use events::BlockKind;
@@ -23,7 +26,7 @@ use events::EventView;
 use events::Inside;
 use following::Follow;
 use lookup::Same;
-use model::Define;
+use model::Held;
 use model::Open;
 use parts::Span;
 use parts::TextView;
@@ -321,4 +324,49 @@ pub fn put_plain(out: &mut [u8], at: usize, text: &[u8], line: &[u8], p: Plain) 
         return out.len() + 1;
     }
     at + plain_line(&mut out[at..], text, line, p)
+}
+
+// ---- the form
+
+pub enum Formed {
+    // The number of the first fault, and of its line.
+    Fault(u32, u32),
+    Length(usize),
+}
+
+// The plain form of a sheet that the pass accepted, written in `out`; `words` and `h` are what the pass left.
+pub fn plain_form_lines(
+    t: &[u32],
+    sheet: &[u8],
+    text: &[u8],
+    units: &[u8],
+    flags: u32,
+    words: &[u32],
+    h: Held,
+    out: &mut [u8],
+) -> Formed
+    requires { ⌜ (now t ≡ unicodeTables) × (length (now sheet) ≤ 65536) × (isUtf8 (now text) ≡ true) × (readSheet (now text) (now sheet) ≡ events (eventsOr (readSheet (now text) (now sheet)))) × Collected (now text) (unitsOr (readUnits (now units))) flags (now sheet) (now words) h ⌝ }
+    ensures { λ r. ⌜ FormWritten (now (text .entry)) (unitsOr (readUnits (now (units .entry)))) flags (now (sheet .entry)) (now (out .entry)) (now (out .exit)) r ⌝ }
+{
+    let mut f = following::first_follow();
+    let mut at = 0;
+    let mut number: u32 = 1;
+    let mut n = 0;
+    while at < sheet.len() {
+        let sheet::LineEnd::At(end) = sheet::line_end(sheet, at) else {
+            return Formed::Length(0);
+        };
+        let line = &sheet[at..end];
+        let e = known_events::event_of(line);
+        let fault = line_fault(t, sheet, words, e, f);
+        if fault != 0 {
+            return Formed::Fault(fault, number);
+        }
+        let p = plain_of(t, flags, line, words, e, f);
+        n = put_plain(out, n, text, line, p);
+        f = following::follow_event(t, flags, line, e, f, 0);
+        at = end + 1;
+        number += 1;
+    }
+    Formed::Length(n)
 }

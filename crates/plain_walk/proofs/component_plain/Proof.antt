@@ -1,5 +1,6 @@
 use borrow.Author.Needs.{needs}
 use native.Mathlib.Omega.{arith}
+use Rattle.plain_walk.proofs.Becomes.{ingredient-kept, ingredient-marked, cookware-kept, cookware-marked, timer-kept, ingredient-room, cookware-room}
 use Rattle.plain_walk.proofs.component_plain.Statement.{statement}
 use Rattle.plain_walk.proofs.component_plain.Tie as tie
 use Rattle.plain_walk.proofs.component_plain.Reads as reads
@@ -29,7 +30,7 @@ part-implicit-row-end c = search needs
 
 -- src/lib.rt:225:19
 implicit-row-requires : tie.Need-implicit-row-requires
-implicit-row-requires c κs = search needs
+implicit-row-requires c κs = ingredient-room (c .before .before .before .before .before .before .before .args .words .now) (c .before .before .before .before .before .before .before .args .f) (c .before .before .before .before .before .before .before .pre .0) (c .before .before .before .before .before .before .before .pre .1) (c .before .before .wide .ensures)
 
 -- src/lib.rt:226:34
 enum-told : tie.Need-enum-told
@@ -61,7 +62,7 @@ part-implicit-row-end-2 c = search needs
 
 -- src/lib.rt:233:19
 implicit-row-requires-2 : tie.Need-implicit-row-requires-2
-implicit-row-requires-2 c κs = search needs
+implicit-row-requires-2 c κs = cookware-room (c .before .before .before .before .before .before .before .args .words .now) (c .before .before .before .before .before .before .before .args .f) (c .before .before .before .before .before .before .before .pre .0) (c .before .before .before .before .before .before .before .pre .1) (c .before .before .wide2 .ensures)
 
 -- src/lib.rt:234:34
 enum-told-2 : tie.Need-enum-told-2
@@ -77,23 +78,23 @@ enum-known-c-3 c = search needs
 
 -- src/lib.rt:217:1
 returns : tie.Need-returns
-returns c = search needs
+returns c = ingredient-kept (c .before .before .before .before .before .before .before .before .before .before .args .words .now) (c .before .before .before .before .before .before .before .before .before .before .args .f) _ _ (c .before .before .before .before .before .before .before .c .given .1) (c .before .before .before .before .before .wide .ensures) (c .before .before .implicit-row .ensures) (c .enum-told .given .1)
 
 -- src/lib.rt:217:1
 returns-2 : tie.Need-returns-2
-returns-2 c = search needs
+returns-2 c = ingredient-marked (c .before .before .before .before .before .before .before .before .before .before .before .args .words .now) (c .before .before .before .before .before .before .before .before .before .before .before .args .f) _ _ (c .before .before .before .before .before .before .before .before .c .given .1) (c .before .before .before .before .before .before .wide .ensures) (c .before .before .before .implicit-row .ensures) _ (c .before .d .given .1)
 
 -- src/lib.rt:217:1
 returns-3 : tie.Need-returns-3
-returns-3 c = search needs
+returns-3 c = cookware-kept (c .before .before .before .before .before .before .before .before .before .before .args .words .now) (c .before .before .before .before .before .before .before .before .before .before .args .f) _ (c .before .before .before .before .before .before .before .c2 .given .1) (c .before .before .before .before .before .wide2 .ensures) (c .before .before .implicit-row2 .ensures) (c .enum-told2 .given .1)
 
 -- src/lib.rt:217:1
 returns-4 : tie.Need-returns-4
-returns-4 c = search needs
+returns-4 c = cookware-marked (c .before .before .before .before .before .before .before .before .before .before .before .args .words .now) (c .before .before .before .before .before .before .before .before .before .before .before .args .f) _ (c .before .before .before .before .before .before .before .before .c2 .given .1) (c .before .before .before .before .before .before .wide2 .ensures) (c .before .before .before .implicit-row2 .ensures) _ (c .before .d2 .given .1)
 
 -- src/lib.rt:217:1
 returns-5 : tie.Need-returns-5
-returns-5 c = search needs
+returns-5 c = timer-kept (c .before .before .before .before .args .words .now) (c .before .before .before .before .args .f) _ _ _ (c .before .c3 .given .1)
 
 pub component-plain-spec : {M : Type 1} → statement M
 component-plain-spec =

@@ -1,5 +1,6 @@
 use borrow.Author.Needs.{needs}
 use native.Mathlib.Omega.{arith}
+use Rattle.plain_walk.proofs.Writes.{write-past, rest-most, write-rest}
 use Rattle.plain_walk.proofs.put_plain.Statement.{statement}
 use Rattle.plain_walk.proofs.put_plain.Tie as tie
 use Rattle.plain_walk.proofs.put_plain.Reads as reads
@@ -12,7 +13,7 @@ add-result c = search needs
 
 -- src/lib.rt:324:9
 returns : tie.Need-returns
-returns c = search needs
+returns c = write-past _ _ _ _ _ (c .if1 .taken)
 
 -- src/lib.rt:326:21
 sub-plain-line : tie.Need-sub-plain-line
@@ -32,7 +33,7 @@ plain-line-requires c κs = search needs
 
 -- src/lib.rt:326:5
 add-result-2 : tie.Need-add-result-2
-add-result-2 c = search needs
+add-result-2 c = record { fits = omega (arith, rest-most (c .before .before .before .before .before .before .before .before .args .out .now) _ (c .before .before .before .before .if1 .left) (c .before .before .plain-line .ensures)) }
 
 -- src/lib.rt:319:1
 same-length : tie.Need-same-length
@@ -40,7 +41,7 @@ same-length c = search needs
 
 -- src/lib.rt:319:1
 returns-2 : tie.Need-returns-2
-returns-2 c = search needs
+returns-2 c = write-rest _ _ (c .before .before .before .before .if1 .left) (c .before .before .plain-line .ensures)
 
 pub put-plain-spec : {M : Type 1} → statement M
 put-plain-spec =

@@ -1,5 +1,6 @@
 use borrow.Author.Needs.{needs}
 use native.Mathlib.Omega.{arith}
+use Rattle.plain_walk.proofs.Becomes.{mode-end, mode-text, mode-component}
 use Rattle.plain_walk.proofs.text_plain.Statement.{statement}
 use Rattle.plain_walk.proofs.text_plain.Tie as tie
 use Rattle.plain_walk.proofs.text_plain.Reads as reads
@@ -24,15 +25,15 @@ component-span-requires c κs = search needs
 
 -- src/lib.rt:259:1
 returns : tie.Need-returns
-returns c = search needs
+returns c = mode-end _ (c .before .i .given .1)
 
 -- src/lib.rt:259:1
 returns-2 : tie.Need-returns-2
-returns-2 c = search needs
+returns-2 c = mode-text _ (c .before .i2 .given .1)
 
 -- src/lib.rt:259:1
 returns-3 : tie.Need-returns-3
-returns-3 c = search needs
+returns-3 c = mode-component _ (c .before .before .i3 .given .1) (c .component-span .ensures)
 
 pub text-plain-spec : {M : Type 1} → statement M
 text-plain-spec =
