@@ -21,6 +21,7 @@ use Rattle.rules.specs.Answer.{Answer, Reading, events, unread, withEvent, even
 use Rattle.rules.proofs.Basics.{pick-either}
 use Rattle.rules.proofs.Fields.{Without}
 use Rattle.output.specs.Put.{Put}
+use Rattle.output.proofs.Puts.{keeps}
 use Rattle.output.proofs.Texts.{text-is}
 use Rattle.sheet.specs.declared.LineEnd.{LineEnd}
 use Rattle.sheet.specs.declared.LineEnd.the-variants.{At, Nothing}
@@ -169,6 +170,9 @@ module _ {text : List ℕ} {us : List NamedUnit} {flags : ℕ} {sheet w : List �
   pub form-ends : length sheet ≤ at → FormWritten text us flags sheet o₀ o (Length n)
   unfolding FormedAs
   form-ends m = record { is = (forming-clear text us flags sheet w (d .held) (d .is) m, forming-form text us flags sheet w (d .held) (d .is) m) }
+
+  pub form-kept : length o ≡ length o₀
+  form-kept = keeps (d .is .put)
 
   pub form-long : 24157 ≤ length w
   form-long = d .is .memory .sound .long

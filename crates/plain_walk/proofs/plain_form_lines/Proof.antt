@@ -4,7 +4,7 @@ use Prim.Native.Nat.{_-_}
 use lib.ListN.{length}
 use Rattle.rules.specs.Units.{readUnits}
 use Rattle.rules.specs.Answer.{unitsOr}
-use Rattle.plain_walk.proofs.Turns.{Looping, form-starts, form-ends, form-long, form-number, form-room, form-inline, form-few, form-cut, form-line, form-ready, form-fit, form-fault, form-next}
+use Rattle.plain_walk.proofs.Turns.{Looping, form-starts, form-ends, form-kept, form-long, form-number, form-room, form-inline, form-few, form-cut, form-line, form-ready, form-fit, form-fault, form-next}
 use Rattle.plain_walk.proofs.plain_form_lines.Statement.{statement}
 use Rattle.plain_walk.proofs.plain_form_lines.Tie as tie
 use Rattle.plain_walk.proofs.plain_form_lines.Reads as reads
@@ -45,7 +45,7 @@ enum-told c = search needs
 
 -- src/lib.rt:357:13
 same-length : tie.Need-same-length Inv-loop μ-loop
-same-length c = search needs
+same-length c = search (needs, form-kept (c .before .before .before .before .loop .inv))
 
 -- src/lib.rt:357:13
 returns : tie.Need-returns Inv-loop μ-loop
@@ -73,7 +73,7 @@ line-fault-requires c κs = ((c .before .before .before .before .before .before 
 
 -- src/lib.rt:363:13
 same-length-2 : tie.Need-same-length-2 Inv-loop μ-loop
-same-length-2 c = search needs
+same-length-2 c = search (needs, form-kept (c .before .before .before .before .before .before .before .before .before .loop .inv))
 
 -- src/lib.rt:363:13
 returns-2 : tie.Need-returns-2 Inv-loop μ-loop
@@ -109,7 +109,7 @@ loop-again c = form-next (c .before .before .before .before .before .before .bef
 
 -- src/lib.rt:338:1
 same-length-3 : tie.Need-same-length-3 Inv-loop μ-loop
-same-length-3 c = search needs
+same-length-3 c = search (needs, form-kept (c .before .loop .inv))
 
 -- src/lib.rt:338:1
 returns-3 : tie.Need-returns-3 Inv-loop μ-loop
