@@ -1,8 +1,8 @@
 -- What a component's line without REF leaves in the tables of an accepted walk, as the rows of work memory have it at the end.
 use Prim.Native.Nat.{ℕ, zero, suc, _≤_, _<_}
-use mathlib.Core.Path.{_≡_, refl, sym, ap, _∙_, subst}
+use mathlib.Core.Path.{_≡_, refl, sym, ap, _∙_}
 use mathlib.Core.List.{List, [], _∷_, _++_}
-use mathlib.Core.Bool.{Bool, true, false, not}
+use mathlib.Core.Bool.{Bool, true, false}
 use mathlib.Core.Option.{Option, none, some}
 use native.Mathlib.Omega.{arith}
 use lib.ListN.{length}
@@ -10,7 +10,7 @@ use Rattle.rules.specs.Basic.{pick, each}
 use Rattle.rules.specs.Event.{Component, Intermediate, ingredientEvent, cookwareEvent}
 use Rattle.rules.specs.Units.{NamedUnit}
 use Rattle.rules.specs.Model.{Kind, ingredient, cookware, Entry, Item}
-use Rattle.rules.specs.State.{State, setPlace, setBlock, setKept, setTables, tableOf, setTable, report, overLimits, Step, next, stop}
+use Rattle.rules.specs.State.{State, setPlace, setBlock, setKept, setTables, tableOf, setTable, report, overLimits, next, stop}
 use Rattle.rules.specs.Components.{Made, madeByName, makeIngredient, makeCookware, intermediateFault, pushed, refersToReference}
 use Rattle.rules.specs.Pass.{pushItems, pushComponent, unlessChained, unlessFault, onMade, onComponent}
 use Rattle.model.specs.Rows.{entryIn, entriesIn}
@@ -109,5 +109,5 @@ module _ (k : Kind) (sheet rows pairs : List ℕ) (m : ℕ) where
       let b = rows-behind n (g .more) (bare (made .entry) ∷ each bare es) (g .is ∙ ap (λ (x : List Entry). g .more ++ x) whole) in
       let l : length (each bare es) ≡ length es = bare-length es in
       let q : bare (entryIn k sheet rows pairs m (length es)) ∷ each bare (entriesIn k sheet rows pairs m (length es)) ≡ bare (made .entry) ∷ each bare es =
-          ap (λ (i : ℕ). each bare (entriesIn k sheet rows pairs m (suc i))) (sym l) ∙ b .is in
+      ap (λ (i : ℕ). each bare (entriesIn k sheet rows pairs m (suc i))) (sym l) ∙ b .is in
       record { low = omega (arith, b .low); entry = head-same q; before = tail-same q }

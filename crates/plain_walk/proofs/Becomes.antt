@@ -3,7 +3,7 @@ use Prim.Native.Nat.{ℕ, _+_, _-_, _%_, _*_, _≤_, _<_}
 use mathlib.Core.Path.{_≡_, refl, sym, ap, _∙_, subst}
 use mathlib.Core.List.{List, [], _∷_}
 use mathlib.Core.Bool.{Bool, true, false, _&&_}
-use mathlib.Core.Option.{Option, none, some}
+use mathlib.Core.Option.{Option}
 use native.Mathlib.Omega.{arith}
 use borrow.Author.Tests.{eq-eqb, ne-eqb}
 use lib.Dec.{eqb}
@@ -11,20 +11,19 @@ use lib.ListN.{length, take, drop, length-drop}
 use lib.Seq.{length-take-le}
 use Rattle.rules.specs.Basic.{pick, all}
 use Rattle.rules.specs.Text.{textTrimmed}
-use Rattle.rules.specs.Words.{stepKind, textKind}
 use Rattle.rules.specs.Event as rules
 use Rattle.rules.specs.Event.{spansOf, componentSpan, componentSpans, namedSpans}
 use Rattle.rules.specs.Model.{ingredient, cookware}
 use Rattle.rules.specs.Modes as modes
 use Rattle.rules.specs.Modes.{isComponents, isText, hasModes, keyOf, keyText}
-use Rattle.rules.specs.Plain.{isModeKey, inPlainText, markRef}
+use Rattle.rules.specs.Plain.{isModeKey, inPlainText}
 use Rattle.rules.specs.Pass.{sourceText}
 use Rattle.rules.specs.Answer.{isGoodSpan}
 use Rattle.rules.proofs.Basics.{and-left}
 use Rattle.content.specs.Contents as contents
 use Rattle.config_keys.specs.Keys.{keyIn}
 use Rattle.config_keys.specs.declared.Key.{Key}
-use Rattle.parts.specs.Views.{textIn, TextWithin, spanIn, partOf}
+use Rattle.parts.specs.Views.{textIn, TextWithin, partOf}
 use Rattle.parts.specs.declared.Span.{Span}
 use Rattle.parts.specs.declared.TextView.{TextView}
 use Rattle.parts.specs.declared.OptText.{OptText}
@@ -44,7 +43,7 @@ use Rattle.events.specs.declared.Inside.{Inside}
 use Rattle.events.specs.declared.Inside.the-variants as inside
 use Rattle.events.specs.declared.EventView.{EventView}
 use Rattle.events.specs.declared.EventView.the-variants as event
-use Rattle.known_events.specs.Fields.{ComponentFields, ComponentEventFields, InsideFields, EventFields}
+use Rattle.known_events.specs.Fields.{ComponentEventFields, InsideFields, EventFields}
 use Rattle.metadata.proofs.Whole.{key-at}
 use Rattle.model.specs.Memory.{windowsOf, defineOf}
 use Rattle.model.specs.declared.Open.{Open}
@@ -56,7 +55,7 @@ use Rattle.lookup.specs.declared.Same.the-variants as same
 use Rattle.following.specs.declared.Follow.{Follow}
 use Rattle.plain_lines.specs.Lines as lines
 use Rattle.plain_lines.specs.Lines.{sourceAt}
-use Rattle.plain_walk.specs.Rows.{markedAs, implicitRow, implicitIn}
+use Rattle.plain_walk.specs.Rows.{markedAs, implicitIn}
 use Rattle.plain_walk.specs.Lines.{unlessDropped, betweenPlain, ingredientPlain, componentPlain, stepPlain, insidePlain, plainIn}
 use Rattle.plain_walk.specs.Faults.{ImplicitFound}
 use Rattle.plain_walk.specs.Becomes.{plainAs, PlainFit, Few, StartTold, BetweenTold, ComponentTold, BlockTold, TextTold, EventTold}

@@ -2,7 +2,6 @@
 use Prim.Native.Nat.{ℕ, _+_, _≤_}
 use mathlib.Core.Path.{_≡_, refl, sym, ap, _∙_, subst}
 use mathlib.Core.List.{List}
-use mathlib.Core.Option.{Option, none, some}
 use native.Mathlib.Omega.{arith}
 use lib.ListN.{length}
 use Rattle.rules.specs.Event.{Event, metaEvent, sectionEvent, startEvent, endEvent, textEvent, componentEvent, ComponentEvent, ingredientEvent, cookwareEvent, timerEvent, between, inside, parserEvent}

@@ -1,13 +1,9 @@
 -- The fault of each kind of line.
-use Prim.Native.Nat.{ℕ, _+_, _*_, _≤_, _<_}
+use Prim.Native.Nat.{ℕ}
 use mathlib.Core.Path.{_≡_, refl, sym, ap, _∙_, subst}
 use mathlib.Core.List.{List}
 use mathlib.Core.Bool.{Bool, true, false}
-use mathlib.Core.Option.{Option, none, some}
-use native.Mathlib.Omega.{arith}
-use lib.ListN.{length, take, drop}
-use Rattle.rules.specs.Basic.{pick}
-use Rattle.rules.specs.Model.{ingredient, cookware}
+use lib.ListN.{take, drop}
 use Rattle.rules.specs.Modes.{isComponents}
 use Rattle.parts.specs.declared.Span.{Span}
 use Rattle.parts.specs.declared.TextView.{TextView}

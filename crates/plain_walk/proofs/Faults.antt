@@ -1,6 +1,6 @@
 -- The turns of the functions that look for a fault.
-use Prim.Native.Nat.{ℕ, _+_, _-_, _*_, _≤_, _<_}
-use mathlib.Core.Path.{_≡_, refl, sym, ap, _∙_, subst}
+use Prim.Native.Nat.{ℕ, _+_, _-_, _*_, _≤_}
+use mathlib.Core.Path.{_≡_, refl, sym, ap, _∙_}
 use mathlib.Core.List.{List}
 use mathlib.Core.Bool.{Bool, true, false}
 use mathlib.Core.Option.{Option, none, some}
@@ -8,14 +8,12 @@ use native.Mathlib.Omega.{arith}
 use borrow.Author.Tests.{eq-eqb, ne-eqb}
 use lib.Dec.{eqb}
 use lib.ListN.{length, getD, take, drop}
-use lib.Seq.{slice}
 use Rattle.rules.specs.Basic.{pick}
 use Rattle.rules.specs.Unicode.{foldName}
 use Rattle.content.specs.Contents.{keptIn}
 use Rattle.model.specs.Rows.{rowAt, rowOf, relationOf}
-use Rattle.model.specs.declared.Relation as declared
 use Rattle.model.specs.declared.Relation.the-variants.{Definition, Reference}
-use Rattle.model.specs.declared.Target.the-variants.{Ingredient, Step, Section}
+use Rattle.model.specs.declared.Target.the-variants.{Step, Section}
 use Rattle.model.proofs.Stores.{getD-mid}
 use Rattle.lookup.specs.Names.{namePart, sameRow, sameOf}
 use Rattle.lookup.specs.declared.Same.{Same}

@@ -2,24 +2,18 @@
 use Prim.Native.Nat.{ℕ, suc, _+_, _-_, _≤_, _<_}
 use mathlib.Core.Path.{_≡_, refl, sym, ap, _∙_, subst}
 use mathlib.Core.List.{List, [], _∷_, _++_, append-assoc, append-nil}
-use mathlib.Core.Bool.{Bool, true, false}
 use mathlib.Core.Option.{Option, none, some}
 use native.Mathlib.Omega.{arith}
 use native.Mathlib.Numerals.{add-one}
-use lib.Dec.{ltb}
 use lib.ListN.{length, take, drop}
-use Rattle.rules.specs.Basic.{pick, isSome, all, lf}
-use Rattle.rules.specs.Sheet.{Lines, lines}
-use Rattle.rules.specs.Event.{Event, spansOf}
+use Rattle.rules.specs.Sheet.{lines}
+use Rattle.rules.specs.Event.{Event}
 use Rattle.rules.specs.Units.{NamedUnit}
-use Rattle.rules.specs.Read.{parseLine}
 use Rattle.rules.specs.Write.{writeLine}
 use Rattle.rules.specs.Model.{Kind, ingredient, cookware}
-use Rattle.rules.specs.State.{State, firstState, tableOf, next, Walk, going}
-use Rattle.rules.specs.Pass.{walk, onEvent}
+use Rattle.rules.specs.State.{State, firstState, tableOf, next, going}
 use Rattle.rules.specs.Plain.{Traced, traceFrom, plainEvent, plainEvents, plainFault, sheetOf}
-use Rattle.rules.specs.Answer.{Answer, declined, faultOr, unlessFaulty, events, eventsOr, readFrom, readSheet, isGoodSpan}
-use Rattle.rules.proofs.Fields.{Without}
+use Rattle.rules.specs.Answer.{Answer, declined, faultOr, unlessFaulty, events, eventsOr, readFrom, readSheet}
 use Rattle.rules.proofs.FaultWalk.{Takes, takes, trace-on}
 use Rattle.output.specs.Put.{Put}
 use Rattle.output.proofs.Puts.{put-seq}
@@ -29,13 +23,13 @@ use Rattle.sheet.specs.declared.LineEnd.the-variants.{At, Nothing}
 use Rattle.sheet.specs.Lines.{LineAt}
 use Rattle.events.specs.declared.EventView.{EventView}
 use Rattle.events.specs.Views.{eventIn}
-use Rattle.reading.proofs.Passes.{Rest, First, rest-ends, rest-ended, rest-some, rest-parsed}
+use Rattle.reading.proofs.Passes.{Rest, First, rest-ends, rest-ended, rest-parsed}
 use Rattle.known_events.specs.Known.{KnownEvent}
 use Rattle.model.specs.declared.Held.{Held}
 use Rattle.following.specs.declared.Follow.{Follow}
 use Rattle.following.specs.Drawn.{firstFollow}
 use Rattle.following.specs.Follow.{Followed, Room}
-use Rattle.following.proofs.Walking.{Walking, Went, walking-first, walking-next, walking-ends}
+use Rattle.following.proofs.Walking.{Walking, Went, walking-first, walking-next}
 use Rattle.plain_walk.specs.Rows.{faultIn, RowFor}
 use Rattle.plain_walk.specs.Lines.{Behind, plainIn}
 use Rattle.plain_walk.specs.Becomes.{Few}

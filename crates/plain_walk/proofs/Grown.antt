@@ -1,14 +1,14 @@
 -- The tables of components only grow: from line to line they get more entries in front, and their definitions more referrers.
 use Prim.Native.Nat.{ℕ, suc}
-use mathlib.Core.Path.{_≡_, refl, sym, ap, _∙_, subst}
-use mathlib.Core.List.{List, [], _∷_, _++_, append-assoc}
-use mathlib.Core.Bool.{Bool, true, false, not}
+use mathlib.Core.Path.{_≡_, refl, ap, _∙_, subst}
+use mathlib.Core.List.{List, [], _∷_, _++_}
+use mathlib.Core.Bool.{Bool, true, false}
 use mathlib.Core.Option.{Option, none, some}
 use lib.Dec.{eqb}
 use lib.ListN.{length}
 use Rattle.rules.specs.Basic.{pick, each, onSome}
 use Rattle.rules.specs.Words.{stepKind, textKind, defineKey, duplicateKey, DefineMode, DuplicateMode}
-use Rattle.rules.specs.Event.{Text, Component, Intermediate, ComponentEvent, ingredientEvent, cookwareEvent, timerEvent, Between, metaEvent, sectionEvent, startEvent, Inside, endEvent, textEvent, componentEvent, Event, between, inside, parserEvent}
+use Rattle.rules.specs.Event.{Text, ComponentEvent, ingredientEvent, cookwareEvent, timerEvent, Between, metaEvent, sectionEvent, startEvent, Inside, endEvent, textEvent, componentEvent, Event, between, inside, parserEvent}
 use Rattle.rules.specs.Units.{NamedUnit}
 use Rattle.rules.specs.Modes.{isComponents, Key, config, unknownConfig, ordinary}
 use Rattle.rules.specs.Model.{Kind, ingredient, cookware, Relation, definition, reference, Entry, Item, setRelation}

@@ -1,13 +1,12 @@
 -- What the row of a component says of its line: what it refers to without REF, and 23.
-use Prim.Native.Nat.{ℕ, _≤_, _<_}
+use Prim.Native.Nat.{ℕ}
 use mathlib.Core.Path.{_≡_, refl, sym, ap, _∙_}
 use mathlib.Core.List.{List, [], _∷_}
 use mathlib.Core.Bool.{Bool, true, false}
 use mathlib.Core.Option.{Option, none, some}
 use native.Mathlib.Omega.{arith}
-use lib.Dec.{eqb}
 use lib.ListN.{length}
-use Rattle.rules.specs.Basic.{pick, each, onSome}
+use Rattle.rules.specs.Basic.{pick, onSome}
 use Rattle.rules.specs.Unicode.{foldName}
 use Rattle.rules.specs.Event.{Component}
 use Rattle.rules.specs.Units.{NamedUnit}
@@ -15,7 +14,7 @@ use Rattle.rules.specs.Model.{Kind, ingredient, cookware, targetOf, toIngredien
 use Rattle.rules.specs.Reference.{Earlier, fits, sameNameIn, sameNameOf, asReferring}
 use Rattle.rules.specs.State.{State, tableOf}
 use Rattle.rules.specs.Components.{Made, newEntry, madeWith, madeByName}
-use Rattle.rules.specs.Plain.{implicitOf, isLast, implicitFault, markRef, markedIf}
+use Rattle.rules.specs.Plain.{implicitOf, isLast, implicitFault, markedIf}
 use Rattle.content.specs.Contents.{keptIn}
 use Rattle.model.specs.Rows as rows
 use Rattle.model.specs.Rows.{rowAt, rowOf, relationAs, relationIn, entryAs, entryIn, entriesIn}

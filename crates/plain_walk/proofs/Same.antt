@@ -1,5 +1,5 @@
 -- A line of an accepted walk: its form and its fault by the rules are those by work memory.
-use Prim.Native.Nat.{ℕ, _+_, _≤_, _<_}
+use Prim.Native.Nat.{ℕ, _+_, _≤_}
 use mathlib.Core.Path.{_≡_, refl, sym, ap, _∙_, subst}
 use mathlib.Core.List.{List, [], _∷_}
 use mathlib.Core.Bool.{Bool, true, false}
@@ -19,14 +19,14 @@ use Rattle.rules.specs.Pass.{onComponent, inStepBlock, onInside, onEvent}
 use Rattle.rules.specs.Plain.{implicitOf, markedIf, unlessListed, implicitIngredient, implicitCookware, markedComponent, inPlainStep, markFault, componentFault, plainFault, plainBetween, plainInside, plainEvent}
 use Rattle.model.specs.Blank.{blank, blankTables}
 use Rattle.model.specs.Rows.{entriesIn}
-use Rattle.model.specs.Memory.{stateIn, stateOf, defineOf}
+use Rattle.model.specs.Memory.{stateIn, stateOf}
 use Rattle.model.specs.Fits.{Fits, EachRow, AllFit}
 use Rattle.model.specs.declared.Held.{Held}
 use Rattle.model.proofs.Tables.{entries-length}
 use Rattle.memory.specs.Pushes.{countOf, pairsOf}
 use Rattle.lookup.specs.Names.{rowsIn, pairsIn}
 use Rattle.following.specs.declared.Follow.{Follow}
-use Rattle.following.specs.Drawn.{defineIn, kindOf, followOf}
+use Rattle.following.specs.Drawn.{kindOf, followOf}
 use Rattle.following.specs.Follow.{withInline}
 use Rattle.following.proofs.Grows.{mode-back}
 use Rattle.plain_walk.specs.Rows.{markedAs, implicitRow, implicitIn, markFaultIn, componentFaultIn, faultIn, RowOf, RowIn, RowFor}

@@ -1,26 +1,25 @@
 -- The turns of the loop that writes the plain form.
-use Prim.Native.Nat.{ℕ, suc, _+_, _-_, _*_, _≤_, _<_}
+use Prim.Native.Nat.{ℕ, suc, _+_, _-_, _≤_, _<_}
 use mathlib.Core.Path.{_≡_, refl, sym, ap, _∙_, subst}
-use mathlib.Core.List.{List, [], _∷_, _++_}
+use mathlib.Core.List.{List}
 use mathlib.Core.Bool.{Bool, true, false}
 use mathlib.Core.Option.{Option, none, some}
 use native.Mathlib.Omega.{arith}
 use lib.Dec.{ltb, eqb}
-use lib.ListN.{length, take, drop, length-append}
-use Rattle.rules.specs.Basic.{pick, isSome, all, each, lf}
+use lib.ListN.{length, take, drop}
+use Rattle.rules.specs.Basic.{pick, isSome, all, lf}
 use Rattle.rules.specs.Sheet.{Lines, lines}
 use Rattle.rules.specs.Event as rules
 use Rattle.rules.specs.Event.{Event, spansOf}
 use Rattle.rules.specs.Units.{NamedUnit}
 use Rattle.rules.specs.Read.{parseLine}
-use Rattle.rules.specs.Model.{Kind, ingredient, cookware, Entry}
+use Rattle.rules.specs.Model.{Kind, ingredient, cookware}
 use Rattle.rules.specs.Modes.{isComponents}
-use Rattle.rules.specs.State.{State, tableOf}
+use Rattle.rules.specs.State.{State}
 use Rattle.rules.specs.Plain.{sheetOf}
-use Rattle.rules.specs.Answer.{Answer, Reading, events, unread, withEvent, eventsOr, isGoodSpan, readLine, readFrom, readSheet}
+use Rattle.rules.specs.Answer.{Reading, events, unread, withEvent, eventsOr, isGoodSpan, readLine, readFrom, readSheet}
 use Rattle.rules.proofs.Basics.{pick-either}
 use Rattle.rules.proofs.Fields.{Without}
-use Rattle.output.specs.Put.{Put}
 use Rattle.output.proofs.Puts.{keeps}
 use Rattle.output.proofs.Texts.{text-is}
 use Rattle.sheet.specs.declared.LineEnd.{LineEnd}
@@ -36,21 +35,21 @@ use Rattle.events.specs.declared.EventView.{EventView}
 use Rattle.events.specs.declared.EventView.the-variants as event
 use Rattle.reading.proofs.Passes.{Rest, rest-some}
 use Rattle.known_events.specs.Known.{KnownEvent}
-use Rattle.model.specs.Fits.{Fits, EachRow, AllFit}
+use Rattle.model.specs.Fits.{Fits, EachRow}
 use Rattle.model.specs.Memory.{defineOf}
 use Rattle.model.specs.declared.Open.{Open}
 use Rattle.model.specs.declared.Open.the-variants as block
 use Rattle.model.specs.declared.Held.{Held}
 use Rattle.memory.proofs.Whole.{long-ingredients, long-cookware}
-use Rattle.lookup.specs.Names.{NamesInside, rowsIn}
+use Rattle.lookup.specs.Names.{NamesInside}
 use Rattle.lookup.proofs.Names.{names-inside}
 use Rattle.following.specs.declared.Follow.{Follow}
 use Rattle.following.specs.Drawn.{firstFollow}
 use Rattle.following.specs.Follow.{Followed, Room}
 use Rattle.plain_walk.specs.Rows.{faultAs, kindFault, markFaultIn, componentFaultIn, faultIn, RowOf, RowIn, RowFor}
 use Rattle.plain_walk.specs.Lines.{plainIn}
-use Rattle.plain_walk.specs.Faults.{numberOf, RowNamed, ComponentReady, BlockReady, InsideReady, EventReady, LineFault}
-use Rattle.plain_walk.specs.Becomes.{plainAs, PlainFit, Few, EventTold, PlainWritten}
+use Rattle.plain_walk.specs.Faults.{numberOf, ComponentReady, BlockReady, InsideReady, EventReady, LineFault}
+use Rattle.plain_walk.specs.Becomes.{PlainFit, Few, EventTold, PlainWritten}
 use Rattle.plain_walk.specs.Walk.{Final, Collected, FormedAs, FormWritten}
 use Rattle.plain_walk.specs.declared.Plain.{Plain}
 use Rattle.plain_walk.specs.declared.Formed.the-variants.{Fault, Length}

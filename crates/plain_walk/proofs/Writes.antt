@@ -1,20 +1,17 @@
 -- The bytes of what a line becomes.
 use Prim.Native.Nat.{ℕ, _+_, _-_, _≤_, _<_}
-use mathlib.Core.Path.{_≡_, refl, sym, ap, _∙_, subst}
+use mathlib.Core.Path.{_≡_, sym, subst}
 use mathlib.Core.List.{List, [], _∷_, _++_, append-nil}
 use mathlib.Core.Bool.{Bool, true}
-use mathlib.Core.Option.{some}
 use native.Mathlib.Omega.{arith}
 use lib.ListN.{length, take, drop, length-drop}
 use lib.Seq.{length-take-le}
 use Rattle.rules.specs.Basic.{lf}
 use Rattle.rules.specs.Words.{textKind}
 use Rattle.rules.specs.Event.{Event, startEvent, endEvent, textEvent, componentEvent, between, inside}
-use Rattle.rules.specs.Read.{parseLine}
 use Rattle.rules.specs.Write.{writeLine}
 use Rattle.rules.specs.Plain.{sheetOf}
 use Rattle.rules.specs.Answer.{isGoodSpan}
-use Rattle.rules.proofs.Fields.{Without}
 use Rattle.rules.proofs.Parsed.{parse-writes}
 use Rattle.output.specs.Put.{Put}
 use Rattle.output.proofs.Puts.{starts, ends-in, put-most, put-past, put-rest}

@@ -2,12 +2,11 @@
 use Prim.Native.Nat.{ℕ, _+_, _≤_}
 use mathlib.Core.Path.{_≡_}
 use mathlib.Core.List.{List, [], _∷_}
-use mathlib.Core.Bool.{Bool, true}
+use mathlib.Core.Bool.{true}
 use mathlib.Core.Option.{some}
 use lib.ListN.{length}
 use Rattle.rules.specs.Basic.{lf, all}
 use Rattle.rules.specs.Words.{textKind}
-use Rattle.rules.specs.Event as rules
 use Rattle.rules.specs.Event.{startEvent, endEvent, textEvent, componentEvent, Event, between, inside, spansOf}
 use Rattle.rules.specs.Read.{parseLine}
 use Rattle.rules.specs.Plain.{sheetOf}
@@ -28,7 +27,7 @@ use Rattle.model.specs.declared.Open.{Open}
 use Rattle.model.specs.declared.Open.the-variants as block
 use Rattle.following.specs.declared.Follow.{Follow}
 use Rattle.plain_lines.specs.Lines.{sourceAt, markedAs}
-use Rattle.plain_walk.specs.Lines.{betweenPlain, componentPlain, stepPlain, insidePlain, plainIn}
+use Rattle.plain_walk.specs.Lines.{betweenPlain, componentPlain, insidePlain, plainIn}
 use Rattle.plain_walk.specs.declared.Plain.{Plain}
 use Rattle.plain_walk.specs.declared.Plain.the-variants.{Dropped, Copied, StartText, EndText, Source, Marked}
 

@@ -1,5 +1,5 @@
 -- What each line becomes in the plain form, by the small state and the rows of work memory after the pass.
-use Prim.Native.Nat.{ℕ, _<_}
+use Prim.Native.Nat.{ℕ}
 use mathlib.Core.Path.{_≡_}
 use mathlib.Core.List.{List, [], _∷_}
 use mathlib.Core.Bool.{_&&_}

@@ -1,13 +1,12 @@
 -- What the rows of work memory say, after the pass, of a component's line: what it refers to without REF, 22 and 23.
 use Prim.Native.Nat.{ℕ, _<_}
-use mathlib.Core.Path.{_≡_}
-use mathlib.Core.List.{List, []}
+use mathlib.Core.List.{List}
 use mathlib.Core.Bool.{Bool, true, false}
 use mathlib.Core.Option.{Option, none, some}
 use lib.Dec.{eqb}
 use Rattle.rules.specs.Basic.{pick}
 use Rattle.rules.specs.Unicode.{foldName}
-use Rattle.rules.specs.Event.{Component, ComponentEvent, ingredientEvent, cookwareEvent, timerEvent, Inside, endEvent, textEvent, componentEvent, Event, between, inside, parserEvent}
+use Rattle.rules.specs.Event.{Component, ComponentEvent, ingredientEvent, cookwareEvent, timerEvent, endEvent, textEvent, componentEvent, Event, between, inside, parserEvent}
 use Rattle.rules.specs.Model.{Kind, ingredient, cookware}
 use Rattle.rules.specs.Modes.{isComponents}
 use Rattle.rules.specs.Plain.{markRef}

@@ -1,21 +1,21 @@
 // The plain form of a sheet that the pass accepted: a second walk, over the component rows that the pass left in work memory.
 ghost use mathlib.Core.Path.{_≡_};
 ghost use mathlib.Core.Option.{some};
+ghost use mathlib.Core.Bool.{true, _&&_};
 ghost use Prim.Native.Nat.{_+_, _*_, _≤_, _<_};
 ghost use lib.ListN.{length};
-ghost use Rattle.unicode.specs.Tables.{unicodeTables};
-ghost use Rattle.events.specs.declared.EventView.the-variants as event;
-ghost use Rattle.plain_walk.specs.Rows.{implicitRow};
-ghost use Rattle.plain_walk.specs.Faults.{RowNamed, ComponentReady, InsideReady, EventReady, ImplicitFound, RowFault, StepFault, LineFault};
-ghost use mathlib.Core.Bool.{true, _&&_};
 ghost use Rattle.rules.specs.Utf8.{isUtf8};
 ghost use Rattle.rules.specs.Units.{readUnits};
 ghost use Rattle.rules.specs.Answer.{unitsOr, eventsOr, readSheet, events};
 ghost use Rattle.rules.specs.Modes.{hasModes, keyOf, keyText};
 ghost use Rattle.rules.specs.Plain.{isModeKey};
+ghost use Rattle.unicode.specs.Tables.{unicodeTables};
 ghost use Rattle.parts.specs.Views.{textIn, TextWithin};
+ghost use Rattle.events.specs.declared.EventView.the-variants as event;
 ghost use Rattle.events.specs.Views.{BetweenWithin, EventWithin};
 ghost use Rattle.model.specs.declared.Open.the-variants as block;
+ghost use Rattle.plain_walk.specs.Rows.{implicitRow};
+ghost use Rattle.plain_walk.specs.Faults.{RowNamed, ComponentReady, InsideReady, EventReady, ImplicitFound, RowFault, StepFault, LineFault};
 ghost use Rattle.plain_walk.specs.Becomes.{PlainFit, Few, StartTold, BetweenTold, ComponentTold, BlockTold, TextTold, EventTold, PlainWritten};
 ghost use Rattle.plain_walk.specs.Walk.{Collected, FormWritten};
 use components::ComponentView;
@@ -282,14 +282,7 @@ fn inside_plain(words: &[u32], i: Inside, f: Follow) -> Plain
     }
 }
 
-pub fn plain_of(
-    t: &[u32],
-    flags: u32,
-    line: &[u8],
-    words: &[u32],
-    e: EventView,
-    f: Follow,
-) -> Plain
+pub fn plain_of(t: &[u32], flags: u32, line: &[u8], words: &[u32], e: EventView, f: Follow) -> Plain
     requires { ⌜ (now t ≡ unicodeTables) × EventWithin (now line) e × (24157 ≤ length (now words)) × Few f ⌝ }
     ensures { λ r. ⌜ EventTold flags (now (words .entry)) (now (line .entry)) e f r ⌝ }
 {
