@@ -9,3 +9,4 @@ pub mod FaultLines
 pub mod Becomes
 pub mod Writes
 pub mod Turns
+pub mod Results
