@@ -1,3 +1,5 @@
 pub mod Sequence
 pub mod Leaves
 pub mod Contents
+pub mod Bytes
+pub mod Numbers
