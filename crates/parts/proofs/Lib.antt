@@ -3,3 +3,5 @@ pub mod Leaves
 pub mod Contents
 pub mod Bytes
 pub mod Numbers
+pub mod Escapes
+pub mod Alone

@@ -1,7 +1,9 @@
 // The parts of a line as views: numbers, and where the contents stand in the line. All readers take any bytes and any position;
 // `Ill` says that the part is ill-formed.
 ghost use mathlib.Core.Path.{_≡_};
-ghost use Rattle.rules.specs.Basic.{isEmpty};
+ghost use mathlib.Core.List.{[], _∷_};
+ghost use Prim.Native.Nat.{_<_};
+ghost use Rattle.rules.specs.Basic.{isEmpty, eqList};
 ghost use Rattle.sheet.specs.Lines.{fieldAt};
 ghost use Rattle.parts.specs.Views.{partOf};
 ghost use Rattle.parts.specs.Got.{DashAt, NumberRead, SpanRead, ContentRead, TextRead, OptTextRead, KindRead, LockRead, QuantityRead, OptQuantityRead};
@@ -78,6 +80,20 @@ fn ends_at(line: &[u8], at: usize) -> bool
     false
 }
 
+// Whether the field at `at` is the byte c alone.
+fn is_alone(line: &[u8], at: usize, c: u8) -> bool
+    requires { ⌜ 9 < c ⌝ }
+    ensures { λ r. ⌜ r ≡ eqList (fieldAt (now (line .entry)) at) (c ∷ []) ⌝ }
+{
+    if line.len() <= at {
+        return false;
+    }
+    if line[at] == c {
+        return ends_at(line, at + 1);
+    }
+    false
+}
+
 // Whether an opt part is there.
 pub enum Dash {
     // `-`; the next field starts at the position.
@@ -92,9 +108,8 @@ pub fn opt_dash(line: &[u8], at: usize) -> Dash
     if line.len() < at {
         return Dash::Ill;
     }
-    let f = sheet::field(line, at);
-    if sheet::same_bytes(f, b"-") {
-        return Dash::Absent(at + f.len() + 1);
+    if is_alone(line, at, b'-') {
+        return Dash::Absent(at + 2);
     }
     Dash::Present
 }
@@ -174,12 +189,26 @@ pub fn read_content(line: &[u8], at: usize) -> GotContent
     if line.len() < at {
         return GotContent::Ill;
     }
-    let f = sheet::field(line, at);
-    if sheet::is_well_escaped(f) {
-        let to = at + f.len();
-        return GotContent::Got(Part { from: at, to }, to + 1);
+    let mut i = at;
+    while i < line.len() {
+        let c = line[i];
+        if c == b'\t' {
+            return GotContent::Got(Part { from: at, to: i }, i + 1);
+        }
+        if c == b'\\' {
+            let j = i + 1;
+            if line.len() <= j {
+                return GotContent::Ill;
+            }
+            if sheet::letter(line[j]) == 0 {
+                return GotContent::Ill;
+            }
+            i = j + 1;
+        } else {
+            i += 1;
+        }
     }
-    GotContent::Ill
+    GotContent::Got(Part { from: at, to: i }, i + 1)
 }
 
 pub enum GotText {
