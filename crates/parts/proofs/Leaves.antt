@@ -10,29 +10,24 @@ use lib.Dec.{eqb, leb}
 use lib.ListN.{length, getD, take, drop}
 use Rattle.rules.specs.Basic.{pick, tab, minus, eqList, isSome, onSome, onFirst, splitAt, wordIn}
 use Rattle.rules.specs.Utf8.{chars}
-use Rattle.rules.specs.Sheet.{fieldsOf, unescape, numberUpTo, numberOf, atMost, onlyZero, digitsFrom}
-use Rattle.rules.specs.Read.{Fields, goOn, _>>=_, give, saying, gotOne, opt, field, contentOf, readNumber, readContent, word}
+use Rattle.rules.specs.Sheet.{fieldsOf, unescape, numberUpTo, atMost, onlyZero, digitsFrom}
+use Rattle.rules.specs.Read.{Fields, goOn, _>>=_, give, saying, gotOne, opt, field, contentOf, readContent, word}
 use Rattle.rules.proofs.Basics.{pick-either, no-some, no-truth, some-inj}
 use Rattle.sheet.specs.Lines.{fieldsFrom, fieldAt}
 use Rattle.sheet.proofs.Scans.{field-within, fields-next}
 use Rattle.rules.specs.Words as words
 use Rattle.rules.specs.Words.{valueKinds}
-use Rattle.sheet.specs.declared.Number.{Number}
-use Rattle.sheet.specs.declared.Number.the-variants.{Value, Bad}
 use Rattle.sheet.specs.declared.ValueWord.{ValueWord}
 use Rattle.sheet.specs.declared.ValueWord.the-variants as value
-use Rattle.sheet.specs.Numbers.{numberAs}
 use Rattle.sheet.specs.Words.{valueAs}
-use Rattle.sheet.proofs.Digits.{told-bad, told-value}
 use Rattle.sheet.proofs.Tests.{hit, miss}
 use Rattle.parts.specs.declared.ValueKind.the-variants as view
-use Rattle.parts.specs.declared.GotNumber.the-variants as number
 use Rattle.parts.specs.declared.GotContent.the-variants as content
 use Rattle.parts.specs.declared.GotKind.the-variants as kind
 use Rattle.parts.specs.declared.Dash.the-variants as dash
 use Rattle.parts.specs.declared.Part.{Part}
 use Rattle.parts.specs.Views.{partOf, orEmpty, bytesIn, contentIn, kindIn}
-use Rattle.parts.specs.Got.{Among, among-end, among-past, among-one, ReadAt, noContents, NumberRead, ContentRead, KindRead, dashAs, DashAt}
+use Rattle.parts.specs.Got.{Among, among-end, among-past, among-one, ReadAt, noContents, ContentRead, KindRead, dashAs, DashAt}
 use Rattle.parts.proofs.Sequence.{reads, fails}
 
 -- ---- the fields that are left
@@ -105,19 +100,6 @@ unfolding numberUpTo
 number-most m [] e = no-some e
 number-most m (c ∷ s) {n} e =
     pick-either (λ (o : Option ℕ). o ≡ some n → n ≤ m) (eqb c 48) (onlyZero s) (atMost m (digitsFrom 0 (c ∷ s))) (λ b q. let z = zero-of s q in omega arith) (λ b q. most-of m _ q) e
-
-bounded : (f : List ℕ) {n : ℕ} → numberOf f ≡ some n → n ≤ 65535
-unfolding numberOf
-bounded f k = number-most 65535 f k
-
-module _ {line : List ℕ} {at : ℕ} {f : List ℕ} (h : at ≤ length line) (e : f ≡ fieldAt line at) {r : Number} (w : r ≡ numberAs (numberOf f)) where
-  pub number-bad : r ≡ Bad → NumberRead line at number.Ill
-  unfolding readNumber
-  number-bad q = leaf-bad numberOf h e (told-bad _ (sym q ∙ w))
-
-  pub number-got : {n : ℕ} → r ≡ Value n → NumberRead line at (number.Got n (at + length f + 1))
-  unfolding readNumber
-  number-got q = let k = told-value _ (sym q ∙ w) in leaf-got numberOf h e k (bounded f k)
 
 -- ---- contents
 well-is : (o : Option (List ℕ)) → true ≡ isSome o → o ≡ some (orEmpty o)

@@ -1,3 +1,7 @@
 pub mod Sequence
 pub mod Leaves
 pub mod Contents
+pub mod Bytes
+pub mod Numbers
+pub mod Escapes
+pub mod Alone

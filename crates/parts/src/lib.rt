@@ -1,6 +1,10 @@
 // The parts of a line as views: numbers, and where the contents stand in the line. All readers take any bytes and any position;
 // `Ill` says that the part is ill-formed.
 ghost use mathlib.Core.Path.{_≡_};
+ghost use mathlib.Core.List.{[], _∷_};
+ghost use Prim.Native.Nat.{_<_};
+ghost use Rattle.rules.specs.Basic.{isEmpty, eqList};
+ghost use Rattle.sheet.specs.Lines.{fieldAt};
 ghost use Rattle.parts.specs.Views.{partOf};
 ghost use Rattle.parts.specs.Got.{DashAt, NumberRead, SpanRead, ContentRead, TextRead, OptTextRead, KindRead, LockRead, QuantityRead, OptQuantityRead};
 
@@ -63,6 +67,33 @@ pub fn part_of<'a>(line: &'a [u8], p: Part) -> &'a [u8]
     &line[from..to]
 }
 
+// Whether the field that a byte before `at` belongs to ends at `at`.
+fn ends_at(line: &[u8], at: usize) -> bool
+    ensures { λ r. ⌜ r ≡ isEmpty (fieldAt (now (line .entry)) at) ⌝ }
+{
+    if line.len() <= at {
+        return true;
+    }
+    if line[at] == b'\t' {
+        return true;
+    }
+    false
+}
+
+// Whether the field at `at` is the byte c alone.
+fn is_alone(line: &[u8], at: usize, c: u8) -> bool
+    requires { ⌜ 9 < c ⌝ }
+    ensures { λ r. ⌜ r ≡ eqList (fieldAt (now (line .entry)) at) (c ∷ []) ⌝ }
+{
+    if line.len() <= at {
+        return false;
+    }
+    if line[at] == c {
+        return ends_at(line, at + 1);
+    }
+    false
+}
+
 // Whether an opt part is there.
 pub enum Dash {
     // `-`; the next field starts at the position.
@@ -77,9 +108,8 @@ pub fn opt_dash(line: &[u8], at: usize) -> Dash
     if line.len() < at {
         return Dash::Ill;
     }
-    let f = sheet::field(line, at);
-    if sheet::same_bytes(f, b"-") {
-        return Dash::Absent(at + f.len() + 1);
+    if is_alone(line, at, b'-') {
+        return Dash::Absent(at + 2);
     }
     Dash::Present
 }
@@ -93,14 +123,42 @@ pub enum GotNumber {
 pub fn read_number(line: &[u8], at: usize) -> GotNumber
     ensures { λ r. ⌜ NumberRead (now (line .entry)) at r ⌝ }
 {
-    if line.len() < at {
+    if line.len() <= at {
         return GotNumber::Ill;
     }
-    let f = sheet::field(line, at);
-    let sheet::Number::Value(n) = sheet::read_number(f) else {
+    let first = line[at];
+    let mut i = at + 1;
+    if first == b'0' {
+        if ends_at(line, i) {
+            return GotNumber::Got(0, i + 1);
+        }
         return GotNumber::Ill;
-    };
-    GotNumber::Got(n, at + f.len() + 1)
+    }
+    if first < b'0' {
+        return GotNumber::Ill;
+    }
+    if b'9' < first {
+        return GotNumber::Ill;
+    }
+    let mut n = (first - b'0') as u32;
+    while i < line.len() {
+        let c = line[i];
+        if c < b'0' {
+            if c == b'\t' {
+                return GotNumber::Got(n, i + 1);
+            }
+            return GotNumber::Ill;
+        }
+        if b'9' < c {
+            return GotNumber::Ill;
+        }
+        n = n * 10 + ((c - b'0') as u32);
+        if 65535 < n {
+            return GotNumber::Ill;
+        }
+        i += 1;
+    }
+    GotNumber::Got(n, i + 1)
 }
 
 pub enum GotSpan {
@@ -131,12 +189,26 @@ pub fn read_content(line: &[u8], at: usize) -> GotContent
     if line.len() < at {
         return GotContent::Ill;
     }
-    let f = sheet::field(line, at);
-    if sheet::is_well_escaped(f) {
-        let to = at + f.len();
-        return GotContent::Got(Part { from: at, to }, to + 1);
+    let mut i = at;
+    while i < line.len() {
+        let c = line[i];
+        if c == b'\t' {
+            return GotContent::Got(Part { from: at, to: i }, i + 1);
+        }
+        if c == b'\\' {
+            let j = i + 1;
+            if line.len() <= j {
+                return GotContent::Ill;
+            }
+            if sheet::letter(line[j]) == 0 {
+                return GotContent::Ill;
+            }
+            i = j + 1;
+        } else {
+            i += 1;
+        }
     }
-    GotContent::Ill
+    GotContent::Got(Part { from: at, to: i }, i + 1)
 }
 
 pub enum GotText {

@@ -26,7 +26,24 @@ pub fn line_end(s: &[u8], at: usize) -> LineEnd
         if s[i] == b'\n' {
             return LineEnd::At(i);
         }
-        i += 1;
+        // four bytes a turn while there are so many
+        if 4 <= s.len() - i {
+            let j = i + 1;
+            if s[j] == b'\n' {
+                return LineEnd::At(j);
+            }
+            let k = j + 1;
+            if s[k] == b'\n' {
+                return LineEnd::At(k);
+            }
+            let l = k + 1;
+            if s[l] == b'\n' {
+                return LineEnd::At(l);
+            }
+            i = l + 1;
+        } else {
+            i += 1;
+        }
     }
     LineEnd::Nothing
 }

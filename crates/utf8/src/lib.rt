@@ -198,7 +198,22 @@ pub fn first_fault(s: &[u8]) -> Checked
     while at < s.len() {
         let a = s[at];
         if a < 0x80 {
-            at += 1;
+            let b = at + 1;
+            let c = b + 1;
+            // three bytes a turn
+            if c < s.len() {
+                if s[b] < 0x80 {
+                    if s[c] < 0x80 {
+                        at = c + 1;
+                    } else {
+                        at = c;
+                    }
+                } else {
+                    at = b;
+                }
+            } else {
+                at = b;
+            }
         } else {
             let d = decode(s, at);
             match d {

@@ -1,44 +1,117 @@
 use borrow.Author.Needs.{needs}
 use native.Mathlib.Omega.{arith}
+use Prim.Native.Nat.{_-_}
+use lib.ListN.{length}
 use Rattle.rules.specs.Read.{readContent, contentOf}
-use Rattle.parts.proofs.Leaves.{leaf-past, content-bad, content-got}
+use Rattle.parts.proofs.Leaves.{leaf-past}
+use Rattle.parts.proofs.Bytes.{at-tab, at-end}
+use Rattle.parts.proofs.Escapes.{ContentFrom, content-starts, content-ends, content-plain, content-cut, content-wrong, content-escaped}
 use Rattle.parts.proofs.read_content.Statement.{statement}
 use Rattle.parts.proofs.read_content.Tie as tie
 use Rattle.parts.proofs.read_content.Reads as reads
 use Rattle.parts.proofs.read_content.Lts as lts
-use Rattle.sheet.proofs.field.Reads as field-reads
-use Rattle.sheet.proofs.is_well_escaped.Reads as is-well-escaped-reads
+use Rattle.sheet.proofs.letter.Reads as letter-reads
 
--- src/lib.rt:156:9
-returns : tie.Need-returns
+abbrev Inv-loop : tie.InvT-loop
+Inv-loop line at i₀ i = ContentFrom line at i
+
+abbrev μ-loop : tie.MeasureT-loop
+μ-loop line at i₀ i = length line - i
+
+-- src/lib.rt:190:9
+returns : tie.Need-returns Inv-loop μ-loop
 unfolding readContent
 returns c = leaf-past contentOf (c .if1 .taken)
 
--- src/lib.rt:158:9
-field-requires : tie.Need-field-requires
-field-requires c κs = search needs
+-- src/lib.rt:193:5
+loop-holds : tie.Need-loop-holds Inv-loop μ-loop
+loop-holds c = content-starts _ _ (c .if1 .left)
 
--- src/lib.rt:159:8
-is-well-escaped-requires : tie.Need-is-well-escaped-requires
-is-well-escaped-requires c κs = search needs
+-- src/lib.rt:194:17
+shared-slice-read-c : tie.Need-shared-slice-read-c Inv-loop μ-loop
+shared-slice-read-c c = search needs
 
--- src/lib.rt:160:18
-add-to : tie.Need-add-to
-add-to c = search needs
+-- src/lib.rt:196:62
+add-t13 : tie.Need-add-t13 Inv-loop μ-loop
+add-t13 c = search needs
 
--- src/lib.rt:161:55
-add-t8 : tie.Need-add-t8
-add-t8 c = search needs
+-- src/lib.rt:196:13
+returns-2 : tie.Need-returns-2 Inv-loop μ-loop
+returns-2 c = content-ends (c .before .before .before .loop .inv) (at-tab _ _ (c .before .before .loop-test .taken) (c .if2 .taken))
 
--- src/lib.rt:161:9
-returns-2 : tie.Need-returns-2
-returns-2 c = content-got _ _ (c .before .before .before .if1 .left) (c .before .before .field .ensures) (c .before .is-well-escaped .ensures) (c .if2 .taken)
+-- src/lib.rt:199:21
+add-j : tie.Need-add-j Inv-loop μ-loop
+add-j c = search needs
 
--- src/lib.rt:152:1
-returns-3 : tie.Need-returns-3
-returns-3 c = content-bad _ _ (c .before .before .before .if1 .left) (c .before .before .field .ensures) (c .before .is-well-escaped .ensures) (c .if2 .left)
+-- src/lib.rt:201:17
+returns-3 : tie.Need-returns-3 Inv-loop μ-loop
+returns-3 c = content-cut (c .before .before .before .before .before .loop .inv) (c .before .before .before .before .loop-test .taken) (c .before .if3 .taken) (c .if4 .taken)
+
+-- src/lib.rt:203:30
+shared-slice-read-letter : tie.Need-shared-slice-read-letter Inv-loop μ-loop
+shared-slice-read-letter c = search needs
+
+-- src/lib.rt:203:16
+letter-requires : tie.Need-letter-requires Inv-loop μ-loop
+letter-requires c κs = search needs
+
+-- src/lib.rt:204:17
+returns-4 : tie.Need-returns-4 Inv-loop μ-loop
+returns-4 c = content-wrong (c .before .before .before .before .before .before .before .before .loop .inv) (c .before .before .before .before .before .before .before .loop-test .taken) (c .before .before .before .before .if3 .taken) (c .before .before .before .if4 .left) (c .before .letter .ensures) (c .if5 .taken)
+
+-- src/lib.rt:206:17
+add-i : tie.Need-add-i Inv-loop μ-loop
+add-i c = search needs
+
+-- src/lib.rt:193:5
+loop-less : tie.Need-loop-less Inv-loop μ-loop
+loop-less c = search needs
+
+-- src/lib.rt:193:5
+loop-again : tie.Need-loop-again Inv-loop μ-loop
+loop-again c = content-escaped (c .before .before .before .before .before .before .before .before .loop .inv) (c .before .before .before .before .before .before .before .loop-test .taken) (c .before .before .before .before .if3 .taken) (c .before .before .before .if4 .left) (c .before .letter .ensures) (c .if5 .left)
+
+-- src/lib.rt:208:13
+add-i-2 : tie.Need-add-i-2 Inv-loop μ-loop
+add-i-2 c = search needs
+
+-- src/lib.rt:193:5
+loop-less-2 : tie.Need-loop-less-2 Inv-loop μ-loop
+loop-less-2 c = search needs
+
+-- src/lib.rt:193:5
+loop-again-2 : tie.Need-loop-again-2 Inv-loop μ-loop
+loop-again-2 c = content-plain (c .before .before .before .before .loop .inv) (c .before .before .before .loop-test .taken) (c .before .if2 .left) (c .if3 .left)
+
+-- src/lib.rt:211:47
+add-t6 : tie.Need-add-t6 Inv-loop μ-loop
+add-t6 c = omega (arith, c .before .loop .inv .inside)
+
+-- src/lib.rt:186:1
+returns-5 : tie.Need-returns-5 Inv-loop μ-loop
+returns-5 c = content-ends (c .before .loop .inv) (at-end _ _ (c .loop-test .left))
 
 pub read-content-spec : {M : Type 1} → statement M
 read-content-spec =
     tie.close
-    (tie.spec returns field-requires is-well-escaped-requires add-to add-t8 returns-2 returns-3)
+    (tie.spec
+    Inv-loop
+    μ-loop
+    returns
+    loop-holds
+    shared-slice-read-c
+    add-t13
+    returns-2
+    add-j
+    returns-3
+    shared-slice-read-letter
+    letter-requires
+    returns-4
+    add-i
+    loop-less
+    loop-again
+    add-i-2
+    loop-less-2
+    loop-again-2
+    add-t6
+    returns-5)

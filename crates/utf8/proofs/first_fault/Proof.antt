@@ -17,44 +17,84 @@ Inv-loop s at₀ at = (at ≤ length s) × (faultFrom at 0 (drop at s) ≡ first
 abbrev μ-loop : tie.MeasureT-loop
 μ-loop s at₀ at = length s - at
 
--- src/lib.rt:201:5
+-- src/lib.rt:198:5
 loop-holds : tie.Need-loop-holds Inv-loop μ-loop
 unfolding firstFault
 loop-holds c = search needs
 
--- src/lib.rt:202:17
+-- src/lib.rt:199:17
 shared-slice-read-a : tie.Need-shared-slice-read-a Inv-loop μ-loop
 shared-slice-read-a c = search needs
 
--- src/lib.rt:204:13
+-- src/lib.rt:201:21
+add-b : tie.Need-add-b Inv-loop μ-loop
+add-b c = search needs
+
+-- src/lib.rt:202:21
+add-c : tie.Need-add-c Inv-loop μ-loop
+add-c c = search needs
+
+-- src/lib.rt:205:20
+shared-slice-read-if3 : tie.Need-shared-slice-read-if3 Inv-loop μ-loop
+shared-slice-read-if3 c = search needs
+
+-- src/lib.rt:206:24
+shared-slice-read-if4 : tie.Need-shared-slice-read-if4 Inv-loop μ-loop
+shared-slice-read-if4 c = search needs
+
+-- src/lib.rt:207:30
 add-at : tie.Need-add-at Inv-loop μ-loop
 add-at c = search needs
 
--- src/lib.rt:201:5
+-- src/lib.rt:198:5
 loop-less : tie.Need-loop-less Inv-loop μ-loop
 loop-less c = search needs
 
--- src/lib.rt:201:5
+-- src/lib.rt:198:5
 loop-again : tie.Need-loop-again Inv-loop μ-loop
-loop-again c = search (needs, ascii-on)
+loop-again c = (omega (arith, c .before .before .before .before .if2 .taken), (ascii-on _ _ (c .before .before .before .before .if2 .taken) (ascii-on _ _ (omega (arith, c .before .before .before .before .if2 .taken)) (ascii-on _ _ (c .before .before .before .before .before .before .before .loop-test .taken) (c .before .before .before .before .before .before .before .before .loop .inv .1) (c .before .before .before .before .before .if1 .taken)) (c .before .before .if3 .taken)) (c .if4 .taken)))
 
--- src/lib.rt:206:17
+-- src/lib.rt:198:5
+loop-less-2 : tie.Need-loop-less-2 Inv-loop μ-loop
+loop-less-2 c = search needs
+
+-- src/lib.rt:198:5
+loop-again-2 : tie.Need-loop-again-2 Inv-loop μ-loop
+loop-again-2 c = (omega (arith, c .before .before .before .before .if2 .taken), (ascii-on _ _ (omega (arith, c .before .before .before .before .if2 .taken)) (ascii-on _ _ (c .before .before .before .before .before .before .before .loop-test .taken) (c .before .before .before .before .before .before .before .before .loop .inv .1) (c .before .before .before .before .before .if1 .taken)) (c .before .before .if3 .taken)))
+
+-- src/lib.rt:198:5
+loop-less-3 : tie.Need-loop-less-3 Inv-loop μ-loop
+loop-less-3 c = search needs
+
+-- src/lib.rt:198:5
+loop-again-3 : tie.Need-loop-again-3 Inv-loop μ-loop
+loop-again-3 c = search (needs, ascii-on)
+
+-- src/lib.rt:198:5
+loop-less-4 : tie.Need-loop-less-4 Inv-loop μ-loop
+loop-less-4 c = search needs
+
+-- src/lib.rt:198:5
+loop-again-4 : tie.Need-loop-again-4 Inv-loop μ-loop
+loop-again-4 c = search (needs, ascii-on)
+
+-- src/lib.rt:218:17
 decode-requires : tie.Need-decode-requires Inv-loop μ-loop
 decode-requires c κs = search needs
 
--- src/lib.rt:209:21
+-- src/lib.rt:221:21
 enum-told : tie.Need-enum-told Inv-loop μ-loop
 enum-told c = search needs
 
--- src/lib.rt:209:21
+-- src/lib.rt:221:21
 returns : tie.Need-returns Inv-loop μ-loop
 returns c = search (needs, fault-at)
 
--- src/lib.rt:211:42
+-- src/lib.rt:223:42
 enum-known-d : tie.Need-enum-known-d Inv-loop μ-loop
 enum-known-d c = search needs
 
--- src/lib.rt:212:21
+-- src/lib.rt:224:21
 add-at-2 : tie.Need-add-at-2 Inv-loop μ-loop
 add-at-2 c =
     let d = c .before .d in
@@ -64,9 +104,9 @@ add-at-2 c =
     let args = c .before .before .before .before .before .before .before .before .before .args in
     omega (arith, char-most (args .s .now) (loop .at) (loop-test .taken) (decode .result) (decode .ensures) _ _ (d .given .1))
 
--- src/lib.rt:201:5
-loop-less-2 : tie.Need-loop-less-2 Inv-loop μ-loop
-loop-less-2 c =
+-- src/lib.rt:198:5
+loop-less-5 : tie.Need-loop-less-5 Inv-loop μ-loop
+loop-less-5 c =
     let d = c .before .d in
     let decode = c .before .before .before .decode in
     let loop-test = c .before .before .before .before .before .before .loop-test in
@@ -74,11 +114,11 @@ loop-less-2 c =
     let args = c .before .before .before .before .before .before .before .before .before .args in
     omega (arith, char-most (args .s .now) (loop .at) (loop-test .taken) (decode .result) (decode .ensures) _ _ (d .given .1), char-least (args .s .now) (loop .at) (loop-test .taken) (decode .result) (decode .ensures) _ _ (d .given .1))
 
--- src/lib.rt:201:5
-loop-again-2 : tie.Need-loop-again-2 Inv-loop μ-loop
-loop-again-2 c = search (needs, char-on, char-most)
+-- src/lib.rt:198:5
+loop-again-5 : tie.Need-loop-again-5 Inv-loop μ-loop
+loop-again-5 c = search (needs, char-on, char-most)
 
--- src/lib.rt:197:1
+-- src/lib.rt:194:1
 returns-2 : tie.Need-returns-2 Inv-loop μ-loop
 returns-2 c = search (needs, checked-end)
 
@@ -90,14 +130,24 @@ first-fault-spec =
     μ-loop
     loop-holds
     shared-slice-read-a
+    add-b
+    add-c
+    shared-slice-read-if3
+    shared-slice-read-if4
     add-at
     loop-less
     loop-again
+    loop-less-2
+    loop-again-2
+    loop-less-3
+    loop-again-3
+    loop-less-4
+    loop-again-4
     decode-requires
     enum-told
     returns
     enum-known-d
     add-at-2
-    loop-less-2
-    loop-again-2
+    loop-less-5
+    loop-again-5
     returns-2)
