@@ -40,7 +40,7 @@ pub record Counts (n : ℕ) (f : Follow) : Type 0 where
   pub cookware : f .cookware ≤ n
   pub timers : f .timers ≤ n
 
-counts-more : {n : ℕ} {f : Follow} → Counts n f → Counts (suc n) f
+pub counts-more : {n : ℕ} {f : Follow} → Counts n f → Counts (suc n) f
 counts-more h = record { counter = omega arith; ingredients = omega arith; cookware = omega arith; timers = omega arith }
 
 meta-counts : (m : Meta) {n : ℕ} (f : Follow) → Counts n f → Counts (suc n) (metaFollow m f)
@@ -81,7 +81,7 @@ section-counts : (b : Bool) {n : ℕ} (f : Follow) → Counts n f → Counts (su
 unfolding sectionFollow
 section-counts b f h = record { counter = omega arith; ingredients = omega arith; cookware = omega arith; timers = omega arith }
 
-next-counts : (flags : ℕ) (e : Event) {n : ℕ} (f : Follow) → Counts n f → Counts (suc n) (nextFollow flags e f)
+pub next-counts : (flags : ℕ) (e : Event) {n : ℕ} (f : Follow) → Counts n f → Counts (suc n) (nextFollow flags e f)
 unfolding nextFollow betweenFollow insideFollow
 next-counts flags (between (metaEvent k v)) f h = meta-counts (metaOf flags k v) f h
 next-counts flags (between (sectionEvent x)) f h = section-counts (isSome x) f h

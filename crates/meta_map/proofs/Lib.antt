@@ -4,3 +4,4 @@ pub mod Stored
 pub mod Printed
 pub mod Walks
 pub mod Metas
+pub mod Lines

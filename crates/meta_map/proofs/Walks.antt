@@ -22,23 +22,20 @@ use Rattle.rules.specs.Metadata.{storeMeta, onDefine, onDuplicate, onKey, onMet
 use Rattle.rules.specs.Pass.{isOpen, onBetween, onEvent, walk}
 use Rattle.rules.specs.Page.{tableLines, metaLine}
 use Rattle.rules.specs.Answer.{Reading, events, unread, eventsOr, withEvent, isGoodSpan, readLine, readFrom, readSheet}
-use Rattle.rules.proofs.Basics.{pick-either, some-inj}
+use Rattle.rules.proofs.Basics.{pick-either}
 use Rattle.rules.proofs.Fields.{Without}
 use Rattle.rules.proofs.FaultWalk.{Takes, takes, walk-on}
 use Rattle.sheet.specs.declared.LineEnd.{LineEnd}
 use Rattle.sheet.specs.declared.LineEnd.the-variants.{At, Nothing}
 use Rattle.sheet.specs.Lines.{linesFrom, LineAt}
 use Rattle.content.proofs.Lines.{line-without}
-use Rattle.events.specs.declared.EventView.{EventView}
-use Rattle.events.specs.Views.{eventIn}
 use Rattle.reading.proofs.Passes.{Rest, rest-ends, rest-ended}
-use Rattle.known_events.specs.Known.{KnownEvent}
 use Rattle.output.specs.Put.{Put}
 use Rattle.output.proofs.Texts.{text-is}
 use Rattle.finding_lines.proofs.Asides.{section-aside, start-aside, inside-aside}
 use Rattle.finding_lines.proofs.Parsers.{next-inj, stop-next, aside-next}
 use Rattle.meta_map.specs.Index.{mapIn, Indexed, Cleared, MetasPut}
-use Rattle.meta_map.specs.Maps.{mapKey, mapMeta, mapOn, mapOver, EventIndexed, SheetIndexed}
+use Rattle.meta_map.specs.Maps.{mapKey, mapMeta, mapOn, mapOver, LineIndexed, SheetIndexed}
 use Rattle.meta_map.proofs.Stored.{indexed-none}
 
 -- ---- the map in the pass
@@ -171,17 +168,16 @@ module _ {flags : ℕ} {text bytes m : List ℕ} {n from : ℕ} (v : Indexing fl
       pub index-room : n < 4096
       index-room = omega (arith, lined (v .rest) l q .few, v .count)
 
-      pub index-on : {e : EventView} {m′ : List ℕ} {n′ : ℕ} → KnownEvent (take (end - from) (drop from bytes)) e → EventIndexed flags bytes (take (end - from) (drop from bytes)) m n e m′ n′ → Indexing flags text bytes m′ n′ (end + 1)
-      index-on {e} {m′} {n′} k x =
+      pub index-on : {m′ : List ℕ} {n′ : ℕ} → LineIndexed flags bytes (take (end - from) (drop from bytes)) m n m′ n′ → Indexing flags text bytes m′ n′ (end + 1)
+      index-on {m′} {n′} x =
           let z = lined (v .rest) l q in
-          let same : z .event ≡ eventIn (take (end - from) (drop from bytes)) e = some-inj (sym (z .parses) ∙ k .is) in
           record {
             number = v .number + 1;
             others = z .others;
             rest = z .rest;
             indexed = x .indexed;
             count = omega (arith, x .count, v .count);
-            is = ap (λ (es : List MetaEntry). mapOver flags (z .others) es) (x .map ∙ ap (λ (y : Event). mapOn flags y (mapIn bytes m n)) (sym same))
+            is = ap (λ (es : List MetaEntry). mapOver flags (z .others) es) (x .map (z .event) (z .parses))
                 ∙ over-first (z .event) (z .others) (mapIn bytes m n) ∙ ap (λ (es : List Event). mapOver flags es (mapIn bytes m n)) (sym (z .is)) ∙ v .is;
           }
         where

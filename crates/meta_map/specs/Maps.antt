@@ -3,10 +3,12 @@ use Prim.Native.Nat.{ℕ, _+_, _≤_}
 use mathlib.Core.Path.{_≡_}
 use mathlib.Core.Bool.{Bool, _&&_}
 use mathlib.Core.List.{List, [], _∷_}
+use mathlib.Core.Option.{some}
 use lib.ListN.{length, take, drop}
 use Rattle.rules.specs.Basic.{pick}
 use Rattle.rules.specs.Text.{textTrimmed}
 use Rattle.rules.specs.Plain.{isModeKey}
+use Rattle.rules.specs.Read.{parseLine}
 use Rattle.rules.specs.Answer.{eventsOr, readSheet}
 use Rattle.content.specs.Contents.{contentIn}
 use Rattle.text.specs.Trims.{TrimmedTo}
@@ -64,6 +66,12 @@ pub record MetaIndexed (flags : ℕ) (sheet line m₀ : List ℕ) (n : ℕ) (k v
 -- any line
 pub record EventIndexed (flags : ℕ) (sheet line m₀ : List ℕ) (n : ℕ) (v : EventView) (m : List ℕ) (r : ℕ) : Type 0 where
   pub map : mapIn sheet m r ≡ mapOn flags (eventIn line v) (mapIn sheet m₀ n)
+  pub indexed : Indexed sheet m r
+  pub count : r ≤ n + 1
+
+-- any line, whatever its event is
+pub record LineIndexed (flags : ℕ) (sheet line m₀ : List ℕ) (n : ℕ) (m : List ℕ) (r : ℕ) : Type 0 where
+  pub map : (e : Event) → parseLine line ≡ some e → mapIn sheet m r ≡ mapOn flags e (mapIn sheet m₀ n)
   pub indexed : Indexed sheet m r
   pub count : r ≤ n + 1
 

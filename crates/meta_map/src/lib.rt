@@ -4,7 +4,11 @@ ghost use mathlib.Core.Path.{_≡_};
 ghost use Prim.Native.Nat.{_+_, _*_, _%_, _≤_, _<_};
 ghost use lib.ListN.{length, getD};
 ghost use lib.ListN.{take, drop};
+ghost use mathlib.Core.Bool.{true};
+ghost use Rattle.rules.specs.Basic.{lf, isSome};
+ghost use Rattle.rules.specs.Read.{parseLine};
 ghost use Rattle.rules.specs.Answer.{events, eventsOr, readSheet};
+ghost use Rattle.rules.proofs.Fields.{Without};
 ghost use Rattle.content.specs.Contents.{keptIn};
 ghost use Rattle.content.specs.Parts.{Field};
 ghost use Rattle.unicode.specs.Tables.{unicodeTables};
@@ -12,7 +16,7 @@ ghost use Rattle.parts.specs.Views.{TextWithin};
 ghost use Rattle.known_events.specs.Fields.{TextField};
 ghost use Rattle.known_events.specs.Known.{KnownEvent};
 ghost use Rattle.meta_map.specs.Index.{cell, head, RowIn, Indexed, Hashed, RowFound, ValueSet, KeyPushed, Inserted, Cleared, MetaPut, MetasPut, partAt};
-ghost use Rattle.meta_map.specs.Maps.{TrimmedPart, HeededKey, MetaIndexed, EventIndexed, SheetIndexed, indexOf, WordsIndexed};
+ghost use Rattle.meta_map.specs.Maps.{TrimmedPart, HeededKey, MetaIndexed, EventIndexed, LineIndexed, SheetIndexed, indexOf, WordsIndexed};
 use events::Between;
 use events::EventView;
 use parts::Part;
@@ -251,6 +255,26 @@ fn index_event(
     }
 }
 
+// A line of the sheet before it is read: `meta` lines alone begin with an m.
+fn index_line(
+    t: &[u32],
+    flags: u32,
+    sheet: &[u8],
+    from: usize,
+    end: usize,
+    m: &mut [u32],
+    n: usize,
+) -> usize
+    requires { ⌜ (now t ≡ unicodeTables) × Indexed (now sheet) (now m) n × (n < 4096) × (length (now sheet) ≤ 65536) × (from ≤ end) × (end < length (now sheet)) × (isSome (parseLine (partAt (now sheet) from end)) ≡ true) × Without lf (partAt (now sheet) from end) ⌝ }
+    ensures { λ r. ⌜ LineIndexed flags (now (sheet .entry)) (partAt (now (sheet .entry)) from end) (now (m .entry)) n (now (m .exit)) r ⌝ }
+{
+    if sheet[from] != b'm' {
+        return n;
+    }
+    let v = known_events::event_of(&sheet[from..end]);
+    index_event(t, flags, sheet, from, end, v, m, n)
+}
+
 // The index of a sheet that was read: how many keys it has.
 fn fill_index(t: &[u32], flags: u32, sheet: &[u8], text: &[u8], m: &mut [u32]) -> usize
     requires { ⌜ (now t ≡ unicodeTables) × (length (now sheet) ≤ 65536) × (length (now m) ≡ 21504) × (readSheet (now text) (now sheet) ≡ events (eventsOr (readSheet (now text) (now sheet)))) ⌝ }
@@ -263,8 +287,7 @@ fn fill_index(t: &[u32], flags: u32, sheet: &[u8], text: &[u8], m: &mut [u32]) -
         let sheet::LineEnd::At(end) = sheet::line_end(sheet, from) else {
             return n;
         };
-        let v = known_events::event_of(&sheet[from..end]);
-        n = index_event(t, flags, sheet, from, end, v, m, n);
+        n = index_line(t, flags, sheet, from, end, m, n);
         from = end + 1;
     }
     n

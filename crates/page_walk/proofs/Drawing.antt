@@ -4,6 +4,7 @@ use mathlib.Core.Path.{_≡_, refl, sym, ap, _∙_, subst}
 use mathlib.Core.List.{List, [], _∷_, _++_, append-nil, append-assoc}
 use mathlib.Core.Option.{some}
 use native.Mathlib.Omega.{arith}
+use native.Mathlib.Numerals.{add-one}
 use lib.ListN.{length, take, drop, length-take}
 use Rattle.rules.specs.Sheet.{lines}
 use Rattle.rules.specs.Event.{Event}
@@ -22,18 +23,23 @@ use Rattle.reading.proofs.Passes.{Rest, rest-ends, rest-ended, First}
 use Rattle.following.specs.declared.Part.{Part}
 use Rattle.following.specs.declared.Follow.{Follow}
 use Rattle.following.specs.Drawn.{drawn, followOf, firstFollow, quantitiesAdded, added, appended}
-use Rattle.following.specs.Follow.{nextFollow, withInline, Room}
+use Rattle.following.specs.Follow.{Room}
 use Rattle.following.proofs.Laws.{drawn-first, drawn-next, follows-first}
-use Rattle.following.proofs.Walking.{Walking, Went, walking-first, walking-next, walking-ends, walking-room}
+use Rattle.following.proofs.Walking.{Counts, Walking, Went, walking-first, walking-next, walking-ends}
 use Rattle.part_lines.specs.Drawing.{tracked}
 use Rattle.page_walk.specs.declared.Turn.{Turn}
-use Rattle.page_walk.specs.Walk.{LineReady, LineTaken, PassInputs, PartDrawn}
+use Rattle.page_walk.specs.Walk.{view, LineReady, TurnTaken, PassInputs, PartDrawn}
 use Rattle.page_walk.proofs.Lines.{line-known, line-spans, line-first, line-whole, EventIs, event-is}
-use Rattle.page_walk.proofs.Tracked.{inline-of, FollowsFor, follows-for, follows-for-next, count-next, tracked-most, added-follows, room-for}
+use Rattle.page_walk.proofs.Tracked.{inline-of, follows-for, tracked-most}
+use Rattle.page_walk.proofs.Seen.{Seen, seen-first, seen-next, count-then, added-follows, after}
 
 first-inline : firstFollow .inline ≡ 0
 unfolding firstFollow
 first-inline = refl
+
+first-counts : Counts 1 firstFollow
+unfolding firstFollow
+first-counts = record { counter = omega arith; ingredients = omega arith; cookware = omega arith; timers = omega arith }
 
 rest-first : {text bytes : List ℕ} → readSheet text bytes ≡ events (eventsOr (readSheet text bytes)) → Rest text bytes 0 1 (eventsOr (readSheet text bytes))
 unfolding readSheet
@@ -68,7 +74,8 @@ module _ (text : List ℕ) (units : List NamedUnit) (flags : ℕ) (bytes : List 
     pub rest : Rest text bytes at number es
     pub walking : Walking text units flags number st final es
     pub low : number ≤ at + 1
-    pub follows : FollowsFor p st f
+    pub follows : Seen p st f
+    pub counts : Counts number f
     pub put : Put (drawn p st) o₀ at₀ o n
 
   pub drawing-starts : {final : State} {o₀ : List ℕ} {at₀ n : ℕ} → readSheet text bytes ≡ events (eventsOr (readSheet text bytes))
@@ -81,14 +88,23 @@ module _ (text : List ℕ) (units : List NamedUnit) (flags : ℕ) (bytes : List 
         rest = rest-first c;
         walking = walking-first text units flags w;
         low = omega arith;
-        follows = follows-for p follows-first first-inline;
+        follows = seen-first (follows-for p follows-first first-inline);
+        counts = first-counts;
         put = text-is (drawn p firstState) (drawn-first p) q;
       }
 
   module _ {final : State} {o₀ : List ℕ} {at₀ at : ℕ} {f : Follow} {o : List ℕ} {n : ℕ} (d : Drawing final o₀ at₀ at f o n) where
     -- the small state has room for one line more
     pub drawing-room : at < 100000 → Room f
-    drawing-room h = room-for text units flags p (d .follows) (walking-room text units flags (d .walking) (record { is = refl }) (omega (arith, d .low)))
+    drawing-room h =
+        let c = d .counts in
+        record {
+          counter = omega (arith, c .counter, d .low);
+          ingredients = omega (arith, c .ingredients, d .low);
+          cookware = omega (arith, c .cookware, d .low);
+          timers = omega (arith, c .timers, d .low);
+          inline = omega (arith, d .follows .count, tracked-most p (followOf (d .st) .inline), inline-of (d .st), d .walking .inline);
+        }
 
     pub drawing-ends : length bytes ≤ at → Put (drawn p final) o₀ at₀ o n
     drawing-ends h =
@@ -114,17 +130,17 @@ module _ (text : List ℕ) (units : List NamedUnit) (flags : ℕ) (bytes : List 
       drawing-inline =
           omega (
             arith,
-            count-next text units flags p e (went .after) (went .event) (d .follows),
+            count-then text units flags p e (d .follows) (went .after) (went .event),
             tracked-most p (followOf (went .after) .inline),
             inline-of (went .after),
             went .then .inline,
           )
 
       -- the line is drawn
-      pub drawing-next : {g : Follow} {o′ : List ℕ} {n′ : ℕ} → at ≤ end → Put (added text units flags p e f) o n o′ n′
-          → g ≡ withInline (f .inline + tracked p (length (quantitiesAdded units flags e f))) (nextFollow flags e f) → Drawing final o₀ at₀ (end + 1) g o′ n′
+      pub drawing-next : {g : Follow} {o′ : List ℕ} {n′ : ℕ} → at ≤ end → Put (added text units flags p e f) o n o′ n′ → view p g ≡ view p (after units flags p e f)
+          → g .inline ≡ f .inline + tracked p (length (quantitiesAdded units flags e f)) → Counts (d .number + 1) g → Drawing final o₀ at₀ (end + 1) g o′ n′
       unfolding appended
-      drawing-next {g} {o′} {n′} h w z =
+      drawing-next {g} {o′} {n′} h w v z k′ =
           record {
             number = d .number + 1;
             st = went .after;
@@ -132,7 +148,8 @@ module _ (text : List ℕ) (units : List NamedUnit) (flags : ℕ) (bytes : List 
             rest = record { is = first .next };
             walking = went .then;
             low = omega (arith, d .low);
-            follows = follows-for-next text units flags p e (went .after) (went .event) (d .follows) z;
+            follows = seen-next text units flags p e (d .follows) (went .after) (went .event) v z;
+            counts = k′;
             put =
                 text-is (drawn p (went .after))
                 (drawn-next text units flags p e (d .st) (went .after) (went .event) ∙ ap (λ (x : List ℕ). drawn p (d .st) ++ x) (sym (added-follows text units flags p e (d .follows))))
@@ -190,7 +207,7 @@ module _ {sheet text units : List ℕ} {flags : ℕ} (i : PassInputs sheet text 
               short = omega (arith, g .inline, b .0, b .1, i .sheet-short, length-take (end - at) (drop at sheet));
             }
 
-        module _ {o″ : List ℕ} {t : Turn} (h : n ≤ length o) (w : LineTaken text us flags p line f (take (length o - n) (drop n o)) o″ t) where
+        module _ {o″ : List ℕ} {t : Turn} (h : n ≤ length o) (w : TurnTaken text us flags p line f (take (length o - n) (drop n o)) o″ t) where
           pub walked-fits : length o₀ + 1 < 2 ^ 64 → n + t .count < 2 ^ 64
           walked-fits b = rest-fits o n (omega (arith, d .same)) h (w .put (known .event) (known .is))
 
@@ -198,5 +215,5 @@ module _ {sheet text units : List ℕ} {flags : ℕ} (i : PassInputs sheet text 
           walked-next =
               record {
                 same = keeps (put-rest o n h (w .put (known .event) (known .is))) ∙ d .same;
-                by = λ final z. drawing-next text us flags sheet p (d .by final z) l q (known .is) (l .inside end q .0) (put-rest o n h (w .put (known .event) (known .is))) (w .follow (known .event) (known .is));
+                by = λ final z. drawing-next text us flags sheet p (d .by final z) l q (known .is) (l .inside end q .0) (put-rest o n h (w .put (known .event) (known .is))) (w .seen (known .event) (known .is)) (w .inline (known .event) (known .is)) (subst (λ (m : ℕ). Counts m (t .follow)) (sym (add-one (d .by final z .number))) (w .counts (d .by final z .counts)));
               }

@@ -1,4 +1,6 @@
 pub mod Tracked
 pub mod Lines
 pub mod Turns
+pub mod Seen
+pub mod Idle
 pub mod Drawing

@@ -1,17 +1,14 @@
 -- The small state of a walk that does not count inline quantities where its part does not depend on them.
 use Prim.Native.Nat.{ℕ, _+_, _≤_}
-use mathlib.Core.Path.{_≡_, refl, sym, ap, _∙_, subst}
+use mathlib.Core.Path.{_≡_, refl, sym, ap, _∙_}
 use mathlib.Core.List.{List}
 use mathlib.Core.Bool.{Bool}
 use native.Mathlib.Omega.{arith}
 use lib.ListN.{length}
-use Rattle.rules.specs.Basic.{pick}
 use Rattle.rules.specs.Event as rules
 use Rattle.rules.specs.Event.{Event, metaEvent, sectionEvent, startEvent, endEvent, textEvent, componentEvent, ComponentEvent, ingredientEvent, cookwareEvent, timerEvent, between, inside, parserEvent}
 use Rattle.rules.specs.Units.{NamedUnit}
 use Rattle.rules.specs.Model.{InlineQuantity}
-use Rattle.rules.specs.Modes as modes
-use Rattle.rules.specs.Modes.{hasModes, keyOf, keyText, config, unknownConfig, ordinary}
 use Rattle.rules.specs.State.{State, next}
 use Rattle.rules.specs.Pass.{onEvent}
 use Rattle.model.specs.declared.Open.{Open}
@@ -21,8 +18,8 @@ use Rattle.following.specs.declared.Meta.{Meta}
 use Rattle.following.specs.declared.Meta.the-variants.{Defines, Ordinary, Other}
 use Rattle.following.specs.declared.Part.{Part}
 use Rattle.following.specs.declared.Part.the-variants.{Sections, Timers, Inline, Old}
-use Rattle.following.specs.Drawn.{followOf, opensAs, timerAdds, timersAdd, quantitiesIn, quantitiesAdded, keyAdds, oldAdd, added}
-use Rattle.following.specs.Follow.{Follows, metaOf, metaFollow, sectionFollow, startFollow, closeFollow, counterAfter, countComponent, componentFollow, insideFollow, betweenFollow, nextFollow, withInline, Room}
+use Rattle.following.specs.Drawn.{followOf, opensAs, quantitiesIn, quantitiesAdded}
+use Rattle.following.specs.Follow.{Follows, metaOf, metaFollow, sectionFollow, startFollow, closeFollow, counterAfter, countComponent, componentFollow, insideFollow, betweenFollow, nextFollow, withInline}
 use Rattle.following.proofs.Betweens.{line-grows}
 use Rattle.following.proofs.Laws.{inline-next}
 use Rattle.part_lines.specs.Drawing.{tracked}
@@ -56,37 +53,6 @@ unfolding withInline
 inline-is x f = refl
 
 -- ---- what does not depend on the count
-
-timer-free : (x : ℕ) (c : ComponentEvent) (b : Open) (f : Follow) → timerAdds c b (withInline x f) ≡ timerAdds c b f
-unfolding timerAdds withInline
-timer-free x (ingredientEvent c i) b f = refl
-timer-free x (cookwareEvent c) b f = refl
-timer-free x (timerEvent s n q) block.Nothing f = refl
-timer-free x (timerEvent s n q) block.Step f = refl
-timer-free x (timerEvent s n q) block.Text f = refl
-timer-free x (timerEvent s n q) block.TextMode f = refl
-
-timers-free : (x : ℕ) (e : Event) (f : Follow) → timersAdd e (withInline x f) ≡ timersAdd e f
-unfolding timersAdd withInline
-timers-free x (between b) f = refl
-timers-free x (inside (endEvent k)) f = refl
-timers-free x (inside (textEvent t)) f = refl
-timers-free x (inside (componentEvent c)) f = timer-free x c (f .block) f
-timers-free x (parserEvent s n) f = refl
-
-key-free : (x : ℕ) (y : modes.Key) (k v : rules.Text) (f : Follow) → keyAdds y k v (withInline x f) ≡ keyAdds y k v f
-unfolding keyAdds withInline
-key-free x (config c) k v f = refl
-key-free x unknownConfig k v f = refl
-key-free x ordinary k v f = refl
-
-old-free : (flags x : ℕ) (e : Event) (f : Follow) → oldAdd flags e (withInline x f) ≡ oldAdd flags e f
-unfolding oldAdd
-old-free flags x (between (metaEvent k v)) f = key-free x (pick (hasModes flags) (keyOf (keyText k)) ordinary) k v f
-old-free flags x (between (sectionEvent n)) f = refl
-old-free flags x (between (startEvent k)) f = refl
-old-free flags x (inside i) f = refl
-old-free flags x (parserEvent s n) f = refl
 
 module _ (units : List NamedUnit) (flags : ℕ) where
   text-free : (x : ℕ) (t : rules.Text) (b : Open) (f : Follow) → quantitiesIn units flags t b (withInline x f) ≡ quantitiesIn units flags t b f
@@ -179,14 +145,6 @@ follows-for Timers {f} g z = record { is = sym (inline-same f) ∙ (ap (λ (n : 
 follows-for Inline g z = record { is = sym (inline-same _) ∙ ap (λ (x : Follow). withInline (x .inline) x) (g .is) }
 follows-for Old {f} g z = record { is = sym (inline-same f) ∙ (ap (λ (n : ℕ). withInline n f) z ∙ ap (withInline 0) (g .is)) }
 
--- what a line adds does not depend on what is not counted
-pub added-for : (text : List ℕ) (units : List NamedUnit) (flags : ℕ) (p : Part) (e : Event) (f : Follow) → added text units flags p e (withInline (tracked p (f .inline)) f) ≡ added text units flags p e f
-unfolding added tracked
-added-for text units flags Sections e f = ap (λ (x : Follow). added text units flags Sections e x) (inline-same f)
-added-for text units flags Timers e f = timers-free 0 e f
-added-for text units flags Inline e f = ap (λ (x : Follow). added text units flags Inline e x) (inline-same f)
-added-for text units flags Old e f = old-free flags 0 e f
-
 module _ (text : List ℕ) (units : List NamedUnit) (flags : ℕ) (p : Part) where
   module _ (e : Event) {st : State} (st' : State) {f : Follow} (q : onEvent text units flags e st ≡ next st') (g : FollowsFor p st f) where
     same-quantities : quantitiesAdded units flags e f ≡ quantitiesAdded units flags e (followOf st)
@@ -214,12 +172,3 @@ module _ (text : List ℕ) (units : List NamedUnit) (flags : ℕ) (p : Part) whe
               ∙ (sym (inline-again _ _ (nextFollow flags e (followOf st)))
               ∙ sym (ap (withInline (tracked p (followOf st' .inline))) (line-grows text units flags e st st' q .follow)))))));
         }
-
-  pub added-follows : (e : Event) {st : State} {f : Follow} → FollowsFor p st f → added text units flags p e f ≡ added text units flags p e (followOf st)
-  added-follows e {st} g = ap (added text units flags p e) (g .is) ∙ added-for text units flags p e (followOf st)
-
-  pub room-for : {st : State} {f : Follow} → FollowsFor p st f → Room (followOf st) → Room f
-  unfolding withInline
-  room-for {st} g r =
-      subst Room (sym (g .is))
-      (record { counter = r .counter; ingredients = r .ingredients; cookware = r .cookware; timers = r .timers; inline = omega (arith, r .inline, tracked-most p (followOf st .inline)) })

@@ -9,7 +9,7 @@ use Rattle.page_walk.proofs.draw_part.Reads as reads
 use Rattle.page_walk.proofs.draw_part.Lts as lts
 use Rattle.finding_lines.proofs.begin.Reads as begin-reads
 use Rattle.following.proofs.first_follow.Reads as first-follow-reads
-use Rattle.page_walk.proofs.part_line.Reads as part-line-reads
+use Rattle.page_walk.proofs.line_turn.Reads as line-turn-reads
 use Rattle.sheet.proofs.line_end.Reads as line-end-reads
 
 abbrev Inv-loop : tie.InvT-loop
@@ -59,36 +59,36 @@ returns-2 : tie.Need-returns-2 Inv-loop μ-loop
 returns-2 c = walked-cut (c .before .before .before .before .before .before .before .before .before .before .before .before .before .before .pre .1) (c .before .before .before .before .before .loop .inv) (c .before .before .line-end .ensures) (c .before .before .before .before .loop-test .taken) (c .enum-told .given .1)
 
 -- src/lib.rt:71:13
-sub-part-line : tie.Need-sub-part-line Inv-loop μ-loop
-sub-part-line c = search needs
+sub-line-turn : tie.Need-sub-line-turn Inv-loop μ-loop
+sub-line-turn c = search needs
 
 -- src/lib.rt:71:13
-part-part-line-start : tie.Need-part-part-line-start Inv-loop μ-loop
-part-part-line-start c = search needs
+part-line-turn-start : tie.Need-part-line-turn-start Inv-loop μ-loop
+part-line-turn-start c = search needs
 
 -- src/lib.rt:71:13
-part-part-line-end : tie.Need-part-part-line-end Inv-loop μ-loop
-part-part-line-end c = search needs
+part-line-turn-end : tie.Need-part-line-turn-end Inv-loop μ-loop
+part-line-turn-end c = search needs
 
 -- src/lib.rt:72:13
-sub-part-line-2 : tie.Need-sub-part-line-2 Inv-loop μ-loop
-sub-part-line-2 c = omega (arith, (c .before .before .before .before .line-end .ensures .inside _ (c .before .before .end .given .1)) .0, (c .before .before .before .before .line-end .ensures .inside _ (c .before .before .end .given .1)) .1)
+sub-line-turn-2 : tie.Need-sub-line-turn-2 Inv-loop μ-loop
+sub-line-turn-2 c = omega (arith, (c .before .before .before .before .line-end .ensures .inside _ (c .before .before .end .given .1)) .0, (c .before .before .before .before .line-end .ensures .inside _ (c .before .before .end .given .1)) .1)
 
 -- src/lib.rt:72:13
-part-part-line-start-2 : tie.Need-part-part-line-start-2 Inv-loop μ-loop
-part-part-line-start-2 c = omega (arith, (c .before .before .before .before .line-end .ensures .inside _ (c .before .before .end .given .1)) .0, (c .before .before .before .before .line-end .ensures .inside _ (c .before .before .end .given .1)) .1)
+part-line-turn-start-2 : tie.Need-part-line-turn-start-2 Inv-loop μ-loop
+part-line-turn-start-2 c = omega (arith, (c .before .before .before .before .line-end .ensures .inside _ (c .before .before .end .given .1)) .0, (c .before .before .before .before .line-end .ensures .inside _ (c .before .before .end .given .1)) .1)
 
 -- src/lib.rt:72:13
-part-part-line-end-2 : tie.Need-part-part-line-end-2 Inv-loop μ-loop
-part-part-line-end-2 c = omega (arith, (c .before .before .before .before .line-end .ensures .inside _ (c .before .before .end .given .1)) .0, (c .before .before .before .before .line-end .ensures .inside _ (c .before .before .end .given .1)) .1)
+part-line-turn-end-2 : tie.Need-part-line-turn-end-2 Inv-loop μ-loop
+part-line-turn-end-2 c = omega (arith, (c .before .before .before .before .line-end .ensures .inside _ (c .before .before .end .given .1)) .0, (c .before .before .before .before .line-end .ensures .inside _ (c .before .before .end .given .1)) .1)
 
 -- src/lib.rt:65:13
-part-line-requires : tie.Need-part-line-requires Inv-loop μ-loop
-part-line-requires c κs = (c .before .before .before .before .before .before .before .before .before .before .before .before .before .before .before .before .before .pre .0, c .before .before .before .before .before .before .before .before .before .before .before .before .before .before .before .before .before .pre .1 .text-utf8, c .before .before .before .before .before .before .before .before .before .before .before .before .before .before .before .before .before .pre .1 .units-some, walked-ready (c .before .before .before .before .before .before .before .before .before .before .before .before .before .before .before .before .before .pre .1) (c .before .before .before .before .before .before .before .before .loop .inv) (c .before .before .before .before .before .line-end .ensures) (c .before .before .before .end .given .1))
+line-turn-requires : tie.Need-line-turn-requires Inv-loop μ-loop
+line-turn-requires c κs = (c .before .before .before .before .before .before .before .before .before .before .before .before .before .before .before .before .before .pre .0, c .before .before .before .before .before .before .before .before .before .before .before .before .before .before .before .before .before .pre .1 .text-utf8, c .before .before .before .before .before .before .before .before .before .before .before .before .before .before .before .before .before .pre .1 .units-some, walked-ready (c .before .before .before .before .before .before .before .before .before .before .before .before .before .before .before .before .before .pre .1) (c .before .before .before .before .before .before .before .before .loop .inv) (c .before .before .before .before .before .line-end .ensures) (c .before .before .before .end .given .1))
 
 -- src/lib.rt:75:9
 add-n : tie.Need-add-n Inv-loop μ-loop
-add-n c = let b : length (c .before .before .before .before .before .before .before .before .before .before .before .before .before .before .before .before .before .before .before .before .before .args .out .now) + 1 < 2 ^ 64 = omega (arith, c .before .before .before .before .before .before .before .before .before .before .before .before .before .before .before .before .before .before .before .before .before .good .1 .1 .1 .1 .1 .1 .0 .1) in record { fits = walked-fits (c .before .before .before .before .before .before .before .before .before .before .before .before .before .before .before .before .before .before .before .before .before .pre .1) (c .before .before .before .before .before .before .before .before .before .before .before .before .loop .inv) (c .before .before .before .before .before .before .before .before .before .line-end .ensures) (c .before .before .before .before .before .before .before .end .given .1) (c .before .before .before .before .before .before .before .before .before .before .if1 .left) (c .before .before .before .part-line .ensures) b }
+add-n c = let b : length (c .before .before .before .before .before .before .before .before .before .before .before .before .before .before .before .before .before .before .before .before .before .args .out .now) + 1 < 2 ^ 64 = omega (arith, c .before .before .before .before .before .before .before .before .before .before .before .before .before .before .before .before .before .before .before .before .before .good .1 .1 .1 .1 .1 .1 .0 .1) in record { fits = walked-fits (c .before .before .before .before .before .before .before .before .before .before .before .before .before .before .before .before .before .before .before .before .before .pre .1) (c .before .before .before .before .before .before .before .before .before .before .before .before .loop .inv) (c .before .before .before .before .before .before .before .before .before .line-end .ensures) (c .before .before .before .before .before .before .before .end .given .1) (c .before .before .before .before .before .before .before .before .before .before .if1 .left) (c .before .before .before .line-turn .ensures) b }
 
 -- src/lib.rt:77:16
 add-from : tie.Need-add-from Inv-loop μ-loop
@@ -100,7 +100,7 @@ loop-less c = omega (arith, (c .before .before .before .before .before .before .
 
 -- src/lib.rt:58:5
 loop-again : tie.Need-loop-again Inv-loop μ-loop
-loop-again c = walked-next (c .before .before .before .before .before .before .before .before .before .before .before .before .before .before .before .before .before .before .before .before .before .before .pre .1) (c .before .before .before .before .before .before .before .before .before .before .before .before .before .loop .inv) (c .before .before .before .before .before .before .before .before .before .before .line-end .ensures) (c .before .before .before .before .before .before .before .before .end .given .1) (c .before .before .before .before .before .before .before .before .before .before .before .if1 .left) (c .before .before .before .before .part-line .ensures)
+loop-again c = walked-next (c .before .before .before .before .before .before .before .before .before .before .before .before .before .before .before .before .before .before .before .before .before .before .pre .1) (c .before .before .before .before .before .before .before .before .before .before .before .before .before .loop .inv) (c .before .before .before .before .before .before .before .before .before .before .line-end .ensures) (c .before .before .before .before .before .before .before .before .end .given .1) (c .before .before .before .before .before .before .before .before .before .before .before .if1 .left) (c .before .before .before .before .line-turn .ensures)
 
 -- src/lib.rt:42:1
 same-length-3 : tie.Need-same-length-3 Inv-loop μ-loop
@@ -126,13 +126,13 @@ draw-part-spec =
     enum-told
     same-length-2
     returns-2
-    sub-part-line
-    part-part-line-start
-    part-part-line-end
-    sub-part-line-2
-    part-part-line-start-2
-    part-part-line-end-2
-    part-line-requires
+    sub-line-turn
+    part-line-turn-start
+    part-line-turn-end
+    sub-line-turn-2
+    part-line-turn-start-2
+    part-line-turn-end-2
+    line-turn-requires
     add-n
     add-from
     loop-less
