@@ -1,4 +1,4 @@
-/* Recipe pages from Cooklang event sheets.
+/* Recipe pages and plain forms from Cooklang event sheets.
  *
  * Link with target/staticlib/librecipe.a (made by `rt staticlib recipe`; x86-64). The library allocates nothing, keeps
  * nothing between calls, calls nothing but memcpy, memmove and memset, and may be used from several threads at once as
@@ -40,6 +40,21 @@ uint64_t recipe_collect(const uint8_t *sheet, size_t sheet_length,
                         uint32_t *words, size_t words_length,
                         uint8_t *bytes, size_t bytes_length,
                         uint8_t *out, size_t out_length);
+
+/* Writes the plain form of a sheet to the front of `out`: an event sheet that yields the same recipe without modes. No
+ * `[mode]`, `[define]` or `[duplicate]` line that the flags heed is left in it, and every implicit reference is marked.
+ *
+ * The answer is like that of recipe_collect, with the form for the page: 0 and the form's length, which may be 0; or a
+ * refusal, one of recipe_collect's by the same number and line, or 21 to 24. 20 is the answer where the form is longer
+ * than `out`. Memory is left as there.
+ */
+uint64_t recipe_plain_form(const uint8_t *sheet, size_t sheet_length,
+                           const uint8_t *text, size_t text_length,
+                           const uint8_t *units, size_t units_length,
+                           uint32_t flags,
+                           uint32_t *words, size_t words_length,
+                           uint8_t *bytes, size_t bytes_length,
+                           uint8_t *out, size_t out_length);
 
 /* The two halves of an answer. */
 static inline uint32_t recipe_number(uint64_t answer) { return (uint32_t)(answer >> 32); }
