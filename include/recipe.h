@@ -41,12 +41,13 @@ uint64_t recipe_collect(const uint8_t *sheet, size_t sheet_length,
                         uint8_t *bytes, size_t bytes_length,
                         uint8_t *out, size_t out_length);
 
-/* Writes the plain form of a sheet to the front of `out`: an event sheet that yields the same recipe without modes. No
- * `[mode]`, `[define]` or `[duplicate]` line that the flags heed is left in it, and every implicit reference is marked.
+/* The plain form: the bytes of a sheet without modes and implicit references that yields the same recipe, written to the
+ * front of `out`. Collected with the same text, units and flags it is accepted, its page is the sheet's in all bytes above
+ * the findings, and its own plain form is itself. What is lent, the answer and what is left are as for recipe_collect.
  *
- * The answer is like that of recipe_collect, with the form for the page: 0 and the form's length, which may be 0; or a
- * refusal, one of recipe_collect's by the same number and line, or 21 to 24. 20 is the answer where the form is longer
- * than `out`. Memory is left as there.
+ * Beside the refusals 1 to 20: 21 the sheet has an `error` line (the first is told); 22 a component in a step in components
+ * mode; 23 an implicit reference that is not to the last component of its name without a reference mark; 24 the form is
+ * longer than 65,536 bytes, or passes a limit when it is collected. 21 to 24 come before 20.
  */
 uint64_t recipe_plain_form(const uint8_t *sheet, size_t sheet_length,
                            const uint8_t *text, size_t text_length,

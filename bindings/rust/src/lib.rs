@@ -81,7 +81,7 @@ impl Default for Memory {
     }
 }
 
-/// Why there is no page or form: docs/FINDINGS.md says what each number means. The line is one of the sheet, from 1, or 0.
+/// Why nothing was handed out: docs/FINDINGS.md says what each number means. The line is one of the sheet, from 1, or 0.
 #[derive(Clone, Copy, Debug, PartialEq, Eq)]
 pub struct Refusal {
     pub number: u32,
@@ -103,59 +103,6 @@ fn answer(code: u64, out: &[u8]) -> Result<&[u8], Refusal> {
         0 => Ok(&out[..code as u32 as usize]),
         number => Err(Refusal { number, line: code as u32 }),
     }
-}
-
-/// A function of include/recipe.h.
-type Function = unsafe extern "C" fn(
-    *const u8,
-    usize,
-    *const u8,
-    usize,
-    *const u8,
-    usize,
-    u32,
-    *mut u32,
-    usize,
-    *mut u8,
-    usize,
-    *mut u8,
-    usize,
-) -> u64;
-
-/// The sheet, its text and its units.
-type Inputs<'a> = [&'a [u8]; 3];
-
-/// Calls one of the two functions that read a sheet.
-fn call<'a>(
-    function: Function,
-    [sheet, text, units]: Inputs,
-    flags: u32,
-    words: &mut [u32],
-    bytes: &mut [u8],
-    out: &'a mut [u8],
-) -> Result<&'a [u8], Refusal> {
-    // before the pointers that are written through are made
-    let (words_length, bytes_length, out_length) = (words.len(), bytes.len(), out.len());
-    // SAFETY: each pointer is a slice's, so neither null nor misaligned, with its length; those that are written to are
-    // lent for this call alone; the library reads and writes within them only.
-    let code = unsafe {
-        function(
-            sheet.as_ptr(),
-            sheet.len(),
-            text.as_ptr(),
-            text.len(),
-            units.as_ptr(),
-            units.len(),
-            flags,
-            words.as_mut_ptr(),
-            words_length,
-            bytes.as_mut_ptr(),
-            bytes_length,
-            out.as_mut_ptr(),
-            out_length,
-        )
-    };
-    answer(code, out)
 }
 
 /// The recipe page, at the front of `out`; the rest of `out`, and `memory`, are zero then. After a refusal all is.
@@ -180,10 +127,34 @@ pub fn collect_in<'a>(
     bytes: &mut [u8],
     out: &'a mut [u8],
 ) -> Result<&'a [u8], Refusal> {
-    call(ffi::recipe_collect, [sheet, text, units], flags, words, bytes, out)
+    // before the pointers that are written through are made
+    let (words_length, bytes_length, out_length) = (words.len(), bytes.len(), out.len());
+    // SAFETY: each pointer is a slice's, so neither null nor misaligned, with its length; those that are written to are
+    // lent for this call alone; the library reads and writes within them only.
+    let code = unsafe {
+        ffi::recipe_collect(
+            sheet.as_ptr(),
+            sheet.len(),
+            text.as_ptr(),
+            text.len(),
+            units.as_ptr(),
+            units.len(),
+            flags,
+            words.as_mut_ptr(),
+            words_length,
+            bytes.as_mut_ptr(),
+            bytes_length,
+            out.as_mut_ptr(),
+            out_length,
+        )
+    };
+    answer(code, out)
 }
 
-/// The plain form of the sheet, at the front of `out`: a sheet of the same recipe, without modes. Else as [`collect`].
+/// The plain form of a sheet, at the front of `out`: a sheet without modes and implicit references that yields the same
+/// recipe. The rest of `out`, and `memory`, are zero then; after a refusal all is. Beside the refusals of [`collect`]: 21 an
+/// `error` line, 22 a component in components mode, 23 an implicit reference that cannot be made explicit, 24 a form past
+/// the limits.
 pub fn plain_form<'a>(
     sheet: &[u8],
     text: &[u8],
@@ -195,7 +166,7 @@ pub fn plain_form<'a>(
     plain_form_in(sheet, text, units, flags, &mut memory.words, &mut memory.bytes, out)
 }
 
-/// The same with work memory from anywhere, as for [`collect_in`].
+/// The same with work memory from anywhere, as [`collect_in`].
 pub fn plain_form_in<'a>(
     sheet: &[u8],
     text: &[u8],
@@ -205,5 +176,24 @@ pub fn plain_form_in<'a>(
     bytes: &mut [u8],
     out: &'a mut [u8],
 ) -> Result<&'a [u8], Refusal> {
-    call(ffi::recipe_plain_form, [sheet, text, units], flags, words, bytes, out)
+    let (words_length, bytes_length, out_length) = (words.len(), bytes.len(), out.len());
+    // SAFETY: as in `collect_in`.
+    let code = unsafe {
+        ffi::recipe_plain_form(
+            sheet.as_ptr(),
+            sheet.len(),
+            text.as_ptr(),
+            text.len(),
+            units.as_ptr(),
+            units.len(),
+            flags,
+            words.as_mut_ptr(),
+            words_length,
+            bytes.as_mut_ptr(),
+            bytes_length,
+            out.as_mut_ptr(),
+            out_length,
+        )
+    };
+    answer(code, out)
 }
