@@ -104,3 +104,32 @@ pub fn crowded(rng: &mut Rng) -> Case {
     sheet += &components(rng, n, &looked_for);
     Case { name: String::new(), room: ROOM, sheet: sheet.into_bytes(), text: text.into_bytes(), units: units.into_bytes(), flags: vec![b'0' + (if rng.chance(70) { 7 } else { rng.below(8) }) as u8] }
 }
+
+/// A sheet whose components, in text mode, stand for much of the text: its form may be many times as long.
+pub fn long_form(rng: &mut Rng) -> Case {
+    let letters = *rng.one(LETTERS);
+    let length = *rng.one(&[100, 600, 2500]);
+    let text: String = (0..length).map(|_| *rng.one(letters)).collect();
+    let ends: Vec<usize> = (0..=text.len()).filter(|&i| text.is_char_boundary(i)).collect();
+    let mut sheet = String::new();
+    let n = up_to_one(rng, &[10, 40, 100]);
+    for i in 0..n {
+        if i == 0 || rng.chance(10) {
+            let mode = *rng.one(&["text", "text", "text", "text", "all", "steps"]);
+            sheet += &format!("{}meta\t0\t0\t[mode]\t0\t0\t{mode}\nstart\tstep\n", if i == 0 { "" } else { "end\tstep\n" });
+        }
+        let (a, b) = (*rng.one(&ends), *rng.one(&ends));
+        let span = format!("{}\t{}", a.min(b), a.max(b));
+        sheet += &match rng.below(8) {
+            0 => format!("text\t{span}\tx\n"),
+            1 => "warning\t3\n".to_string(),
+            2 | 3 => format!("timer\t{span}\t-\t-\n"),
+            4 | 5 => format!("cookware\t{span}\t0\t0\tpot\t-\t-\t-\t.\t0\t0\n"),
+            _ => format!("ingredient\t{span}\t0\t0\tsalt\t-\t-\t-\t.\t0\t0\t-\n"),
+        };
+    }
+    if n > 0 {
+        sheet += "end\tstep\n";
+    }
+    Case { name: String::new(), room: ROOM, sheet: sheet.into_bytes(), text: text.into_bytes(), units: Vec::new(), flags: vec![b"1357"[rng.below(4)]] }
+}

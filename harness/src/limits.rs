@@ -12,6 +12,10 @@ pub const LIMITS: &[(&str, usize)] = &[
     ("form-bytes", 65536), ("form-findings", 1024), ("number", 65535),
 ];
 
+/// Limits of the plain form that the fixed list does not try; the first two are tried there as well.
+#[cfg(any(test, feature = "library"))]
+pub const FORM_LIMITS: &[(&str, usize)] = &[("form-bytes", 65536), ("form-findings", 1024), ("form-references", 65536), ("form-findings-end", 1024)];
+
 /// A sheet with `n` of what a limit counts.
 pub fn limit(name: &str, n: usize) -> Case {
     let mut c = Case { name: format!("{name}-{n}"), room: ROOM, flags: b"7".to_vec(), text: b"abcdefghij".to_vec(), units: b"kg\tmass\n".to_vec(), ..Case::default() };
@@ -54,9 +58,47 @@ pub fn limit(name: &str, n: usize) -> Case {
             "warning\t1\n".repeat(1000),
             in_step("ingredient\t0\t0\t0\t0\ta\t-\t-\t-\t+\t0\t0\t-\n", n - 1000)
         ),
+        "form-references" => {
+            // the removed line is shorter than the letters that are added
+            let line = "ingredient\t0\t0\t0\t0\ta\t-\t-\t-\t?\t0\t0\t-\n";
+            let step = in_step(line, 100);
+            let rest = n - (step.len() + 99) - 13;
+            format!("meta\t0\t1\t[duplicate]\t1\t2\tref\nsection\t0\t1\t{}\n{step}", "a".repeat(rest))
+        }
+        // as "form-findings", the last at the end
+        "form-findings-end" => format!(
+            "meta\t0\t1\t[mode]\t1\t2\tsteps\n{}{}meta\t0\t1\ta\t1\t2\tb\n",
+            "warning\t1\n".repeat(1000),
+            in_step("ingredient\t0\t0\t0\t0\ta\t-\t-\t-\t+\t0\t0\t-\n", n - 1001)
+        ),
         "number" => format!("warning\t{n}\n"),
         _ => unreachable!(),
     };
     c.sheet = sheet.into_bytes();
     c
+}
+
+#[cfg(test)]
+mod tests {
+    use super::*;
+    use crate::pass::collect;
+    use crate::plain::plain_form_of;
+
+    /// The length of the form and the number of its findings, or the number by which it is refused.
+    fn reached(c: &Case) -> Result<(usize, usize), u32> {
+        let collected = collect(&c.input()).map_err(|r| r.0)?;
+        assert!(c.sheet.len() < 65536 && collected.codes.iter().sum::<usize>() < 1024);
+        plain_form_of(&c.input(), &collected).map(|f| (f.form.len(), f.findings)).map_err(|r| r.0)
+    }
+
+    #[test]
+    fn only_the_form_passes_these() {
+        for (name, most) in FORM_LIMITS {
+            for n in [most - 1, *most] {
+                let (length, findings) = reached(&limit(name, n)).unwrap();
+                assert_eq!(if name.contains("findings") { findings } else { length }, n, "{name}");
+            }
+            assert_eq!(reached(&limit(name, most + 1)), Err(24), "{name}");
+        }
+    }
 }

@@ -1,7 +1,11 @@
+#[cfg(feature = "library")]
+mod calls;
 mod case;
 mod cases;
 #[cfg(feature = "library")]
 mod compare;
+#[cfg(feature = "library")]
+mod compare_counts;
 #[cfg(feature = "library")]
 mod crowded;
 mod fuzz;
@@ -99,16 +103,21 @@ fn compared(counts: compare::Counts, start: std::time::Instant) -> ! {
 
 #[cfg(feature = "library")]
 fn compare(words: &[&str]) -> Vec<u8> {
+    let (which, words) = match words {
+        ["pages", rest @ ..] => (compare::Which { pages: true, forms: false }, rest),
+        ["forms", rest @ ..] => (compare::Which { pages: false, forms: true }, rest),
+        _ => (compare::Which { pages: true, forms: true }, words),
+    };
     let start = std::time::Instant::now();
     let number = |w: &str| w.parse::<u64>().unwrap();
     match words {
         ["list"] => {
             let files = FILES.map(|f| answers().join(f).to_str().unwrap().to_string());
-            compared(compare::compare_files(&files.each_ref().map(|f| &f[..])), start)
+            compared(compare::compare_files(which, &files.each_ref().map(|f| &f[..])), start)
         }
-        ["file", files @ ..] => compared(compare::compare_files(files), start),
-        [n, seed] => compared(compare::compare(number(n) as usize, number(seed), 1), start),
-        [n, seed, threads] => compared(compare::compare(number(n) as usize, number(seed), number(threads) as usize), start),
+        ["file", files @ ..] => compared(compare::compare_files(which, files), start),
+        [n, seed] => compared(compare::compare(which, number(n) as usize, number(seed), 1), start),
+        [n, seed, threads] => compared(compare::compare(which, number(n) as usize, number(seed), number(threads) as usize), start),
         _ => usage(),
     }
 }
@@ -122,7 +131,8 @@ fn compare(_: &[&str]) -> Vec<u8> {
 fn usage() -> ! {
     eprintln!(
         "usage: harness [collect | plain | batch FILE | fuzz COUNT SEED | sample COUNT SEED | list | verify
-                | compare COUNT SEED [THREADS] | compare list | compare file FILE... | repeat rust|library TIMES ROOM]"
+                | compare [pages | forms] COUNT SEED [THREADS] | compare [pages | forms] list
+                | compare [pages | forms] file FILE... | repeat rust|library TIMES ROOM]"
     );
     std::process::exit(2)
 }

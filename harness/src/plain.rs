@@ -131,22 +131,36 @@ fn form_of(c: &Collected, flags: u32) -> Result<Vec<u8>, Refusal> {
     Ok(out)
 }
 
-/// The plain form or its refusal, with room enough. The claims about the form that can be seen by running are asserted.
-pub fn plain_form(input: &Input) -> Result<Vec<u8>, Refusal> {
-    let c = collect(input)?;
-    let form = form_of(&c, input.flags)?;
+/// A form that is handed out, and its own page with so many findings.
+#[cfg_attr(not(feature = "library"), allow(dead_code))]
+pub struct Formed {
+    pub form: Vec<u8>,
+    pub page: Vec<u8>,
+    pub findings: usize,
+}
+
+/// The plain form of what was collected, or its refusal, with room enough. The claims about the form that can be seen by
+/// running are asserted.
+pub fn plain_form_of(input: &Input, c: &Collected) -> Result<Formed, Refusal> {
+    let form = form_of(c, input.flags)?;
     let again = Input { sheet: &form, text: input.text, units: input.units, flags: input.flags };
     if form.len() > 65536 {
         return Err(Refusal(24, 0));
     }
-    match collect(&again) {
+    let (page, findings) = match collect(&again) {
         Err(Refusal(17, _)) => return Err(Refusal(24, 0)),
         Err(r) => panic!("the form is refused: {r:?}"),
         Ok(f) => {
             assert!(f.recipe.is_some(), "the form yields no recipe");
             assert_eq!(f.page[..f.above], c.page[..c.above], "the form yields another recipe");
             assert!(form_of(&f, input.flags) == Ok(form.clone()), "the form of the form is another");
+            (f.page, f.codes.iter().sum())
         }
-    }
-    Ok(form)
+    };
+    Ok(Formed { form, page, findings })
+}
+
+/// The plain form or its refusal, with room enough.
+pub fn plain_form(input: &Input) -> Result<Vec<u8>, Refusal> {
+    plain_form_of(input, &collect(input)?).map(|f| f.form)
 }
