@@ -2,7 +2,7 @@
 ghost use mathlib.Core.Path.{_≡_};
 ghost use Prim.Native.Nat.{_≤_};
 ghost use lib.ListN.{length};
-ghost use Rattle.rules.specs.Answer.{wordsNeeded, bytesNeeded};
+ghost use Rattle.rules.specs.Answer.{wordsNeeded, bytesNeeded, collectAnswer};
 ghost use Rattle.unicode.specs.Tables.{unicodeTables};
 ghost use Rattle.recipe.specs.Answers.{usedOf, answerCode, lengths, lentOf, pageOr20, Given, Answered, Collected, Coded, PrintedAt};
 use inputs::Inputs;
@@ -37,7 +37,7 @@ fn pass_and_write(
     out: &mut [u8],
 ) -> Answer
     requires { ⌜ Given (now t) (now sheet) (now text) (now units) flags (lengths (now words) bytes (now out)) ⌝ }
-    ensures { λ r. ⌜ Answered (now (sheet .entry)) (now (text .entry)) (now (units .entry)) flags (lengths (now (words .entry)) bytes (now (out .entry))) (now (out .exit)) r ⌝ }
+    ensures { λ r. ⌜ Answered (collectAnswer (now (sheet .entry)) (now (text .entry)) (now (units .entry)) flags (lengths (now (words .entry)) bytes (now (out .entry)))) (length (now (out .entry))) (now (out .exit)) r ⌝ }
 {
     match pass::run(t, sheet, text, units, flags, words) {
         Ran::Recipe(h) => {
@@ -64,7 +64,7 @@ fn collected(
     out: &mut [u8],
 ) -> Answer
     requires { ⌜ now t ≡ unicodeTables ⌝ }
-    ensures { λ r. ⌜ Answered (now (sheet .entry)) (now (text .entry)) (now (units .entry)) flags (lengths (now (words .entry)) bytes (now (out .entry))) (now (out .exit)) r ⌝ }
+    ensures { λ r. ⌜ Answered (collectAnswer (now (sheet .entry)) (now (text .entry)) (now (units .entry)) flags (lengths (now (words .entry)) bytes (now (out .entry)))) (length (now (out .entry))) (now (out .exit)) r ⌝ }
 {
     match inputs::check_inputs(sheet, text, units, flags, words.len(), bytes) {
         Inputs::Refused(n, l) => Answer::Refused(n, l),
@@ -155,7 +155,7 @@ pub extern "C" fn recipe_collect(
     bytes: &mut [u8],
     out: &mut [u8],
 ) -> u64
-    ensures { λ r. ⌜ Coded (now (sheet .entry)) (now (text .entry)) (now (units .entry)) flags (lentOf (now (words .entry)) (now (bytes .entry)) (now (out .entry))) (now (words .exit)) (now (bytes .exit)) (now (out .exit)) r ⌝ }
+    ensures { λ r. ⌜ Coded (collectAnswer (now (sheet .entry)) (now (text .entry)) (now (units .entry)) flags (lentOf (now (words .entry)) (now (bytes .entry)) (now (out .entry)))) (lentOf (now (words .entry)) (now (bytes .entry)) (now (out .entry))) (now (words .exit)) (now (bytes .exit)) (now (out .exit)) r ⌝ }
 {
     code(collect(sheet, text, units, flags, words, bytes, out))
 }
