@@ -1,4 +1,4 @@
-/* Recipe pages from Cooklang event sheets.
+/* Recipe pages and plain forms from Cooklang event sheets.
  *
  * Link with target/staticlib/librecipe.a (made by `rt staticlib recipe`; x86-64). The library allocates nothing, keeps
  * nothing between calls, calls nothing but memcpy, memmove and memset, and may be used from several threads at once as
@@ -40,6 +40,22 @@ uint64_t recipe_collect(const uint8_t *sheet, size_t sheet_length,
                         uint32_t *words, size_t words_length,
                         uint8_t *bytes, size_t bytes_length,
                         uint8_t *out, size_t out_length);
+
+/* The plain form: the bytes of a sheet without modes and implicit references that yields the same recipe, written to the
+ * front of `out`. Collected with the same text, units and flags it is accepted, its page is the sheet's in all bytes above
+ * the findings, and its own plain form is itself. What is lent, the answer and what is left are as for recipe_collect.
+ *
+ * Beside the refusals 1 to 20: 21 the sheet has an `error` line (the first is told); 22 a component in a step in components
+ * mode; 23 an implicit reference that is not to the last component of its name without a reference mark; 24 the form is
+ * longer than 65,536 bytes, or passes a limit when it is collected. 21 to 24 come before 20.
+ */
+uint64_t recipe_plain_form(const uint8_t *sheet, size_t sheet_length,
+                           const uint8_t *text, size_t text_length,
+                           const uint8_t *units, size_t units_length,
+                           uint32_t flags,
+                           uint32_t *words, size_t words_length,
+                           uint8_t *bytes, size_t bytes_length,
+                           uint8_t *out, size_t out_length);
 
 /* The two halves of an answer. */
 static inline uint32_t recipe_number(uint64_t answer) { return (uint32_t)(answer >> 32); }

@@ -1,4 +1,4 @@
-//! Recipe pages from Cooklang event sheets: a safe wrapper over the proved library `librecipe.a`.
+//! Recipe pages and plain forms from Cooklang event sheets: a safe wrapper over the proved library `librecipe.a`.
 //!
 //! ```no_run
 //! let mut memory = recipe::Memory::new();
@@ -17,6 +17,21 @@ mod ffi {
         pub fn recipe_words() -> usize;
         pub fn recipe_bytes() -> usize;
         pub fn recipe_collect(
+            sheet: *const u8,
+            sheet_length: usize,
+            text: *const u8,
+            text_length: usize,
+            units: *const u8,
+            units_length: usize,
+            flags: u32,
+            words: *mut u32,
+            words_length: usize,
+            bytes: *mut u8,
+            bytes_length: usize,
+            out: *mut u8,
+            out_length: usize,
+        ) -> u64;
+        pub fn recipe_plain_form(
             sheet: *const u8,
             sheet_length: usize,
             text: *const u8,
@@ -66,7 +81,7 @@ impl Default for Memory {
     }
 }
 
-/// Why nothing was collected: docs/FINDINGS.md says what each number means. The line is one of the sheet, from 1, or 0.
+/// Why nothing was handed out: docs/FINDINGS.md says what each number means. The line is one of the sheet, from 1, or 0.
 #[derive(Clone, Copy, Debug, PartialEq, Eq)]
 pub struct Refusal {
     pub number: u32,
@@ -118,6 +133,53 @@ pub fn collect_in<'a>(
     // lent for this call alone; the library reads and writes within them only.
     let code = unsafe {
         ffi::recipe_collect(
+            sheet.as_ptr(),
+            sheet.len(),
+            text.as_ptr(),
+            text.len(),
+            units.as_ptr(),
+            units.len(),
+            flags,
+            words.as_mut_ptr(),
+            words_length,
+            bytes.as_mut_ptr(),
+            bytes_length,
+            out.as_mut_ptr(),
+            out_length,
+        )
+    };
+    answer(code, out)
+}
+
+/// The plain form of a sheet, at the front of `out`: a sheet without modes and implicit references that yields the same
+/// recipe. The rest of `out`, and `memory`, are zero then; after a refusal all is. Beside the refusals of [`collect`]: 21 an
+/// `error` line, 22 a component in components mode, 23 an implicit reference that cannot be made explicit, 24 a form past
+/// the limits.
+pub fn plain_form<'a>(
+    sheet: &[u8],
+    text: &[u8],
+    units: &[u8],
+    flags: u32,
+    memory: &mut Memory,
+    out: &'a mut [u8],
+) -> Result<&'a [u8], Refusal> {
+    plain_form_in(sheet, text, units, flags, &mut memory.words, &mut memory.bytes, out)
+}
+
+/// The same with work memory from anywhere, as [`collect_in`].
+pub fn plain_form_in<'a>(
+    sheet: &[u8],
+    text: &[u8],
+    units: &[u8],
+    flags: u32,
+    words: &mut [u32],
+    bytes: &mut [u8],
+    out: &'a mut [u8],
+) -> Result<&'a [u8], Refusal> {
+    let (words_length, bytes_length, out_length) = (words.len(), bytes.len(), out.len());
+    // SAFETY: as in `collect_in`.
+    let code = unsafe {
+        ffi::recipe_plain_form(
             sheet.as_ptr(),
             sheet.len(),
             text.as_ptr(),

@@ -1,4 +1,6 @@
 pub mod Pages
 pub mod Passes
+pub mod Errors
+pub mod Forms
 pub mod Clears
 pub mod Prints
