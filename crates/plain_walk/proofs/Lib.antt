@@ -1,0 +1,12 @@
+pub mod Grown
+pub mod Added
+pub mod Marks
+pub mod Same
+pub mod Behinds
+pub mod Forming
+pub mod Faults
+pub mod FaultLines
+pub mod Becomes
+pub mod Writes
+pub mod Turns
+pub mod Results
