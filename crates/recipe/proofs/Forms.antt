@@ -8,16 +8,17 @@ use borrow.Author.Tests.{le-ltb, lt-ltb}
 use lib.Dec.{eqb, ltb}
 use lib.ListN.{length, take, drop}
 use lib.Seq.{take-at}
+use Rattle.rules.specs.Utf8.{isUtf8}
 use Rattle.rules.specs.Event.{Event}
 use Rattle.rules.specs.Units.{NamedUnit, readUnits}
 use Rattle.rules.specs.State.{Outcome, refusal, firstState, going}
-use Rattle.rules.specs.Pass.{parseEvents, ended}
+use Rattle.rules.specs.Pass.{parseEvents}
 use Rattle.rules.specs.Plain.{Traced, traceFrom, plainEvents, sheetOf}
-use Rattle.rules.specs.Answer as rules
-use Rattle.rules.specs.Answer.{declined, Lent, bytesNeeded, handOut, events, eventsOr, readSheet, unitsOr, collection, errorLine, gives17, unlessFaulty, formAnswer, formOf, plainOf, plainAnswer}
+use Rattle.rules.specs.Answer.{declined, Lent, bytesNeeded, events, eventsOr, readSheet, unitsOr, collection, errorLine, gives17, formAnswer, plainOf, plainAnswer}
 use Rattle.rules.proofs.Basics.{by-order}
 use Rattle.rules.proofs.Collected.{Begins, collected-is}
 use Rattle.rules.proofs.Kept.{form-reads}
+use Rattle.unicode.specs.Tables.{unicodeTables}
 use Rattle.output.specs.Put.{Put}
 use Rattle.output.proofs.Puts.{put-room, put-fit, put-fits}
 use Rattle.inputs.specs.Inputs.{InputsChecked, GoodInputs}
@@ -29,7 +30,9 @@ use Rattle.pass.specs.Walks.{RanRecipe, RanFailed, RanBy, RanAs}
 use Rattle.pass.specs.declared.Ran.{Ran}
 use Rattle.pass.specs.declared.Ran.the-variants as ran
 use Rattle.page.specs.Pages.{RecipeGiven}
-use Rattle.plain_walk.specs.Formed.{FormGiven, FormedAs, FormedTo}
+use Rattle.component_lines.proofs.Rooms.{limits-roomy}
+use Rattle.plain_walk.specs.Walk.{Collected, FormWritten}
+use Rattle.plain_walk.proofs.Results.{form-declined, form-answered, form-put}
 use Rattle.plain_walk.specs.declared.Formed.{Formed}
 use Rattle.plain_walk.specs.declared.Formed.the-variants.{Fault, Length}
 use Rattle.recipe.specs.declared.Answer.{Answer}
@@ -92,8 +95,21 @@ module _ {t sheet text units : List ℕ} {flags : ℕ} {w : List ℕ} {h : Held}
   abbrev form : List ℕ
   form = sheetOf (plainEvents text us flags ts)
 
-  pub lines-given : FormGiven t sheet text units flags w h
-  lines-given = record { tables = g .tables; inputs = g .inputs; ran = g .ran }
+  pub lines-given : (t ≡ unicodeTables) × (length sheet ≤ 65536) × (isUtf8 text ≡ true) × (readSheet text sheet ≡ events (eventsOr (readSheet text sheet)))
+      × Collected text us flags sheet w h
+  lines-given =
+      let k = g .ran .kept in
+      let c = limits-roomy sheet w h (k .limits) .0 in (
+        g .tables,
+        g .inputs .sheet-short,
+        g .inputs .text-utf8,
+        g .inputs .sheet-read,
+        record {
+          final = g .ran .state;
+          walked = g .ran .walked;
+          memory = record { memory = g .ran .memory; sound = k .sound; fit = k .fit; ingredients = c .ingredients; cookware = c .cookware };
+        },
+      )
 
   begins : Begins text units flags
   begins =
@@ -130,40 +146,38 @@ module _ {t sheet text units : List ℕ} {flags : ℕ} {w : List ℕ} {h : Held}
         collects = collected-is form text units flags begins (le-ltb 65536 (length form) s) (eventsOr (readSheet text form)) q;
       }
 
-  module _ {b₀ b : List ℕ} {f : Formed} (p : FormedTo sheet text units flags b₀ b f) where
-    told : FormedAs sheet text units flags b₀ b f
-    told = p .is (ended (g .ran .state)) (g .ran .is)
-
+  module _ {b₀ b : List ℕ} {f : Formed} (p : FormWritten text us flags sheet b₀ b f) where
     pub fault-told : {n l room : ℕ} (o : List ℕ) → length o ≡ room → f ≡ Fault n l → Answered (formGiven sheet text units flags room) room o (Refused n l)
-    unfolding FormedAs formGiven formOf
-    fault-told {n} {l} o e q =
-        let x : (a : rules.Answer) → unlessFaulty us flags a ts ≡ declined n l = rw q at told in
-        refused-as o e (x _)
+    unfolding formGiven
+    fault-told {n} {l} {room} o e q = refused-as o e (form-declined units room (rw q at p))
 
     module _ {n : ℕ} (q : f ≡ Length n) (k : length b₀ ≡ 65536) where
-      length-told : ((a : rules.Answer) → unlessFaulty us flags a ts ≡ a) × Put form b₀ 0 b n
-      unfolding FormedAs
-      length-told = rw q at told
+      put : Put form b₀ 0 b n
+      put = form-put (rw q at p)
+
+      no-fault : (room : ℕ) → formGiven sheet text units flags room ≡ formAnswer text units flags room form
+      unfolding formGiven
+      no-fault room = form-answered units room (rw q at p)
 
       long : 65536 < n → 65536 < length form
       long j =
-          by-order (length form) (length b₀) (λ s. let z : n ≡ 0 + length form = put-room (length-told .1) (omega arith) in omega arith) (λ s. omega arith)
+          by-order (length form) (length b₀) (λ s. let z : n ≡ 0 + length form = put-room put (omega arith) in omega arith) (λ s. omega arith)
 
       pub form-long : {room : ℕ} (o : List ℕ) → length o ≡ room → 65536 < n → Answered (formGiven sheet text units flags room) room o (Refused 24 0)
-      unfolding formGiven formOf formAnswer
-      form-long {room} o e j = refused-as o e (length-told .0 _ ∙ rw (lt-ltb 65536 (length form) (long j)))
+      unfolding formAnswer
+      form-long {room} o e j = refused-as o e (no-fault room ∙ rw (lt-ltb 65536 (length form) (long j)))
 
       module _ (j : n ≤ 65536) where
         room-enough : 0 + length form ≤ length b₀
-        room-enough = put-fit (length-told .1) (omega arith)
+        room-enough = put-fit put (omega arith)
 
         ends : n ≡ length form
-        ends = let z : n ≡ 0 + length form = put-room (length-told .1) room-enough in omega arith
+        ends = let z : n ≡ 0 + length form = put-room put room-enough in omega arith
 
         -- at the front of work memory stands the form
         front : (s : List ℕ) → take n (b ++ s) ≡ form
         front s =
-            let e : b ≡ form ++ drop (0 + length form) b₀ = put-fits (length-told .1) (omega arith) in
+            let e : b ≡ form ++ drop (0 + length form) b₀ = put-fits put (omega arith) in
             ap (λ (x : List ℕ). take n (x ++ s)) e ∙ ap (take n) (append-assoc form (drop (0 + length form) b₀) s)
             ∙ take-at form (drop (0 + length form) b₀ ++ s) n (sym ends)
 
@@ -177,9 +191,8 @@ module _ {t sheet text units : List ℕ} {flags : ℕ} {w : List ℕ} {h : Held}
 
         pub form-told : (s : List ℕ) {room : ℕ} {o : List ℕ} {r : Answer} → Answered (formAnswer text units flags room (take (n - 0) (b ++ s))) room o r
             → Answered (formGiven sheet text units flags room) room o r
-        unfolding formGiven formOf
         form-told s {room} d =
-            record { is = d .is ∙ ap (formAnswer text units flags room) (part s) ∙ sym (length-told .0 _); fits = d .fits; long = d .long }
+            record { is = d .is ∙ ap (formAnswer text units flags room) (part s) ∙ sym (no-fault room); fits = d .fits; long = d .long }
 
 -- ---- after the pass
 module _ {t sheet text units : List ℕ} {flags : ℕ} {m : Lent} (g : Given t sheet text units flags m) where
