@@ -1,6 +1,6 @@
 -- Demand 3 of the program: from the contract of `plain_form` and the rules' theorem `plain-form`.
 use Prim.Native.Nat.{ℕ, _≤_}
-use mathlib.Core.Path.{_≡_, refl, ap, sym, _∙_}
+use mathlib.Core.Path.{_≡_, refl, sym, subst, _∙_}
 use mathlib.Core.Bool.{Bool, true, false}
 use mathlib.Core.List.{List}
 use native.Mathlib.Omega.{arith}
@@ -27,7 +27,7 @@ not-answered q = absurd (let z : _≡_ {A = ℕ} 0 1 = cc in omega arith)
 same-bytes : {a b : List ℕ} → answered a ≡ answered b → a ≡ b
 same-bytes q = cc
 
-Lends : Bool → ℕ → rules.Answer → List ℕ → Type 0
+abbrev Lends : Bool → ℕ → rules.Answer → List ℕ → Type 0
 Lends s room x form = (s ≡ false) × (length form ≤ room) × (x ≡ answered form)
 
 lends : (s : Bool) (room : ℕ) (x : rules.Answer) (form : List ℕ) → pick s (declined 1 0) (fitted room x) ≡ answered form → Lends s room x form
@@ -36,14 +36,14 @@ lends true room x form q = not-answered q
 lends false room (declined n l) form q = not-answered q
 lends false room (answered bytes) form q =
     pick-either (λ (a : rules.Answer). a ≡ answered form → Lends false room (answered bytes) form) (leb (length bytes) room) _ _
-    (λ h k. let l : length bytes ≤ room = leb-true (length bytes) room h in (refl, rw (← same-bytes k) l, k)) (λ h k. not-answered k) q
+    (λ h k. let l : length bytes ≤ room = leb-true (length bytes) room h in (refl, subst (λ (x : List ℕ). length x ≤ room) (same-bytes k) l, k)) (λ h k. not-answered k) q
 
 gives : (s : Bool) (room : ℕ) (x : rules.Answer) (form : List ℕ) → Lends s room x form → pick s (declined 1 0) (fitted room x) ≡ answered form
 unfolding handOut
 gives s room x form h = rw (h .0, h .2, le-leb (length form) room (h .1))
 
 -- ---- the theorem
-module _ {sheet text units : List ℕ} {flags : ℕ} {m : Lent} {w b o : List ℕ} {r : Answer} (p : PlainFormed sheet text units flags m w b o r) where
+module _ (sheet text units : List ℕ) (flags : ℕ) (m : Lent) (w b o : List ℕ) (r : Answer) (p : PlainFormed sheet text units flags m w b o r) where
   rule : PlainForm sheet text units flags
   rule = rules-proofs.plain-form sheet text units flags
 

@@ -6,7 +6,7 @@ use mathlib.Core.List.{List, _++_, append-assoc}
 use native.Mathlib.Omega.{arith}
 use borrow.Author.Tests.{le-ltb, lt-ltb}
 use lib.Dec.{eqb, ltb}
-use lib.ListN.{length, take, drop}
+use lib.ListN.{length, take, drop, length-append}
 use lib.Seq.{take-at}
 use Rattle.rules.specs.Utf8.{isUtf8}
 use Rattle.rules.specs.Event.{Event}
@@ -20,7 +20,7 @@ use Rattle.rules.proofs.Collected.{Begins, collected-is}
 use Rattle.rules.proofs.Kept.{form-reads}
 use Rattle.unicode.specs.Tables.{unicodeTables}
 use Rattle.output.specs.Put.{Put}
-use Rattle.output.proofs.Puts.{put-room, put-fit, put-fits}
+use Rattle.output.proofs.Puts.{keeps, put-room, put-fit, put-fits}
 use Rattle.inputs.specs.Inputs.{InputsChecked, GoodInputs}
 use Rattle.inputs.specs.declared.Inputs.{Inputs}
 use Rattle.inputs.specs.declared.Inputs.the-variants as inputs
@@ -60,18 +60,18 @@ module _ {r : Ran} where
   unfolding tells17
   tells-refused q = rw q
 
-tells-gives : {text : List ℕ} {us : List NamedUnit} {flags : ℕ} {sheet : List ℕ} {es : List Event} {w : List ℕ} (a : Ran) → RanBy text us flags sheet es w a
+tells-gives : (text : List ℕ) (us : List NamedUnit) (flags : ℕ) (sheet : List ℕ) (es : List Event) (w : List ℕ) (a : Ran) → RanBy text us flags sheet es w a
     → tells17 a ≡ gives17 (parseEvents text us flags es)
 unfolding RanBy tells17 gives17
-tells-gives (ran.Recipe h) p = sym (ap gives17 (p .is))
-tells-gives ran.Failed p = sym (ap gives17 (p .is))
-tells-gives (ran.Refused n l) p = sym (ap gives17 p)
+tells-gives text us flags sheet es w (ran.Recipe h) p = sym (ap gives17 (p .is))
+tells-gives text us flags sheet es w ran.Failed p = sym (ap gives17 (p .is))
+tells-gives text us flags sheet es w (ran.Refused n l) p = sym (ap gives17 p)
 
 -- ---- a form that is not too long
 module _ {t form text units : List ℕ} {flags : ℕ} {m : Lent} (g : Given t form text units flags m) {w₀ w : List ℕ} {a : Ran}
     (p : RanAs (unitsOr (readUnits units)) flags form text (eventsOr (readSheet text form)) w₀ w a) {b : Bool} (e : b ≡ tells17 a) where
   again : (ltb 65536 (length form) || gives17 (collection form text units flags)) ≡ b
-  again = rw (le-ltb 65536 (length form) (g .inputs .sheet-short)) (ap gives17 (g .inputs .collects) ∙ sym (tells-gives a (p .is)) ∙ sym e)
+  again = rw (le-ltb 65536 (length form) (g .inputs .sheet-short)) (ap gives17 (g .inputs .collects) ∙ sym (tells-gives text (unitsOr (readUnits units)) flags form (eventsOr (readSheet text form)) w a (p .is)) ∙ sym e)
 
   pub form-over : {room : ℕ} (o : List ℕ) → length o ≡ room → b ≡ true → Answered (formAnswer text units flags room form) room o (Refused 24 0)
   unfolding formAnswer
@@ -184,8 +184,12 @@ module _ {t sheet text units : List ℕ} {flags : ℕ} {w : List ℕ} {h : Held}
         part : (s : List ℕ) → take (n - 0) (b ++ s) ≡ form
         part s = let e : n - 0 ≡ n = omega arith in ap (λ (x : ℕ). take x (b ++ s)) e ∙ front s
 
-        pub form-given : (s : List ℕ) {o : List ℕ} → Given t (take (n - 0) (b ++ s)) text units flags (lengths w bytesNeeded o)
-        form-given s {o} =
+        -- which lies in it
+        pub form-within : (s : List ℕ) → n ≤ length (b ++ s)
+        form-within s = omega (arith, length-append b s, keeps put)
+
+        pub form-given : (s o : List ℕ) → Given t (take (n - 0) (b ++ s)) text units flags (lengths w bytesNeeded o)
+        form-given s o =
             subst (λ (x : List ℕ). Given t x text units flags (lengths w bytesNeeded o)) (sym (part s))
             (record { tables = g .tables; inputs = form-good (omega (arith, ends)) })
 

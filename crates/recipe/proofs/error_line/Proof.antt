@@ -20,7 +20,7 @@ abbrev μ-loop : tie.MeasureT-loop
 
 -- src/lib.rt:119:5
 loop-holds : tie.Need-loop-holds Inv-loop μ-loop
-loop-holds c = ?
+loop-holds c = (seeking-starts (c .before .before .pre .1), c .before .before .pre .0)
 
 -- src/lib.rt:120:39
 line-end-requires : tie.Need-line-end-requires Inv-loop μ-loop
@@ -36,23 +36,23 @@ enum-told c = search needs
 
 -- src/lib.rt:121:13
 returns : tie.Need-returns Inv-loop μ-loop
-returns c = ?
+returns c = seeking-cut (c .before .before .before .before .loop .inv .0) (c .before .before .line-end .ensures) (c .before .before .before .loop-test .taken) (c .enum-told .given .1)
 
 -- src/lib.rt:123:40
 sub-event-of : tie.Need-sub-event-of Inv-loop μ-loop
-sub-event-of c = ?
+sub-event-of c = omega (arith, (c .before .before .before .line-end .ensures .inside _ (c .before .end .given .1)) .0, (c .before .before .before .line-end .ensures .inside _ (c .before .end .given .1)) .1)
 
 -- src/lib.rt:123:40
 part-event-of-start : tie.Need-part-event-of-start Inv-loop μ-loop
-part-event-of-start c = ?
+part-event-of-start c = omega (arith, (c .before .before .before .line-end .ensures .inside _ (c .before .end .given .1)) .0, (c .before .before .before .line-end .ensures .inside _ (c .before .end .given .1)) .1)
 
 -- src/lib.rt:123:40
 part-event-of-end : tie.Need-part-event-of-end Inv-loop μ-loop
-part-event-of-end c = ?
+part-event-of-end c = omega (arith, (c .before .before .before .line-end .ensures .inside _ (c .before .end .given .1)) .0, (c .before .before .before .line-end .ensures .inside _ (c .before .end .given .1)) .1)
 
 -- src/lib.rt:123:13
 event-of-requires : tie.Need-event-of-requires Inv-loop μ-loop
-event-of-requires c κs = ?
+event-of-requires c κs = lined-known (c .before .before .before .before .before .before .loop .inv .0 .rest) (c .before .before .before .before .line-end .ensures) (c .before .before .end .given .1)
 
 -- src/lib.rt:124:12
 is-error-requires : tie.Need-is-error-requires Inv-loop μ-loop
@@ -60,27 +60,27 @@ is-error-requires c κs = search needs
 
 -- src/lib.rt:125:13
 returns-2 : tie.Need-returns-2 Inv-loop μ-loop
-returns-2 c = ?
+returns-2 c = seeking-found (c .before .before .before .before .before .before .before .before .before .loop .inv .0) (c .before .before .before .before .before .before .before .line-end .ensures) (c .before .before .before .before .before .end .given .1) (c .before .before .event-of .ensures) (c .before .is-error .ensures) (c .if1 .taken)
 
 -- src/lib.rt:127:14
 add-at : tie.Need-add-at Inv-loop μ-loop
-add-at c = ?
+add-at c = search (needs, (c .before .before .before .before .before .before .before .line-end .ensures .inside _ (c .before .before .before .before .before .end .given .1)) .0, (c .before .before .before .before .before .before .before .line-end .ensures .inside _ (c .before .before .before .before .before .end .given .1)) .1)
 
 -- src/lib.rt:128:9
 add-number : tie.Need-add-number Inv-loop μ-loop
-add-number c = ?
+add-number c = omega (arith, c .before .before .before .before .before .before .before .before .before .loop .inv .0 .low, c .before .before .before .before .before .before .before .before .before .loop .inv .1, (c .before .before .before .before .before .before .before .line-end .ensures .inside _ (c .before .before .before .before .before .end .given .1)) .0, (c .before .before .before .before .before .before .before .line-end .ensures .inside _ (c .before .before .before .before .before .end .given .1)) .1)
 
 -- src/lib.rt:119:5
 loop-less : tie.Need-loop-less Inv-loop μ-loop
-loop-less c = ?
+loop-less c = omega (arith, (c .before .before .before .before .before .before .before .line-end .ensures .inside _ (c .before .before .before .before .before .end .given .1)) .0, (c .before .before .before .before .before .before .before .line-end .ensures .inside _ (c .before .before .before .before .before .end .given .1)) .1)
 
 -- src/lib.rt:119:5
 loop-again : tie.Need-loop-again Inv-loop μ-loop
-loop-again c = ?
+loop-again c = (seeking-on (c .before .before .before .before .before .before .before .before .before .loop .inv .0) (c .before .before .before .before .before .before .before .line-end .ensures) (c .before .before .before .before .before .end .given .1) (c .before .before .event-of .ensures) (c .before .is-error .ensures) (c .if1 .left), c .before .before .before .before .before .before .before .before .before .loop .inv .1)
 
 -- src/lib.rt:113:1
 returns-3 : tie.Need-returns-3 Inv-loop μ-loop
-returns-3 c = ?
+returns-3 c = seeking-ends (c .before .loop .inv .0) (c .loop-test .left)
 
 pub error-line-spec : {M : Type 1} → statement M
 error-line-spec =
