@@ -160,7 +160,8 @@ fn on_event(
     }
 }
 
-fn is_error(v: EventView) -> bool
+// Whether a line is an `error` line.
+pub fn is_error(v: EventView) -> bool
     ensures { λ r. ⌜ ErrorView v r ⌝ }
 {
     match v {

@@ -5,10 +5,11 @@ use mathlib.Core.List.{List, _++_}
 use native.Mathlib.Omega.{arith}
 use lib.ListN.{length, take, replicate, length-append, length-replicate}
 use lib.Seq.{take-at, length-take-le}
+use Rattle.rules.specs.Answer as rules
 use Rattle.rules.specs.Answer.{Lent, answered, outAfter, workAfter}
 use Rattle.recipe.specs.declared.Answer.{Answer}
 use Rattle.recipe.specs.declared.Answer.the-variants.{Page, Refused}
-use Rattle.recipe.specs.Answers.{answerOf, usedOf, codeOf, answerCode, Answered, Collected, Coded}
+use Rattle.recipe.specs.Answers.{answerOf, usedOf, codeOf, answerCode, Answered, AnswerLeft, Coded}
 
 -- ---- an answer's variants
 module _ {r : Answer} where
@@ -46,17 +47,17 @@ cleared-out o (Refused n l) h =
 cleared-long : (o : List ℕ) (k : ℕ) → k ≤ length o → length (take k o ++ replicate (length o - k) 0) ≡ length o
 cleared-long o k h = rw (length-append, length-take-le k o h, length-replicate) (omega arith)
 
-module _ {sheet text units : List ℕ} {flags : ℕ} {m : Lent} where
-  pub collect-done : {o₁ w b o : List ℕ} {nw nb k : ℕ} {r : Answer} → Answered sheet text units flags m o₁ r → nw ≡ m .words → w ≡ replicate nw 0
-      → nb ≡ m .bytes → b ≡ replicate (nb - 0) 0 → k ≡ usedOf r → o ≡ take k o₁ ++ replicate (length o₁ - k) 0 → Collected sheet text units flags m w b o r
+module _ {a : rules.Answer} {m : Lent} where
+  pub answer-left : {o₁ w b o : List ℕ} {nw nb k : ℕ} {r : Answer} → Answered a (m .room) o₁ r → nw ≡ m .words → w ≡ replicate nw 0
+      → nb ≡ m .bytes → b ≡ replicate (nb - 0) 0 → k ≡ usedOf r → o ≡ take k o₁ ++ replicate (length o₁ - k) 0 → AnswerLeft a m w b o r
   unfolding workAfter
-  collect-done {o₁} {w} {b} {o} {nw} {nb} {k} {r} a ew cw eb cb e c =
-      let f : usedOf r ≤ length o₁ = rw (a .room) (a .fits) in
+  answer-left {o₁} {w} {b} {o} {nw} {nb} {k} {r} d ew cw eb cb e c =
+      let f : usedOf r ≤ length o₁ = rw (d .long) (d .fits) in
       let q : o ≡ take (usedOf r) o₁ ++ replicate (length o₁ - usedOf r) 0 = rw e at c in
       record {
-        is = ap (answerOf r) q ∙ cleared-is o₁ r f ∙ a .is;
+        is = ap (answerOf r) q ∙ cleared-is o₁ r f ∙ d .is;
         fits = rw (q, cleared-long o₁ (usedOf r) f) f;
-        out = q ∙ cleared-out o₁ r f ∙ rw (a .room, a .is);
+        out = q ∙ cleared-out o₁ r f ∙ rw (d .long, d .is);
         words = cw ∙ rw ew;
         bytes = cb ∙ ap (λ (k : ℕ). replicate k 0) (let e : nb - 0 ≡ m .bytes = omega arith in e);
       }
@@ -67,7 +68,6 @@ unfolding answerCode usedOf codeOf answerOf
 code-is o (Page n) h = sym (length-take-le n o h)
 code-is o (Refused n l) h = refl
 
-pub coded : {sheet text units : List ℕ} {flags : ℕ} {m : Lent} {w b o : List ℕ} {r : Answer} {c : ℕ} → Collected sheet text units flags m w b o r
-    → c ≡ answerCode r → Coded sheet text units flags m w b o c
+pub coded : {a : rules.Answer} {m : Lent} {w b o : List ℕ} {r : Answer} {c : ℕ} → AnswerLeft a m w b o r → c ≡ answerCode r → Coded a m w b o c
 coded {o = o} {r = r} p e =
     record { is = e ∙ code-is o r (p .fits) ∙ ap codeOf (p .is); out = p .out; words = p .words; bytes = p .bytes }

@@ -22,15 +22,13 @@ use Rattle.pass.specs.declared.Ran.the-variants as ran
 use Rattle.page.specs.Pages.{RecipeGiven, RecipePut, FailedPut}
 use Rattle.recipe.specs.declared.Answer.{Answer}
 use Rattle.recipe.specs.declared.Answer.the-variants.{Refused}
-use Rattle.recipe.specs.Answers.{answerOf, usedOf, pageOr20, Given, Answered}
-use Rattle.recipe.proofs.Pages.{Handed, page-handed}
+use Rattle.recipe.specs.Answers.{pageOr20, Given, Answered}
+use Rattle.recipe.proofs.Pages.{refused-as, Handed, page-handed}
 
 -- ---- before the pass
 module _ {sheet text units : List ℕ} {flags : ℕ} (m : Lent) {a : Inputs} (p : InputsChecked sheet text units flags (m .words) (m .bytes) a) where
-  pub inputs-refused : {n l : ℕ} (o : List ℕ) → length o ≡ m .room → a ≡ inputs.Refused n l → Answered sheet text units flags m o (Refused n l)
-  unfolding answerOf usedOf
-  inputs-refused o e q =
-      record { is = sym (refused-collect sheet text units flags m (told-refused (rw q at p))); fits = omega arith; room = e }
+  pub inputs-refused : {n l : ℕ} (o : List ℕ) → length o ≡ m .room → a ≡ inputs.Refused n l → Answered (collectAnswer sheet text units flags m) (m .room) o (Refused n l)
+  inputs-refused o e q = refused-as o e (refused-collect sheet text units flags m (told-refused (rw q at p)))
 
   pub inputs-good : {t : List ℕ} → t ≡ unicodeTables → a ≡ inputs.Good → Given t sheet text units flags m
   inputs-good e q = record { tables = e; inputs = told-good (rw q at p) }
@@ -74,8 +72,8 @@ module _ {t sheet text units : List ℕ} {flags : ℕ} {m : Lent} (g : Given t s
   passed-on e = good-collect sheet text units flags m (g .inputs) ∙ ap (written (m .room)) e
 
   handed : {w o₀ o : List ℕ} {r : Answer} → length o₀ ≡ m .room → collectAnswer sheet text units flags m ≡ handOut (m .room) w
-      → Handed w o₀ o r → Answered sheet text units flags m o r
-  handed {w} {o₀} {o} {r} e q h = record { is = h .is ∙ ap (λ (k : ℕ). handOut k w) e ∙ sym q; fits = rw e at (h .fits); room = h .room ∙ e }
+      → Handed w o₀ o r → Answered (collectAnswer sheet text units flags m) (m .room) o r
+  handed {w} {o₀} {o} {r} e q h = record { is = h .is ∙ ap (λ (k : ℕ). handOut k w) e ∙ sym q; fits = rw e at (h .fits); long = h .long ∙ e }
 
   module _ {w₀ w : List ℕ} {a : Ran}
       (p : RanAs (unitsOr (readUnits units)) flags sheet text (eventsOr (readSheet text sheet)) w₀ w a) where
@@ -88,21 +86,21 @@ module _ {t sheet text units : List ℕ} {flags : ℕ} {m : Lent} (g : Given t s
     page-given e q = record { tables = g .tables; inputs = good-fewer (p .long ∙ e); ran = ran-recipe q }
 
     pub recipe-answered : {h : Held} {o₀ o : List ℕ} {n : ℕ} {r : Answer} → length o₀ ≡ m .room → a ≡ ran.Recipe h
-        → RecipePut sheet text units flags o₀ o n → r ≡ pageOr20 n (length o) → Answered sheet text units flags m o r
+        → RecipePut sheet text units flags o₀ o n → r ≡ pageOr20 n (length o) → Answered (collectAnswer sheet text units flags m) (m .room) o r
     unfolding written
     recipe-answered e q s k =
         let x = ran-recipe q in
         handed e (passed-on (x .is)) (page-handed (s .is (ended (x .state)) (x .is)) k)
 
     pub failed-answered : {o₀ o : List ℕ} {n : ℕ} {r : Answer} → length o₀ ≡ m .room → a ≡ ran.Failed
-        → FailedPut sheet text o₀ o n → r ≡ pageOr20 n (length o) → Answered sheet text units flags m o r
+        → FailedPut sheet text o₀ o n → r ≡ pageOr20 n (length o) → Answered (collectAnswer sheet text units flags m) (m .room) o r
     unfolding written RanBy
     failed-answered e q s k =
         let x : RanFailed text (unitsOr (readUnits units)) flags (eventsOr (readSheet text sheet)) = rw q at p .is in
         handed e (passed-on (x .is)) (page-handed (s .is (unitsOr (readUnits units)) flags (x .findings) (x .is)) k)
 
-    pub refused-answered : {n l : ℕ} (o : List ℕ) → length o ≡ m .room → a ≡ ran.Refused n l → Answered sheet text units flags m o (Refused n l)
-    unfolding written RanBy answerOf usedOf
+    pub refused-answered : {n l : ℕ} (o : List ℕ) → length o ≡ m .room → a ≡ ran.Refused n l → Answered (collectAnswer sheet text units flags m) (m .room) o (Refused n l)
+    unfolding written RanBy
     refused-answered {n} {l} o e q =
         let x : parseEvents text (unitsOr (readUnits units)) flags (eventsOr (readSheet text sheet)) ≡ refusal n l = rw q at p .is in
-        record { is = sym (passed-on x); fits = omega arith; room = e }
+        refused-as o e (passed-on x)

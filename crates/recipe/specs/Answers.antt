@@ -1,4 +1,4 @@
--- What an answer stands for, and what `collect` leaves in lent memory.
+-- What an answer stands for, and what `collect` and `plain_form` leave in lent memory.
 use Prim.Native.Nat.{ℕ, _+_, _*_, _≤_}
 use mathlib.Core.Path.{_≡_}
 use mathlib.Core.List.{List}
@@ -6,7 +6,7 @@ use lib.Dec.{leb}
 use lib.ListN.{length, take}
 use Rattle.rules.specs.Basic.{pick}
 use Rattle.rules.specs.Answer as rules
-use Rattle.rules.specs.Answer.{answered, declined, Lent, collectAnswer, outAfter, workAfter, printed}
+use Rattle.rules.specs.Answer.{answered, declined, Lent, collectAnswer, plainAnswer, outAfter, workAfter, printed}
 use Rattle.unicode.specs.Tables.{unicodeTables}
 use Rattle.inputs.specs.Inputs.{GoodInputs}
 use Rattle.recipe.specs.declared.Answer.{Answer}
@@ -50,31 +50,39 @@ pub record Given (t sheet text units : List ℕ) (flags : ℕ) (m : Lent) : Type
   pub tables : t ≡ unicodeTables
   pub inputs : GoodInputs sheet text units flags (m .words) (m .bytes)
 
--- the right answer, of an output that may hold anything past it
-pub record Answered (sheet text units : List ℕ) (flags : ℕ) (m : Lent) (out : List ℕ) (r : Answer) : Type 0 where
-  pub is : answerOf r out ≡ collectAnswer sheet text units flags m
-  pub fits : usedOf r ≤ m .room
-  pub room : length out ≡ m .room
+-- the answer a of the rules, of an output that may hold anything past it
+pub record Answered (a : rules.Answer) (room : ℕ) (out : List ℕ) (r : Answer) : Type 0 where
+  pub is : answerOf r out ≡ a
+  pub fits : usedOf r ≤ room
+  pub long : length out ≡ room
 
 -- ---- after
 
--- The answer of the rules; a page is as long as the answer says; every word and byte that was lent is as the rules say.
--- Ruled out: a program that answers a page rightly and leaves names of the recipe behind it in the output or in work
--- memory (`out`, `words`); one that refuses a sheet with too many ingredients by 20, because the output is short, where
+-- The answer a of the rules; a page or a form is as long as the answer says; every word and byte that was lent is as the
+-- rules say. Ruled out: a program that answers a page rightly and leaves names of the recipe behind it in the output or in
+-- work memory (`out`, `words`); one that refuses a sheet with too many ingredients by 20, because the output is short, where
 -- the rules refuse it by 17 (`is`).
-pub record Collected (sheet text units : List ℕ) (flags : ℕ) (m : Lent) (w b o : List ℕ) (r : Answer) : Type 0 where
-  pub is : answerOf r o ≡ collectAnswer sheet text units flags m
+pub record AnswerLeft (a : rules.Answer) (m : Lent) (w b o : List ℕ) (r : Answer) : Type 0 where
+  pub is : answerOf r o ≡ a
   pub fits : usedOf r ≤ length o
-  pub out : o ≡ outAfter (m .room) (collectAnswer sheet text units flags m)
+  pub out : o ≡ outAfter (m .room) a
   pub words : w ≡ workAfter (m .words)
   pub bytes : b ≡ workAfter (m .bytes)
 
 -- the same of the answer in one number
-pub record Coded (sheet text units : List ℕ) (flags : ℕ) (m : Lent) (w b o : List ℕ) (r : ℕ) : Type 0 where
-  pub is : r ≡ codeOf (collectAnswer sheet text units flags m)
-  pub out : o ≡ outAfter (m .room) (collectAnswer sheet text units flags m)
+pub record Coded (a : rules.Answer) (m : Lent) (w b o : List ℕ) (r : ℕ) : Type 0 where
+  pub is : r ≡ codeOf a
+  pub out : o ≡ outAfter (m .room) a
   pub words : w ≡ workAfter (m .words)
   pub bytes : b ≡ workAfter (m .bytes)
+
+-- what `collect` leaves
+abbrev pub Collected : List ℕ → List ℕ → List ℕ → ℕ → Lent → List ℕ → List ℕ → List ℕ → Answer → Type 0
+Collected sheet text units flags m w b o r = AnswerLeft (collectAnswer sheet text units flags m) m w b o r
+
+-- what `plain_form` leaves
+abbrev pub PlainFormed : List ℕ → List ℕ → List ℕ → ℕ → Lent → List ℕ → List ℕ → List ℕ → Answer → Type 0
+PlainFormed sheet text units flags m w b o r = AnswerLeft (plainAnswer sheet text units flags m) m w b o r
 
 -- what the programs print of an answer r in the output o₀: n bytes at the front of o
 pub record PrintedAt (r : Answer) (o₀ o : List ℕ) (n : ℕ) : Type 0 where

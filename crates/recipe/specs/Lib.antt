@@ -1,1 +1,3 @@
 pub mod Answers
+pub mod Forms
+pub mod Demand3

@@ -1,12 +1,17 @@
-// Recipe pages from event sheets: everything is lent, nothing is kept, and what was lent is zero again but for the page.
+// Recipe pages and plain forms from event sheets: everything is lent, nothing is kept, and what was lent is zero again but
+// for the page or the form.
 ghost use mathlib.Core.Path.{_≡_};
 ghost use Prim.Native.Nat.{_≤_};
 ghost use lib.ListN.{length};
-ghost use Rattle.rules.specs.Answer.{wordsNeeded, bytesNeeded};
+ghost use Rattle.rules.specs.Answer.{wordsNeeded, bytesNeeded, events, eventsOr, readSheet, collectAnswer, errorLine, formAnswer, plainAnswer};
 ghost use Rattle.unicode.specs.Tables.{unicodeTables};
-ghost use Rattle.recipe.specs.Answers.{usedOf, answerCode, lengths, lentOf, pageOr20, Given, Answered, Collected, Coded, PrintedAt};
+ghost use Rattle.page.specs.Pages.{RecipeGiven};
+ghost use Rattle.recipe.specs.Answers.{usedOf, answerCode, lengths, lentOf, pageOr20, Given, Answered, Collected, PlainFormed, Coded, PrintedAt};
+ghost use Rattle.recipe.specs.Forms.{tells17, formGiven};
 use inputs::Inputs;
+use model::Held;
 use pass::Ran;
+use plain_walk::Formed;
 
 pub enum Answer {
     // The page's length.
@@ -37,7 +42,7 @@ fn pass_and_write(
     out: &mut [u8],
 ) -> Answer
     requires { ⌜ Given (now t) (now sheet) (now text) (now units) flags (lengths (now words) bytes (now out)) ⌝ }
-    ensures { λ r. ⌜ Answered (now (sheet .entry)) (now (text .entry)) (now (units .entry)) flags (lengths (now (words .entry)) bytes (now (out .entry))) (now (out .exit)) r ⌝ }
+    ensures { λ r. ⌜ Answered (collectAnswer (now (sheet .entry)) (now (text .entry)) (now (units .entry)) flags (lengths (now (words .entry)) bytes (now (out .entry)))) (length (now (out .entry))) (now (out .exit)) r ⌝ }
 {
     match pass::run(t, sheet, text, units, flags, words) {
         Ran::Recipe(h) => {
@@ -64,7 +69,7 @@ fn collected(
     out: &mut [u8],
 ) -> Answer
     requires { ⌜ now t ≡ unicodeTables ⌝ }
-    ensures { λ r. ⌜ Answered (now (sheet .entry)) (now (text .entry)) (now (units .entry)) flags (lengths (now (words .entry)) bytes (now (out .entry))) (now (out .exit)) r ⌝ }
+    ensures { λ r. ⌜ Answered (collectAnswer (now (sheet .entry)) (now (text .entry)) (now (units .entry)) flags (lengths (now (words .entry)) bytes (now (out .entry)))) (length (now (out .entry))) (now (out .exit)) r ⌝ }
 {
     match inputs::check_inputs(sheet, text, units, flags, words.len(), bytes) {
         Inputs::Refused(n, l) => Answer::Refused(n, l),
@@ -101,6 +106,149 @@ pub fn collect(
     clearing::clear_from(out, used(r));
     r
 }
+
+// ---- the plain form
+
+// The number of the first `error` line; 0 where there is none.
+fn error_line(sheet: &[u8], text: &[u8]) -> u32
+    requires { ⌜ (length (now sheet) ≤ 65536) × (readSheet (now text) (now sheet) ≡ events (eventsOr (readSheet (now text) (now sheet)))) ⌝ }
+    ensures { λ r. ⌜ r ≡ errorLine 1 (eventsOr (readSheet (now (text .entry)) (now (sheet .entry)))) ⌝ }
+{
+    let mut at = 0;
+    let mut number: u32 = 1;
+    while at < sheet.len() {
+        let sheet::LineEnd::At(end) = sheet::line_end(sheet, at) else {
+            return 0;
+        };
+        let v = known_events::event_of(&sheet[at..end]);
+        if pass::is_error(v) {
+            return number;
+        }
+        at = end + 1;
+        number += 1;
+    }
+    0
+}
+
+// Whether a pass was refused by 17.
+fn tells_17(r: Ran) -> bool
+    ensures { λ b. ⌜ b ≡ tells17 r ⌝ }
+{
+    match r {
+        Ran::Recipe(h) => false,
+        Ran::Failed => false,
+        Ran::Refused(n, l) => n == 17,
+    }
+}
+
+// A form that is not too long: collected again, then copied to the output.
+fn give_form(
+    t: &[u32],
+    form: &[u8],
+    text: &[u8],
+    units: &[u8],
+    flags: u32,
+    words: &mut [u32],
+    out: &mut [u8],
+) -> Answer
+    requires { ⌜ Given (now t) (now form) (now text) (now units) flags (lengths (now words) bytesNeeded (now out)) ⌝ }
+    ensures { λ r. ⌜ Answered (formAnswer (now (text .entry)) (now (units .entry)) flags (length (now (out .entry))) (now (form .entry))) (length (now (out .entry))) (now (out .exit)) r ⌝ }
+{
+    if tells_17(pass::run(t, form, text, units, flags, words)) {
+        return Answer::Refused(24, 0);
+    }
+    let n = output::put_bytes(out, 0, form);
+    hand_out(n, out.len())
+}
+
+// The form of a sheet whose pass made a recipe, written to work memory first.
+fn write_form(
+    t: &[u32],
+    sheet: &[u8],
+    text: &[u8],
+    units: &[u8],
+    flags: u32,
+    words: &mut [u32],
+    h: Held,
+    bytes: &mut [u8],
+    out: &mut [u8],
+) -> Answer
+    requires { ⌜ RecipeGiven (now t) (now sheet) (now text) (now units) flags (now words) h × (65536 ≤ length (now bytes)) ⌝ }
+    ensures { λ r. ⌜ Answered (formGiven (now (sheet .entry)) (now (text .entry)) (now (units .entry)) flags (length (now (out .entry)))) (length (now (out .entry))) (now (out .exit)) r ⌝ }
+{
+    match plain_walk::plain_form_lines(t, sheet, text, units, flags, words, h, &mut bytes[0..65536]) {
+        Formed::Fault(n, l) => Answer::Refused(n, l),
+        Formed::Length(n) => {
+            if 65536 < n {
+                return Answer::Refused(24, 0);
+            }
+            give_form(t, &bytes[0..n], text, units, flags, words, out)
+        }
+    }
+}
+
+// The pass, then the form.
+fn pass_and_form(
+    t: &[u32],
+    sheet: &[u8],
+    text: &[u8],
+    units: &[u8],
+    flags: u32,
+    words: &mut [u32],
+    bytes: &mut [u8],
+    out: &mut [u8],
+) -> Answer
+    requires { ⌜ Given (now t) (now sheet) (now text) (now units) flags (lentOf (now words) (now bytes) (now out)) ⌝ }
+    ensures { λ r. ⌜ Answered (plainAnswer (now (sheet .entry)) (now (text .entry)) (now (units .entry)) flags (lentOf (now (words .entry)) (now (bytes .entry)) (now (out .entry)))) (length (now (out .entry))) (now (out .exit)) r ⌝ }
+{
+    match pass::run(t, sheet, text, units, flags, words) {
+        Ran::Recipe(h) => write_form(t, sheet, text, units, flags, words, h, bytes, out),
+        Ran::Failed => Answer::Refused(21, error_line(sheet, text)),
+        Ran::Refused(n, l) => Answer::Refused(n, l),
+    }
+}
+
+// The answer, with memory left as it comes.
+fn formed(
+    t: &[u32],
+    sheet: &[u8],
+    text: &[u8],
+    units: &[u8],
+    flags: u32,
+    words: &mut [u32],
+    bytes: &mut [u8],
+    out: &mut [u8],
+) -> Answer
+    requires { ⌜ now t ≡ unicodeTables ⌝ }
+    ensures { λ r. ⌜ Answered (plainAnswer (now (sheet .entry)) (now (text .entry)) (now (units .entry)) flags (lentOf (now (words .entry)) (now (bytes .entry)) (now (out .entry)))) (length (now (out .entry))) (now (out .exit)) r ⌝ }
+{
+    match inputs::check_inputs(sheet, text, units, flags, words.len(), bytes.len()) {
+        Inputs::Refused(n, l) => Answer::Refused(n, l),
+        Inputs::Good => pass_and_form(t, sheet, text, units, flags, words, bytes, out),
+    }
+}
+
+// The plain form of a sheet, with its text, its units and flags, at the front of `out`; or a refusal.
+pub fn plain_form(
+    sheet: &[u8],
+    text: &[u8],
+    units: &[u8],
+    flags: u32,
+    words: &mut [u32],
+    bytes: &mut [u8],
+    out: &mut [u8],
+) -> Answer
+    ensures { λ r. ⌜ PlainFormed (now (sheet .entry)) (now (text .entry)) (now (units .entry)) flags (lentOf (now (words .entry)) (now (bytes .entry)) (now (out .entry))) (now (words .exit)) (now (bytes .exit)) (now (out .exit)) r ⌝ }
+{
+    let t = unicode::unicode_tables();
+    let r = formed(&t, sheet, text, units, flags, words, bytes, out);
+    clearing::clear_words(words);
+    clearing::clear_from(bytes, 0);
+    clearing::clear_from(out, used(r));
+    r
+}
+
+// ---- printed
 
 // What the programs print of an answer, put at the front of the output: the page, which is there already, or the line of
 // the refusal.
@@ -155,7 +303,22 @@ pub extern "C" fn recipe_collect(
     bytes: &mut [u8],
     out: &mut [u8],
 ) -> u64
-    ensures { λ r. ⌜ Coded (now (sheet .entry)) (now (text .entry)) (now (units .entry)) flags (lentOf (now (words .entry)) (now (bytes .entry)) (now (out .entry))) (now (words .exit)) (now (bytes .exit)) (now (out .exit)) r ⌝ }
+    ensures { λ r. ⌜ Coded (collectAnswer (now (sheet .entry)) (now (text .entry)) (now (units .entry)) flags (lentOf (now (words .entry)) (now (bytes .entry)) (now (out .entry)))) (lentOf (now (words .entry)) (now (bytes .entry)) (now (out .entry))) (now (words .exit)) (now (bytes .exit)) (now (out .exit)) r ⌝ }
 {
     code(collect(sheet, text, units, flags, words, bytes, out))
+}
+
+#[no_mangle]
+pub extern "C" fn recipe_plain_form(
+    sheet: &[u8],
+    text: &[u8],
+    units: &[u8],
+    flags: u32,
+    words: &mut [u32],
+    bytes: &mut [u8],
+    out: &mut [u8],
+) -> u64
+    ensures { λ r. ⌜ Coded (plainAnswer (now (sheet .entry)) (now (text .entry)) (now (units .entry)) flags (lentOf (now (words .entry)) (now (bytes .entry)) (now (out .entry)))) (lentOf (now (words .entry)) (now (bytes .entry)) (now (out .entry))) (now (words .exit)) (now (bytes .exit)) (now (out .exit)) r ⌝ }
+{
+    code(plain_form(sheet, text, units, flags, words, bytes, out))
 }

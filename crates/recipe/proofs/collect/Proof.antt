@@ -1,7 +1,7 @@
 use borrow.Author.Needs.{needs}
 use native.Mathlib.Omega.{arith}
 use mathlib.Core.Path.{refl}
-use Rattle.recipe.proofs.Clears.{collect-done}
+use Rattle.recipe.proofs.Clears.{answer-left}
 use Rattle.recipe.proofs.collect.Statement.{statement}
 use Rattle.recipe.proofs.collect.Tie as tie
 use Rattle.recipe.proofs.collect.Reads as reads
@@ -54,7 +54,7 @@ same-length-3 c = search needs
 
 -- src/lib.rt:86:1
 returns : tie.Need-returns
-returns c = collect-done (c .before .before .before .before .before .before .before .before .before .before .before .before .before .before .before .before .before .collected .ensures) (c .before .before .before .before .before .before .before .before .before .before .before .before .before .before .before .before .before .collected .kept .1 .1 .1 .1 .1 .0) (c .before .before .before .before .before .before .before .before .before .before .before .clear-words .ensures) refl (c .before .before .before .before .before .before .before .clear-from .ensures) (c .before .before .before .used .ensures) (c .before .before .clear-from2 .ensures)
+returns c = answer-left (c .before .before .before .before .before .before .before .before .before .before .before .before .before .before .before .before .before .collected .ensures) (c .before .before .before .before .before .before .before .before .before .before .before .before .before .before .before .before .before .collected .kept .1 .1 .1 .1 .1 .0) (c .before .before .before .before .before .before .before .before .before .before .before .clear-words .ensures) refl (c .before .before .before .before .before .before .before .clear-from .ensures) (c .before .before .before .used .ensures) (c .before .before .clear-from2 .ensures)
 
 pub collect-spec : {M : Type 1} → statement M
 collect-spec =

@@ -2,14 +2,14 @@ use borrow.Author.Needs.{needs}
 use native.Mathlib.Omega.{arith}
 use mathlib.Core.Path.{sym}
 use lib.Seq.{length-take-le}
-use Rattle.collect.proofs.print_page.Statement.{statement}
-use Rattle.collect.proofs.print_page.Tie as tie
-use Rattle.collect.proofs.print_page.Reads as reads
-use Rattle.collect.proofs.print_page.Lts as lts
-use Rattle.collect.proofs.answer.Reads as answer-reads
-use Rattle.collect.proofs.out_room.Reads as out-room-reads
-use Rattle.collect.proofs.text_room.Reads as text-room-reads
-use Rattle.collect.proofs.words_room.Reads as words-room-reads
+use Rattle.program.proofs.print_answer.Statement.{statement}
+use Rattle.program.proofs.print_answer.Tie as tie
+use Rattle.program.proofs.print_answer.Reads as reads
+use Rattle.program.proofs.print_answer.Lts as lts
+use Rattle.program.proofs.answer.Reads as answer-reads
+use Rattle.program.proofs.out_room.Reads as out-room-reads
+use Rattle.program.proofs.text_room.Reads as text-room-reads
+use Rattle.program.proofs.words_room.Reads as words-room-reads
 use Rattle.io.proofs.write_all.Reads as write-all-reads
 use Rattle.os.proofs.fail.Reads as fail-reads
 
@@ -69,8 +69,8 @@ returns c = search needs
 returns-2 : tie.Need-returns-2
 returns-2 c = search needs
 
-pub print-page-spec : {M : Type 1} → statement M
-print-page-spec =
+pub print-answer-spec : {M : Type 1} → statement M
+print-answer-spec =
     tie.close
     (tie.spec
     words-room-requires

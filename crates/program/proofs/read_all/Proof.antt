@@ -3,10 +3,10 @@ use native.Mathlib.Omega.{arith}
 use mathlib.Core.Path.{_≡_}
 use Prim.Native.Nat.{_-_, _≤_}
 use lib.ListN.{length}
-use Rattle.collect.proofs.read_all.Statement.{statement}
-use Rattle.collect.proofs.read_all.Tie as tie
-use Rattle.collect.proofs.read_all.Reads as reads
-use Rattle.collect.proofs.read_all.Lts as lts
+use Rattle.program.proofs.read_all.Statement.{statement}
+use Rattle.program.proofs.read_all.Tie as tie
+use Rattle.program.proofs.read_all.Reads as reads
+use Rattle.program.proofs.read_all.Lts as lts
 use Rattle.io.proofs.count.Reads as count-reads
 use Rattle.libc.proofs.read.Reads as read-reads
 
