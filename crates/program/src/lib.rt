@@ -67,7 +67,16 @@ fn print_answer(plain: bool, sheet: &[u8], text: &[u8], units: &[u8], flags: u32
     let mut words = words_room();
     let mut bytes = text_room();
     let mut out = out_room();
-    let n = answer(plain, sheet, text, units, flags, &mut words, &mut bytes, &mut out);
+    let n = answer(
+        plain,
+        sheet,
+        text,
+        units,
+        flags,
+        &mut words,
+        &mut bytes,
+        &mut out,
+    );
     if !io::write_all(STDOUT_FILENO, &out[..n]) {
         os::fail(b"standard output");
     }

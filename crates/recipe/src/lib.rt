@@ -176,11 +176,20 @@ fn write_form(
     requires { ⌜ RecipeGiven (now t) (now sheet) (now text) (now units) flags (now words) h × (65536 ≤ length (now bytes)) ⌝ }
     ensures { λ r. ⌜ Answered (formGiven (now (sheet .entry)) (now (text .entry)) (now (units .entry)) flags (length (now (out .entry)))) (length (now (out .entry))) (now (out .exit)) r ⌝ }
 {
-    match plain_walk::plain_form_lines(t, sheet, text, units, flags, words, h, &mut bytes[0..65536]) {
+    match plain_walk::plain_form_lines(
+        t,
+        sheet,
+        text,
+        units,
+        flags,
+        words,
+        h,
+        &mut bytes[0..65536],
+    ) {
         Formed::Fault(n, l) => Answer::Refused(n, l),
         Formed::Length(n) => {
             if 65536 < n {
-                return Answer::Refused(24, 0);
+                return Answer::Refused(24u32, 0);
             }
             give_form(t, &bytes[0..n], text, units, flags, words, out)
         }
@@ -204,7 +213,7 @@ fn pass_and_form(
     match pass::run(t, sheet, text, units, flags, words) {
         Ran::Recipe(h) => write_form(t, sheet, text, units, flags, words, h, bytes, out),
         Ran::Failed => Answer::Refused(21, error_line(sheet, text)),
-        Ran::Refused(n, l) => Answer::Refused(n, l),
+        Ran::Refused(k, l) => Answer::Refused(k, l),
     }
 }
 
@@ -241,11 +250,11 @@ pub fn plain_form(
     ensures { λ r. ⌜ PlainFormed (now (sheet .entry)) (now (text .entry)) (now (units .entry)) flags (lentOf (now (words .entry)) (now (bytes .entry)) (now (out .entry))) (now (words .exit)) (now (bytes .exit)) (now (out .exit)) r ⌝ }
 {
     let t = unicode::unicode_tables();
-    let r = formed(&t, sheet, text, units, flags, words, bytes, out);
+    let f = formed(&t, sheet, text, units, flags, words, bytes, out);
     clearing::clear_words(words);
-    clearing::clear_from(bytes, 0);
-    clearing::clear_from(out, used(r));
-    r
+    clearing::clear_from(bytes, 0usize);
+    clearing::clear_from(out, used(f));
+    f
 }
 
 // ---- printed

@@ -26,8 +26,8 @@ enum-told c = search needs
 error-line-requires : tie.Need-error-line-requires
 error-line-requires c κs = (c .before .before .before .before .before .before .before .before .before .before .before .before .before .pre .inputs .sheet-short, c .before .before .before .before .before .before .before .before .before .before .before .before .before .pre .inputs .sheet-read)
 
-enum-known-n : tie.Need-enum-known-n
-enum-known-n c = search needs
+enum-known-k : tie.Need-enum-known-k
+enum-known-k c = search needs
 
 same-length : tie.Need-same-length
 same-length c = search needs
@@ -51,7 +51,7 @@ same-length-5 : tie.Need-same-length-5
 same-length-5 c = search needs
 
 returns-3 : tie.Need-returns-3
-returns-3 c = refused-formed (c .before .before .before .before .before .before .before .before .before .before .before .before .before .before .pre) (c .before .before .before .before .before .run .ensures) _ refl (c .before .n .given .1)
+returns-3 c = refused-formed (c .before .before .before .before .before .before .before .before .before .before .before .before .before .before .pre) (c .before .before .before .before .before .run .ensures) _ refl (c .before .k .given .1)
 
 pub pass-and-form-spec : {M : Type 1} → statement M
 pass-and-form-spec =
@@ -62,7 +62,7 @@ pass-and-form-spec =
     write-form-requires
     enum-told
     error-line-requires
-    enum-known-n
+    enum-known-k
     same-length
     same-length-2
     same-length-3
