@@ -1,21 +1,17 @@
 -- A line of the sheet that begins with no m is no `meta` line: the map stays.
-use Prim.Native.Nat.{ℕ, zero, suc, _+_, _-_, _≤_}
+use Prim.Native.Nat.{ℕ, zero, suc, _-_}
 use mathlib.Core.Path.{_≡_, refl, ap, sym, _∙_}
 use mathlib.Core.List.{List, [], _∷_}
-use mathlib.Core.Option.{some}
 use native.Mathlib.Omega.{arith}
-use lib.ListN.{length, getD, take, drop}
+use lib.ListN.{getD, take, drop}
 use Rattle.rules.specs.Basic.{lf}
-use Rattle.rules.specs.Words.{severe, mild}
 use Rattle.rules.specs.Event.{Event, metaEvent, sectionEvent, startEvent, between, inside, parserEvent}
-use Rattle.rules.specs.Read.{parseLine}
 use Rattle.rules.specs.Model.{MetaEntry}
 use Rattle.rules.proofs.Basics.{some-inj}
 use Rattle.rules.proofs.Fields.{Without}
 use Rattle.events.specs.declared.EventView.{EventView}
-use Rattle.events.specs.Views.{eventIn}
 use Rattle.known_events.specs.Known.{KnownEvent}
-use Rattle.finding_lines.proofs.Firsts.{firstByte, Begins, line-begins}
+use Rattle.finding_lines.proofs.Firsts.{firstByte, line-begins}
 use Rattle.meta_map.specs.Index.{partAt, mapIn, Indexed}
 use Rattle.meta_map.specs.Maps.{mapOn, EventIndexed, LineIndexed}
 

@@ -8,19 +8,18 @@ use native.Mathlib.Omega.{arith}
 use borrow.Author.Tests.{eq-eqb, ne-eqb}
 use lib.Dec.{eqb}
 use lib.ListN.{length, getD}
-use Rattle.rules.specs.Basic.{lf, pick}
+use Rattle.rules.specs.Basic.{lf}
 use Rattle.rules.specs.Words.{severe, mild}
 use Rattle.rules.specs.Event.{Event, metaEvent, sectionEvent, startEvent, endEvent, textEvent, componentEvent, ComponentEvent, ingredientEvent, cookwareEvent, timerEvent, between, inside, parserEvent}
 use Rattle.rules.specs.Units.{NamedUnit}
 use Rattle.rules.specs.Read.{parseLine}
 use Rattle.rules.proofs.Basics.{no-truth}
 use Rattle.rules.proofs.Fields.{Without}
-use Rattle.output.specs.Put.{Put}
 use Rattle.output.proofs.Texts.{text-is}
 use Rattle.model.specs.declared.Open.{Open}
 use Rattle.model.specs.declared.Open.the-variants as block
 use Rattle.finding_lines.proofs.Texts.{place-in}
-use Rattle.finding_lines.proofs.Firsts.{firstByte, secondByte, Begins, line-begins}
+use Rattle.finding_lines.proofs.Firsts.{firstByte, secondByte, line-begins}
 use Rattle.following.specs.declared.Follow.{Follow}
 use Rattle.following.specs.declared.Part.{Part}
 use Rattle.following.specs.declared.Part.the-variants.{Sections, Timers, Inline, Old}
@@ -30,7 +29,7 @@ use Rattle.following.proofs.Walking.{Counts, counts-more, next-counts}
 use Rattle.part_lines.specs.Drawing.{tracked}
 use Rattle.page_walk.specs.declared.Turn.{Turn}
 use Rattle.page_walk.specs.Walk.{view, isAside, isIdleBy, isIdle, LineTaken, TurnTaken}
-use Rattle.page_walk.proofs.Seen.{inline-still, old-still, after}
+use Rattle.page_walk.proofs.Seen.{inline-still, old-still}
 
 -- ---- the tests
 

@@ -20,7 +20,7 @@ use Rattle.following.specs.declared.Meta.{Meta}
 use Rattle.following.specs.declared.Meta.the-variants.{Defines, Ordinary, Other}
 use Rattle.following.specs.declared.Part.{Part}
 use Rattle.following.specs.declared.Part.the-variants.{Sections, Timers, Inline, Old}
-use Rattle.following.specs.Drawn.{followOf, opensAs, timerAdds, timersAdd, unlessComponents, inlineAdds, inlineAdd, quantitiesIn, quantitiesAdded, keyAdds, oldAdd, added}
+use Rattle.following.specs.Drawn.{followOf, timerAdds, timersAdd, unlessComponents, inlineAdds, inlineAdd, quantitiesIn, quantitiesAdded, keyAdds, oldAdd, added}
 use Rattle.following.specs.Follow.{metaOf, metaFollow, sectionFollow, startFollow, closeFollow, countComponent, componentFollow, insideFollow, betweenFollow, nextFollow, withInline}
 use Rattle.part_lines.specs.Drawing.{tracked}
 use Rattle.page_walk.specs.Walk.{view}
