@@ -3,20 +3,16 @@ use Prim.Native.Nat.{ℕ}
 use mathlib.Core.Path.{_≡_, ap, _∙_}
 use mathlib.Core.Bool.{Bool, true, false}
 use mathlib.Core.List.{List}
-use Rattle.rules.specs.Answer as rules
 use Rattle.rules.specs.Answer.{Lent, printed}
 use Rattle.recipe.specs.declared.Answer.{Answer}
-use Rattle.recipe.specs.Answers.{AnswerLeft, Collected, PlainFormed, PrintedAt}
+use Rattle.recipe.specs.Answers.{Collected, PlainFormed, PrintedAt}
 use Rattle.program.specs.Prints.{answerFor, AnswerPrinted}
 
-answer-printed : {a : rules.Answer} {m : Lent} {w b o₀ o : List ℕ} {r : Answer} {n : ℕ} → AnswerLeft a m w b o₀ r → PrintedAt r o₀ o n → AnswerPrinted a o n
-answer-printed c p = record { is = p .is ∙ ap printed (c .is); fits = p .fits }
-
 module _ {plain : Bool} {sheet text units : List ℕ} {flags : ℕ} {m : Lent} {w b o₀ o : List ℕ} {r : Answer} {n : ℕ} where
-  pub form-printed : plain ≡ true → PlainFormed sheet text units flags m w b o₀ r → PrintedAt r o₀ o n → AnswerPrinted (answerFor plain sheet text units flags m) o n
+  pub form-printed : plain ≡ true → PlainFormed sheet text units flags m w b o₀ r → PrintedAt r o₀ o n → AnswerPrinted plain sheet text units flags m o n
   unfolding answerFor
-  form-printed q c p = rw q (answer-printed c p)
+  form-printed q c p = rw q record { is = p .is ∙ ap printed (c .is); fits = p .fits }
 
-  pub page-printed : plain ≡ false → Collected sheet text units flags m w b o₀ r → PrintedAt r o₀ o n → AnswerPrinted (answerFor plain sheet text units flags m) o n
+  pub page-printed : plain ≡ false → Collected sheet text units flags m w b o₀ r → PrintedAt r o₀ o n → AnswerPrinted plain sheet text units flags m o n
   unfolding answerFor
-  page-printed q c p = rw q (answer-printed c p)
+  page-printed q c p = rw q record { is = p .is ∙ ap printed (c .is); fits = p .fits }

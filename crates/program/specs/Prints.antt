@@ -11,7 +11,7 @@ unfoldable pub answerFor : Bool → List ℕ → List ℕ → List ℕ → ℕ �
 answerFor true sheet text units flags m = plainAnswer sheet text units flags m
 answerFor false sheet text units flags m = collectAnswer sheet text units flags m
 
--- the answer a as the rules print it, as the first n bytes of the output o
-pub record AnswerPrinted (a : Answer) (o : List ℕ) (n : ℕ) : Type 0 where
-  pub is : take n o ≡ printed a
+-- the program's answer as the rules print it, as the first n bytes of the output o
+pub record AnswerPrinted (plain : Bool) (sheet text units : List ℕ) (flags : ℕ) (m : Lent) (o : List ℕ) (n : ℕ) : Type 0 where
+  pub is : take n o ≡ printed (answerFor plain sheet text units flags m)
   pub fits : n ≤ length o

@@ -7,7 +7,7 @@ ghost use Prim.Native.Nat.{_≤_};
 ghost use mathlib.Core.Path.{_≡_};
 ghost use lib.ListN.{length};
 ghost use Rattle.recipe.specs.Answers.{lentOf};
-ghost use Rattle.program.specs.Prints.{answerFor, AnswerPrinted};
+ghost use Rattle.program.specs.Prints.{AnswerPrinted};
 
 // What a program prints, at the front of the output, and how much: of the page, or of the plain form.
 fn answer(
@@ -21,7 +21,7 @@ fn answer(
     out: &mut [u8],
 ) -> usize
     requires { ⌜ 30 ≤ length (now out) ⌝ }
-    ensures { λ r. ⌜ AnswerPrinted (answerFor plain (now (sheet .entry)) (now (text .entry)) (now (units .entry)) flags (lentOf (now (words .entry)) (now (bytes .entry)) (now (out .entry)))) (now (out .exit)) r ⌝ }
+    ensures { λ r. ⌜ AnswerPrinted plain (now (sheet .entry)) (now (text .entry)) (now (units .entry)) flags (lentOf (now (words .entry)) (now (bytes .entry)) (now (out .entry))) (now (out .exit)) r ⌝ }
 {
     if plain {
         let f = recipe::plain_form(sheet, text, units, flags, words, bytes, out);
