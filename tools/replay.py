@@ -29,13 +29,21 @@ def refusal(answer):
     return int(answer.split(b"\t")[1]) if answer.startswith(b"refused\t") else 0
 
 
-def expected():
-    answers = [parts[5] for _, _, parts in cases()]
+def counted(answers, words, last):
+    """how many answers there are that hand something out, and how many were refused by each number"""
     refused = [refusal(answer) for answer in answers]
-    lines = ["cases %d" % len(answers), "pages %d" % refused.count(0)]
-    lines += ["without recipe %d" % sum(answer.startswith(b"recipe\tno\n") for answer in answers)]
-    lines += ["refused %d: %d" % (n, refused.count(n)) for n in range(1, 21)]
-    return "\n".join(lines + ["different 0"]) + "\n"
+    return refused.count(0), ["%s %d: %d" % (words, n, refused.count(n)) for n in range(1, last + 1)]
+
+
+def expected():
+    parts = [parts for _, _, parts in cases()]
+    pages, refused = counted([p[5] for p in parts], "refused", 20)
+    lines = ["cases %d" % len(parts), "pages %d" % pages]
+    lines += ["without recipe %d" % sum(p[5].startswith(b"recipe\tno\n") for p in parts)] + refused + ["different 0"]
+    forms, refused = counted([p[6] for p in parts], "form refused", 24)
+    lines += ["plain forms of cases %d" % len(parts), "forms %d" % forms]
+    lines += ["other than the sheet %d" % sum(not refusal(p[6]) and p[6] != p[1] for p in parts)] + refused
+    return "\n".join(lines + ["forms different 0"]) + "\n"
 
 
 def main():
