@@ -1,7 +1,7 @@
 #!/usr/bin/env python3
 """reading.py: instructions per byte of the sheet that reading takes (all refusals 1 to 10: UTF-8, lines, fields, numbers, spans),
 counted by callgrind on realistic sheets of about 16, 32 and 64 KB by the difference to the next smaller one. Their last line is no
-event, so that nothing but reading is done. Run by hand; it proves `replay` first. REPLAY names a program that is built already."""
+event, so that nothing but reading is done, twice: `replay` asks for the page and for the plain form. Run by hand; it proves `replay` first. REPLAY names a program that is built already."""
 import os
 import re
 import subprocess
@@ -48,7 +48,7 @@ def main():
             bytes_ = sheet(size)
             n = count(replay, work, bytes_)
             if before:
-                print("| %d | %.1f |" % (len(bytes_), (n - before[1]) / (len(bytes_) - before[0])))
+                print("| %d | %.1f |" % (len(bytes_), (n - before[1]) / (len(bytes_) - before[0]) / 2))
             before = (len(bytes_), n)
 
 
