@@ -53,10 +53,6 @@ pub record TrimmedPart (line : List ℕ) (p r : Part) : Type 0 where
   pub most : r .to ≤ p .to
   pub trimmed : TrimmedTo (partOf line p) (partOf line r)
 
--- whether a key sets a mode
-pub record HeededKey (flags : ℕ) (f : List ℕ) (r : Bool) : Type 0 where
-  pub is : r ≡ (hasModes flags && isModeKey (keyOf (textTrimmed (contentIn f))))
-
 -- a `meta` line
 pub record MetaIndexed (flags : ℕ) (sheet line m₀ : List ℕ) (n : ℕ) (k v : TextView) (m : List ℕ) (r : ℕ) : Type 0 where
   pub map : mapIn sheet m r ≡ mapMeta flags (textIn line k) (textIn line v) (mapIn sheet m₀ n)

@@ -160,26 +160,9 @@ fn is_mode_line(t: &[u32], flags: u32, line: &[u8], key: TextView) -> bool
     requires { ⌜ (now t ≡ unicodeTables) × TextWithin (now line) key ⌝ }
     ensures { λ r. ⌜ r ≡ (hasModes flags && isModeKey (keyOf (keyText (textIn (now (line .entry)) key)))) ⌝ }
 {
-    let odd = flags % 2;
-    if odd == 1 {
-        let kp = key.content;
-        let k = parts::part_of(line, kp);
-        match config_keys::key_of(t, k) {
-            config_keys::Key::Define => {
-                return true;
-            }
-            config_keys::Key::Duplicate => {
-                return true;
-            }
-            config_keys::Key::Unknown => {
-                return false;
-            }
-            config_keys::Key::Ordinary => {
-                return false;
-            }
-        }
-    }
-    false
+    let kp = key.content;
+    let k = parts::part_of(line, kp);
+    config_keys::is_heeded(t, flags, k)
 }
 
 fn start_plain(kind: BlockKind, f: Follow) -> Plain
