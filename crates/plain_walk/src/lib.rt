@@ -17,7 +17,7 @@ ghost use Rattle.model.specs.declared.Open.the-variants as block;
 ghost use Rattle.plain_walk.specs.Rows.{implicitRow};
 ghost use Rattle.plain_walk.specs.Faults.{RowNamed, ComponentReady, InsideReady, EventReady, ImplicitFound, RowFault, StepFault, LineFault};
 ghost use Rattle.plain_walk.specs.Becomes.{PlainFit, Few, StartTold, BetweenTold, ComponentTold, BlockTold, TextTold, EventTold, PlainWritten};
-ghost use Rattle.plain_walk.specs.Walk.{Collected, FormWritten};
+ghost use Rattle.plain_walk.specs.Walk.{PassDone, FormWritten};
 use components::ComponentView;
 use events::Between;
 use events::BlockKind;
@@ -321,7 +321,7 @@ pub fn plain_form_lines(
     h: Held,
     out: &mut [u8],
 ) -> Formed
-    requires { ⌜ (now t ≡ unicodeTables) × (length (now sheet) ≤ 65536) × (isUtf8 (now text) ≡ true) × (readSheet (now text) (now sheet) ≡ events (eventsOr (readSheet (now text) (now sheet)))) × Collected (now text) (unitsOr (readUnits (now units))) flags (now sheet) (now words) h ⌝ }
+    requires { ⌜ (now t ≡ unicodeTables) × (length (now sheet) ≤ 65536) × (isUtf8 (now text) ≡ true) × (readSheet (now text) (now sheet) ≡ events (eventsOr (readSheet (now text) (now sheet)))) × PassDone (now text) (unitsOr (readUnits (now units))) flags (now sheet) (now words) h ⌝ }
     ensures { λ r. ⌜ FormWritten (now (text .entry)) (unitsOr (readUnits (now (units .entry)))) flags (now (sheet .entry)) (now (out .entry)) (now (out .exit)) r ⌝ }
 {
     let mut f = following::first_follow();
