@@ -2,14 +2,12 @@
 // of work memory, with the heads of their chains behind them (docs/MEMORY.md).
 ghost use mathlib.Core.Path.{_≡_};
 ghost use Prim.Native.Nat.{_+_, _*_, _%_, _≤_, _<_};
-ghost use lib.ListN.{length, getD};
-ghost use lib.ListN.{take, drop};
+ghost use lib.ListN.{length};
 ghost use mathlib.Core.Bool.{true};
 ghost use Rattle.rules.specs.Basic.{lf, isSome};
 ghost use Rattle.rules.specs.Read.{parseLine};
 ghost use Rattle.rules.specs.Answer.{events, eventsOr, readSheet};
 ghost use Rattle.rules.proofs.Fields.{Without};
-ghost use Rattle.content.specs.Contents.{keptIn};
 ghost use Rattle.content.specs.Parts.{Field};
 ghost use Rattle.unicode.specs.Tables.{unicodeTables};
 ghost use Rattle.parts.specs.Views.{TextWithin};
