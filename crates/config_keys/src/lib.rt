@@ -8,7 +8,7 @@ ghost use Rattle.rules.specs.Modes.{keyOf, isBracketed, endsWithBracket};
 ghost use Rattle.sheet.specs.Words.{defineAs, duplicateAs};
 ghost use Rattle.content.specs.Contents.{contentIn};
 ghost use Rattle.unicode.specs.Tables.{unicodeTables};
-ghost use Rattle.config_keys.specs.Keys.{keyIn};
+ghost use Rattle.config_keys.specs.Keys.{keyIn, HeededKey};
 use sheet::DefineWord;
 use sheet::DuplicateWord;
 
@@ -78,4 +78,29 @@ pub fn duplicate_value(t: &[u32], f: &[u8]) -> DuplicateWord
 {
     let w = text::text_outer_trimmed(t, f);
     sheet::duplicate_mode(w)
+}
+
+// Whether a key sets a mode: the flags heed it if 1 is set.
+pub fn is_heeded(t: &[u32], flags: u32, f: &[u8]) -> bool
+    requires { ⌜ now t ≡ unicodeTables ⌝ }
+    ensures { λ r. ⌜ HeededKey flags (now (f .entry)) r ⌝ }
+{
+    let odd = flags % 2;
+    if odd == 1 {
+        match key_of(t, f) {
+            Key::Define => {
+                return true;
+            }
+            Key::Duplicate => {
+                return true;
+            }
+            Key::Unknown => {
+                return false;
+            }
+            Key::Ordinary => {
+                return false;
+            }
+        }
+    }
+    false
 }

@@ -1,10 +1,9 @@
 -- A `meta` line: whether it is heeded, its key and its value trimmed, and the row that it makes.
-use Prim.Native.Nat.{ℕ, zero, suc, _+_, _-_, _%_, _≤_}
+use Prim.Native.Nat.{ℕ, zero, suc, _+_, _-_, _≤_}
 use mathlib.Core.Path.{_≡_, refl, ap, sym, _∙_}
 use mathlib.Core.Bool.{Bool, true, false, _&&_}
 use mathlib.Core.List.{List, [], _∷_, _++_}
 use native.Mathlib.Omega.{arith}
-use borrow.Author.Tests.{eq-eqb, ne-eqb}
 use lib.ListN.{length, take, drop, length-take, length-drop, length-append}
 use lib.Seq.{take-nil, take-take, drop-drop, take-at, drop-at, length-take-le}
 use Rattle.rules.specs.Basic.{pick}
@@ -35,13 +34,11 @@ use Rattle.events.specs.declared.BlockKind.{BlockKind}
 use Rattle.events.specs.declared.EventView.{EventView}
 use Rattle.events.specs.declared.EventView.the-variants as event
 use Rattle.events.specs.Views.{eventIn, betweenIn, EventWithin, BetweenWithin}
-use Rattle.config_keys.specs.Keys.{keyIn}
-use Rattle.config_keys.specs.declared.Key.{Key}
-use Rattle.config_keys.specs.declared.Key.the-variants.{Define, Duplicate, Unknown, Ordinary}
+use Rattle.config_keys.specs.Keys.{HeededKey}
 use Rattle.known_events.specs.Fields.{TextField, BetweenFields, EventFields}
 use Rattle.known_events.specs.Known.{KnownEvent}
 use Rattle.meta_map.specs.Index.{partAt, mapIn, RowIn, Indexed, Inserted}
-use Rattle.meta_map.specs.Maps.{mapKey, mapMeta, mapOn, TrimmedPart, HeededKey, MetaIndexed, EventIndexed, SheetIndexed, WordsIndexed}
+use Rattle.meta_map.specs.Maps.{mapKey, mapMeta, mapOn, TrimmedPart, MetaIndexed, EventIndexed, SheetIndexed, WordsIndexed}
 
 -- ---- parts of parts
 
@@ -86,28 +83,6 @@ trimmed-part line p a e h g x y =
     }
 
 -- ---- heeded keys
-
-module _ {flags : ℕ} {f : List ℕ} where
-  pub heeded-off : (flags % 2 ≡ 1 → ⊥) → HeededKey flags f false
-  unfolding hasModes
-  heeded-off n = record { is = rw (ne-eqb (flags % 2) 1 n) }
-
-  module _ (k : Key) (on : flags % 2 ≡ 1) (p : keyIn k ≡ keyOf (textTrimmed (contents.contentIn f))) where
-    heeded-by : {r : Bool} → isModeKey (keyIn k) ≡ r → HeededKey flags f r
-    unfolding hasModes
-    heeded-by e = record { is = rw (eq-eqb (flags % 2) 1 on) (sym (ap isModeKey (sym p) ∙ e)) }
-
-    pub heeded-define : k ≡ Define → HeededKey flags f true
-    heeded-define e = heeded-by (ap (λ (x : Key). isModeKey (keyIn x)) e ∙ unfold isModeKey keyIn in refl)
-
-    pub heeded-duplicate : k ≡ Duplicate → HeededKey flags f true
-    heeded-duplicate e = heeded-by (ap (λ (x : Key). isModeKey (keyIn x)) e ∙ unfold isModeKey keyIn in refl)
-
-    pub heeded-unknown : k ≡ Unknown → HeededKey flags f false
-    heeded-unknown e = heeded-by (ap (λ (x : Key). isModeKey (keyIn x)) e ∙ unfold isModeKey keyIn in refl)
-
-    pub heeded-ordinary : k ≡ Ordinary → HeededKey flags f false
-    heeded-ordinary e = heeded-by (ap (λ (x : Key). isModeKey (keyIn x)) e ∙ unfold isModeKey keyIn in refl)
 
 -- what a heeded key leaves of the map, and any other
 module _ (k v : rules.Text) (es : List MetaEntry) where

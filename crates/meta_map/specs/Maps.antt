@@ -1,16 +1,12 @@
 -- The map of metadata that the `meta` lines of a sheet make.
 use Prim.Native.Nat.{ℕ, _+_, _≤_}
 use mathlib.Core.Path.{_≡_}
-use mathlib.Core.Bool.{Bool, _&&_}
 use mathlib.Core.List.{List, [], _∷_}
 use mathlib.Core.Option.{some}
 use lib.ListN.{length, take, drop}
 use Rattle.rules.specs.Basic.{pick}
-use Rattle.rules.specs.Text.{textTrimmed}
-use Rattle.rules.specs.Plain.{isModeKey}
 use Rattle.rules.specs.Read.{parseLine}
 use Rattle.rules.specs.Answer.{eventsOr, readSheet}
-use Rattle.content.specs.Contents.{contentIn}
 use Rattle.text.specs.Trims.{TrimmedTo}
 use Rattle.parts.specs.Views.{partOf, textIn}
 use Rattle.parts.specs.declared.Part.{Part}
@@ -52,10 +48,6 @@ pub record TrimmedPart (line : List ℕ) (p r : Part) : Type 0 where
   pub order : r .from ≤ r .to
   pub most : r .to ≤ p .to
   pub trimmed : TrimmedTo (partOf line p) (partOf line r)
-
--- whether a key sets a mode
-pub record HeededKey (flags : ℕ) (f : List ℕ) (r : Bool) : Type 0 where
-  pub is : r ≡ (hasModes flags && isModeKey (keyOf (textTrimmed (contentIn f))))
 
 -- a `meta` line
 pub record MetaIndexed (flags : ℕ) (sheet line m₀ : List ℕ) (n : ℕ) (k v : TextView) (m : List ℕ) (r : ℕ) : Type 0 where

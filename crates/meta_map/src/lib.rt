@@ -2,21 +2,19 @@
 // of work memory, with the heads of their chains behind them (docs/MEMORY.md).
 ghost use mathlib.Core.Path.{_≡_};
 ghost use Prim.Native.Nat.{_+_, _*_, _%_, _≤_, _<_};
-ghost use lib.ListN.{length, getD};
-ghost use lib.ListN.{take, drop};
+ghost use lib.ListN.{length};
 ghost use mathlib.Core.Bool.{true};
 ghost use Rattle.rules.specs.Basic.{lf, isSome};
 ghost use Rattle.rules.specs.Read.{parseLine};
 ghost use Rattle.rules.specs.Answer.{events, eventsOr, readSheet};
 ghost use Rattle.rules.proofs.Fields.{Without};
-ghost use Rattle.content.specs.Contents.{keptIn};
 ghost use Rattle.content.specs.Parts.{Field};
 ghost use Rattle.unicode.specs.Tables.{unicodeTables};
 ghost use Rattle.parts.specs.Views.{TextWithin};
 ghost use Rattle.known_events.specs.Fields.{TextField};
 ghost use Rattle.known_events.specs.Known.{KnownEvent};
 ghost use Rattle.meta_map.specs.Index.{cell, head, RowIn, Indexed, Hashed, RowFound, ValueSet, KeyPushed, Inserted, Cleared, MetaPut, MetasPut, partAt};
-ghost use Rattle.meta_map.specs.Maps.{TrimmedPart, HeededKey, MetaIndexed, EventIndexed, LineIndexed, SheetIndexed, indexOf, WordsIndexed};
+ghost use Rattle.meta_map.specs.Maps.{TrimmedPart, MetaIndexed, EventIndexed, LineIndexed, SheetIndexed, indexOf, WordsIndexed};
 use events::Between;
 use events::EventView;
 use parts::Part;
@@ -155,31 +153,6 @@ fn clear_heads(m: &mut [u32])
 
 // ---- the lines of a sheet
 
-// Whether a key sets a mode: such a line stays out of the map.
-fn is_heeded(t: &[u32], flags: u32, f: &[u8]) -> bool
-    requires { ⌜ now t ≡ unicodeTables ⌝ }
-    ensures { λ r. ⌜ HeededKey flags (now (f .entry)) r ⌝ }
-{
-    let odd = flags % 2;
-    if odd == 1 {
-        match config_keys::key_of(t, f) {
-            config_keys::Key::Define => {
-                return true;
-            }
-            config_keys::Key::Duplicate => {
-                return true;
-            }
-            config_keys::Key::Unknown => {
-                return false;
-            }
-            config_keys::Key::Ordinary => {
-                return false;
-            }
-        }
-    }
-    false
-}
-
 // The part of a field without White_Space at its ends.
 fn trim_part(t: &[u32], line: &[u8], p: Part) -> Part
     requires { ⌜ (now t ≡ unicodeTables) × (p .from ≤ p .to) × (p .to ≤ length (now line)) ⌝ }
@@ -218,7 +191,8 @@ fn index_meta(
     let vp = value.content;
     let kf = kp.from;
     let kt = kp.to;
-    if is_heeded(t, flags, &line[kf..kt]) {
+    // A line that sets a mode stays out of the map.
+    if config_keys::is_heeded(t, flags, &line[kf..kt]) {
         return n;
     }
     let a = trim_part(t, line, kp);

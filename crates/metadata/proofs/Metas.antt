@@ -2,16 +2,16 @@
 use Prim.Native.Nat.{ℕ, suc, _+_, _≤_, _<_}
 use mathlib.Core.Path.{_≡_, refl, sym, ap, _∙_}
 use mathlib.Core.List.{List, [], _∷_}
-use mathlib.Core.Bool.{Bool, false}
+use mathlib.Core.Bool.{false}
 use mathlib.Core.Option.{Option, none, some}
 use native.Mathlib.Omega.{arith}
 use native.Mathlib.Numerals.{add-one}
 use lib.ListN.{length, replicate, length-replicate}
 use Rattle.rules.specs.Words as words
 use Rattle.rules.specs.Event as rules
-use Rattle.rules.specs.Finding.{Finding, found, foundTwo}
-use Rattle.rules.specs.Modes.{Modes, keyText, valueText, unknownConfig, ordinary}
-use Rattle.rules.specs.State.{State, setModes, setMetadata, report}
+use Rattle.rules.specs.Finding.{found, foundTwo}
+use Rattle.rules.specs.Modes.{Modes, keyText, valueText, ordinary}
+use Rattle.rules.specs.State.{State, setModes, setMetadata}
 use Rattle.rules.specs.Metadata.{storeMeta, badValue, onDefine, onDuplicate, onKey}
 use Rattle.sheet.specs.Words.{defineAs, duplicateAs}
 use Rattle.sheet.specs.declared.DefineWord.{DefineWord}
@@ -20,7 +20,7 @@ use Rattle.sheet.specs.declared.DuplicateWord.{DuplicateWord}
 use Rattle.sheet.specs.declared.DuplicateWord.the-variants as duplicate
 use Rattle.parts.specs.Views.{spanIn}
 use Rattle.parts.specs.declared.Span.{Span}
-use Rattle.model.specs.Blank.{blankSpan, blank, blankMetadata, blankPlace, blankKept, blankTables}
+use Rattle.model.specs.Blank.{blankSpan, blank, blankMetadata}
 use Rattle.model.specs.Rows.{findingOf}
 use Rattle.model.specs.Memory.{defineOf, duplicateOf, stateOf, stateIn, Sound}
 use Rattle.model.specs.Small.{withDefine, withDuplicate, withOld}
@@ -32,7 +32,6 @@ use Rattle.model.specs.declared.Noted.{Noted}
 use Rattle.model.specs.declared.Held.{Held}
 use Rattle.memory.specs.Pushes.{FindingPushed}
 use Rattle.memory.proofs.Smalls.{state-blank, with-define, with-duplicate, with-old}
-use Rattle.blocks.specs.Lined.{Told, Went}
 use Rattle.memory.proofs.Bounds.{fit-define, fit-duplicate, fit-old}
 use Rattle.blocks.proofs.Lines.{found-one, went-found}
 use Rattle.metadata.specs.Metas.{DefineSet, DuplicateSet, UnknownNoted, OrdinaryCounted}

@@ -2,8 +2,6 @@
 use Prim.Native.Nat.{ℕ, _%_}
 use mathlib.Core.Path.{_≡_, refl, sym, ap, _∙_}
 use mathlib.Core.List.{List}
-use mathlib.Core.Bool.{Bool, true, false}
-use lib.Dec.{eqb}
 use borrow.Author.Tests.{eq-eqb, ne-eqb}
 use Rattle.rules.specs.Basic.{pick, wordIn}
 use Rattle.rules.specs.Words.{defineKey, duplicateKey, defineWords, duplicateWords}
@@ -13,13 +11,13 @@ use Rattle.rules.specs.Utf8.{chars}
 use Rattle.rules.specs.Modes as modes
 use Rattle.rules.specs.Modes.{hasModes, keyOf, keyText, valueText}
 use Rattle.rules.specs.State.{State}
-use Rattle.rules.specs.Metadata.{onDefine, onDuplicate, onKey, onMetadata}
+use Rattle.rules.specs.Metadata.{onKey, onMetadata}
 use Rattle.sheet.specs.Words.{defineAs, duplicateAs}
 use Rattle.sheet.specs.declared.DefineWord.{DefineWord}
 use Rattle.sheet.specs.declared.DuplicateWord.{DuplicateWord}
 use Rattle.content.specs.Contents as contents
 use Rattle.content.proofs.Plains.{plain-unescape}
-use Rattle.parts.specs.Views.{partOf, bytesIn, contentIn, spanIn, textIn, TextWithin}
+use Rattle.parts.specs.Views.{partOf, contentIn, spanIn, textIn, TextWithin}
 use Rattle.parts.specs.declared.TextView.{TextView}
 use Rattle.config_keys.specs.Keys.{keyIn}
 use Rattle.config_keys.specs.declared.Key.{Key}
@@ -27,7 +25,7 @@ use Rattle.config_keys.specs.declared.Key.the-variants.{Define, Duplicate, Unkn
 use Rattle.model.specs.Blank.{blank}
 use Rattle.model.specs.Memory.{Sound}
 use Rattle.model.specs.declared.Held.{Held}
-use Rattle.blocks.specs.Lined.{Told, Went}
+use Rattle.blocks.specs.Lined.{Went}
 use Rattle.blocks.proofs.Lines.{went-told}
 use Rattle.metadata.specs.Metas.{DefineSet, DuplicateSet, UnknownNoted, OrdinaryCounted, MetaDone}
 

@@ -1,9 +1,8 @@
 // `meta` lines: the modes that they set, findings 1 and 2, and the lines that count for 3.
 ghost use mathlib.Core.Path.{_≡_};
-ghost use Prim.Native.Nat.{_+_, _<_, _≤_};
-ghost use lib.ListN.{length};
+ghost use Prim.Native.Nat.{_+_, _<_};
 ghost use Rattle.unicode.specs.Tables.{unicodeTables};
-ghost use Rattle.parts.specs.Views.{partOf, TextWithin};
+ghost use Rattle.parts.specs.Views.{TextWithin};
 ghost use Rattle.model.specs.Memory.{Sound};
 ghost use Rattle.model.specs.Small.{withDefine, withDuplicate};
 ghost use Rattle.metadata.specs.Metas.{DefineSet, DuplicateSet, UnknownNoted, OrdinaryCounted, MetaDone};
@@ -97,15 +96,6 @@ pub fn count_ordinary(mut h: Held) -> Held
     h
 }
 
-fn part_of<'a>(line: &'a [u8], p: Part) -> &'a [u8]
-    requires { ⌜ (p .from ≤ p .to) × (p .to ≤ length (now line)) ⌝ }
-    ensures { λ r. ⌜ now r ≡ partOf (now (line .entry)) p ⌝ }
-{
-    let from = p.from;
-    let to = p.to;
-    &line[from..to]
-}
-
 pub fn on_meta(
     t: &[u32],
     flags: u32,
@@ -124,8 +114,8 @@ pub fn on_meta(
         let vp = value.content;
         let ks = key.span;
         let vs = value.span;
-        let k = part_of(line, kp);
-        let v = part_of(line, vp);
+        let k = parts::part_of(line, kp);
+        let v = parts::part_of(line, vp);
         match config_keys::key_of(t, k) {
             config_keys::Key::Define => {
                 let m = config_keys::define_value(t, v);

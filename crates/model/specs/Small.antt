@@ -1,6 +1,8 @@
 -- The small state with another part.
 use Prim.Native.Nat.{ℕ}
 use mathlib.Core.Bool.{Bool}
+use lib.Dec.{eqb}
+use Rattle.rules.specs.Basic.{pick}
 use Rattle.model.specs.declared.Define.{Define}
 use Rattle.model.specs.declared.Duplicate.{Duplicate}
 use Rattle.model.specs.declared.Open.{Open}
@@ -24,275 +26,64 @@ withNamed b h = record { define = h .define; duplicate = h .duplicate; block = h
 
 -- ---- another count
 
+-- x, or n at the place i
+abbrev pub put : ℕ → ℕ → ℕ → ℕ → ℕ
+put i j n x = pick (eqb i j) n x
+
+-- the counts with n as the one at the place i, in the order of the struct
+abbrev pub setCount : ℕ → ℕ → Counts → Counts
+setCount i n c =
+    record {
+      counter = put i 0 n (c .counter);
+      here = put i 1 n (c .here);
+      sections = put i 2 n (c .sections);
+      blocks = put i 3 n (c .blocks);
+      items = put i 4 n (c .items);
+      ingredients = put i 5 n (c .ingredients);
+      cookware = put i 6 n (c .cookware);
+      timers = put i 7 n (c .timers);
+      inline = put i 8 n (c .inline);
+      «ingredient_pairs» = put i 9 n (c .«ingredient_pairs»);
+      «cookware_pairs» = put i 10 n (c .«cookware_pairs»);
+      findings = put i 11 n (c .findings);
+      old = put i 12 n (c .old);
+    }
+
 abbrev pub withCounter : ℕ → Held → Held
-withCounter n h =
-    let c = h .counts in
-    withCounts
-    (record {
-      counter = n;
-      here = c .here;
-      sections = c .sections;
-      blocks = c .blocks;
-      items = c .items;
-      ingredients = c .ingredients;
-      cookware = c .cookware;
-      timers = c .timers;
-      inline = c .inline;
-      «ingredient_pairs» = c .«ingredient_pairs»;
-      «cookware_pairs» = c .«cookware_pairs»;
-      findings = c .findings;
-      old = c .old;
-    })
-    h
+withCounter n h = withCounts (setCount 0 n (h .counts)) h
 
 abbrev pub withHere : ℕ → Held → Held
-withHere n h =
-    let c = h .counts in
-    withCounts
-    (record {
-      counter = c .counter;
-      here = n;
-      sections = c .sections;
-      blocks = c .blocks;
-      items = c .items;
-      ingredients = c .ingredients;
-      cookware = c .cookware;
-      timers = c .timers;
-      inline = c .inline;
-      «ingredient_pairs» = c .«ingredient_pairs»;
-      «cookware_pairs» = c .«cookware_pairs»;
-      findings = c .findings;
-      old = c .old;
-    })
-    h
+withHere n h = withCounts (setCount 1 n (h .counts)) h
 
 abbrev pub withSections : ℕ → Held → Held
-withSections n h =
-    let c = h .counts in
-    withCounts
-    (record {
-      counter = c .counter;
-      here = c .here;
-      sections = n;
-      blocks = c .blocks;
-      items = c .items;
-      ingredients = c .ingredients;
-      cookware = c .cookware;
-      timers = c .timers;
-      inline = c .inline;
-      «ingredient_pairs» = c .«ingredient_pairs»;
-      «cookware_pairs» = c .«cookware_pairs»;
-      findings = c .findings;
-      old = c .old;
-    })
-    h
+withSections n h = withCounts (setCount 2 n (h .counts)) h
 
 abbrev pub withBlocks : ℕ → Held → Held
-withBlocks n h =
-    let c = h .counts in
-    withCounts
-    (record {
-      counter = c .counter;
-      here = c .here;
-      sections = c .sections;
-      blocks = n;
-      items = c .items;
-      ingredients = c .ingredients;
-      cookware = c .cookware;
-      timers = c .timers;
-      inline = c .inline;
-      «ingredient_pairs» = c .«ingredient_pairs»;
-      «cookware_pairs» = c .«cookware_pairs»;
-      findings = c .findings;
-      old = c .old;
-    })
-    h
+withBlocks n h = withCounts (setCount 3 n (h .counts)) h
 
 abbrev pub withItems : ℕ → Held → Held
-withItems n h =
-    let c = h .counts in
-    withCounts
-    (record {
-      counter = c .counter;
-      here = c .here;
-      sections = c .sections;
-      blocks = c .blocks;
-      items = n;
-      ingredients = c .ingredients;
-      cookware = c .cookware;
-      timers = c .timers;
-      inline = c .inline;
-      «ingredient_pairs» = c .«ingredient_pairs»;
-      «cookware_pairs» = c .«cookware_pairs»;
-      findings = c .findings;
-      old = c .old;
-    })
-    h
+withItems n h = withCounts (setCount 4 n (h .counts)) h
 
 abbrev pub withIngredients : ℕ → Held → Held
-withIngredients n h =
-    let c = h .counts in
-    withCounts
-    (record {
-      counter = c .counter;
-      here = c .here;
-      sections = c .sections;
-      blocks = c .blocks;
-      items = c .items;
-      ingredients = n;
-      cookware = c .cookware;
-      timers = c .timers;
-      inline = c .inline;
-      «ingredient_pairs» = c .«ingredient_pairs»;
-      «cookware_pairs» = c .«cookware_pairs»;
-      findings = c .findings;
-      old = c .old;
-    })
-    h
+withIngredients n h = withCounts (setCount 5 n (h .counts)) h
 
 abbrev pub withCookware : ℕ → Held → Held
-withCookware n h =
-    let c = h .counts in
-    withCounts
-    (record {
-      counter = c .counter;
-      here = c .here;
-      sections = c .sections;
-      blocks = c .blocks;
-      items = c .items;
-      ingredients = c .ingredients;
-      cookware = n;
-      timers = c .timers;
-      inline = c .inline;
-      «ingredient_pairs» = c .«ingredient_pairs»;
-      «cookware_pairs» = c .«cookware_pairs»;
-      findings = c .findings;
-      old = c .old;
-    })
-    h
+withCookware n h = withCounts (setCount 6 n (h .counts)) h
 
 abbrev pub withTimers : ℕ → Held → Held
-withTimers n h =
-    let c = h .counts in
-    withCounts
-    (record {
-      counter = c .counter;
-      here = c .here;
-      sections = c .sections;
-      blocks = c .blocks;
-      items = c .items;
-      ingredients = c .ingredients;
-      cookware = c .cookware;
-      timers = n;
-      inline = c .inline;
-      «ingredient_pairs» = c .«ingredient_pairs»;
-      «cookware_pairs» = c .«cookware_pairs»;
-      findings = c .findings;
-      old = c .old;
-    })
-    h
+withTimers n h = withCounts (setCount 7 n (h .counts)) h
 
 abbrev pub withInline : ℕ → Held → Held
-withInline n h =
-    let c = h .counts in
-    withCounts
-    (record {
-      counter = c .counter;
-      here = c .here;
-      sections = c .sections;
-      blocks = c .blocks;
-      items = c .items;
-      ingredients = c .ingredients;
-      cookware = c .cookware;
-      timers = c .timers;
-      inline = n;
-      «ingredient_pairs» = c .«ingredient_pairs»;
-      «cookware_pairs» = c .«cookware_pairs»;
-      findings = c .findings;
-      old = c .old;
-    })
-    h
+withInline n h = withCounts (setCount 8 n (h .counts)) h
 
 abbrev pub withIngredientPairs : ℕ → Held → Held
-withIngredientPairs n h =
-    let c = h .counts in
-    withCounts
-    (record {
-      counter = c .counter;
-      here = c .here;
-      sections = c .sections;
-      blocks = c .blocks;
-      items = c .items;
-      ingredients = c .ingredients;
-      cookware = c .cookware;
-      timers = c .timers;
-      inline = c .inline;
-      «ingredient_pairs» = n;
-      «cookware_pairs» = c .«cookware_pairs»;
-      findings = c .findings;
-      old = c .old;
-    })
-    h
+withIngredientPairs n h = withCounts (setCount 9 n (h .counts)) h
 
 abbrev pub withCookwarePairs : ℕ → Held → Held
-withCookwarePairs n h =
-    let c = h .counts in
-    withCounts
-    (record {
-      counter = c .counter;
-      here = c .here;
-      sections = c .sections;
-      blocks = c .blocks;
-      items = c .items;
-      ingredients = c .ingredients;
-      cookware = c .cookware;
-      timers = c .timers;
-      inline = c .inline;
-      «ingredient_pairs» = c .«ingredient_pairs»;
-      «cookware_pairs» = n;
-      findings = c .findings;
-      old = c .old;
-    })
-    h
+withCookwarePairs n h = withCounts (setCount 10 n (h .counts)) h
 
 abbrev pub withFindings : ℕ → Held → Held
-withFindings n h =
-    let c = h .counts in
-    withCounts
-    (record {
-      counter = c .counter;
-      here = c .here;
-      sections = c .sections;
-      blocks = c .blocks;
-      items = c .items;
-      ingredients = c .ingredients;
-      cookware = c .cookware;
-      timers = c .timers;
-      inline = c .inline;
-      «ingredient_pairs» = c .«ingredient_pairs»;
-      «cookware_pairs» = c .«cookware_pairs»;
-      findings = n;
-      old = c .old;
-    })
-    h
+withFindings n h = withCounts (setCount 11 n (h .counts)) h
 
 abbrev pub withOld : ℕ → Held → Held
-withOld n h =
-    let c = h .counts in
-    withCounts
-    (record {
-      counter = c .counter;
-      here = c .here;
-      sections = c .sections;
-      blocks = c .blocks;
-      items = c .items;
-      ingredients = c .ingredients;
-      cookware = c .cookware;
-      timers = c .timers;
-      inline = c .inline;
-      «ingredient_pairs» = c .«ingredient_pairs»;
-      «cookware_pairs» = c .«cookware_pairs»;
-      findings = c .findings;
-      old = n;
-    })
-    h
+withOld n h = withCounts (setCount 12 n (h .counts)) h

@@ -1,12 +1,10 @@
 -- What each kind of line becomes.
-use Prim.Native.Nat.{ℕ, _+_, _-_, _%_, _*_, _≤_, _<_}
+use Prim.Native.Nat.{ℕ, _+_, _-_, _*_, _≤_, _<_}
 use mathlib.Core.Path.{_≡_, refl, sym, ap, _∙_, subst}
 use mathlib.Core.List.{List, [], _∷_}
 use mathlib.Core.Bool.{Bool, true, false, _&&_}
 use mathlib.Core.Option.{Option}
 use native.Mathlib.Omega.{arith}
-use borrow.Author.Tests.{eq-eqb, ne-eqb}
-use lib.Dec.{eqb}
 use lib.ListN.{length, take, drop, length-drop}
 use lib.Seq.{length-take-le}
 use Rattle.rules.specs.Basic.{pick, all}
@@ -14,15 +12,12 @@ use Rattle.rules.specs.Text.{textTrimmed}
 use Rattle.rules.specs.Event as rules
 use Rattle.rules.specs.Event.{spansOf, componentSpan, componentSpans, namedSpans}
 use Rattle.rules.specs.Model.{ingredient, cookware}
-use Rattle.rules.specs.Modes as modes
 use Rattle.rules.specs.Modes.{isComponents, isText, hasModes, keyOf, keyText}
 use Rattle.rules.specs.Plain.{isModeKey, inPlainText}
 use Rattle.rules.specs.Pass.{sourceText}
 use Rattle.rules.specs.Answer.{isGoodSpan}
 use Rattle.rules.proofs.Basics.{and-left}
-use Rattle.content.specs.Contents as contents
-use Rattle.config_keys.specs.Keys.{keyIn}
-use Rattle.config_keys.specs.declared.Key.{Key}
+use Rattle.config_keys.specs.Keys.{HeededKey}
 use Rattle.parts.specs.Views.{textIn, TextWithin, partOf}
 use Rattle.parts.specs.declared.Span.{Span}
 use Rattle.parts.specs.declared.TextView.{TextView}
@@ -44,7 +39,7 @@ use Rattle.events.specs.declared.Inside.the-variants as inside
 use Rattle.events.specs.declared.EventView.{EventView}
 use Rattle.events.specs.declared.EventView.the-variants as event
 use Rattle.known_events.specs.Fields.{ComponentEventFields, InsideFields, EventFields}
-use Rattle.metadata.proofs.Whole.{key-at}
+use Rattle.metadata.proofs.Whole.{text-content}
 use Rattle.model.specs.Memory.{windowsOf, defineOf}
 use Rattle.model.specs.declared.Open.{Open}
 use Rattle.model.specs.declared.Open.the-variants as block
@@ -64,17 +59,9 @@ use Rattle.plain_walk.specs.declared.Plain.the-variants.{Dropped, Copied
 
 -- ---- `meta` lines
 
-pub mode-off : (flags : ℕ) (b : Bool) → (flags % 2 ≡ 1 → ⊥) → false ≡ (hasModes flags && b)
-unfolding hasModes
-mode-off flags b n = rw (ne-eqb (flags % 2) 1 n)
-
-module _ (flags : ℕ) (line : List ℕ) (key : TextView) (on : flags % 2 ≡ 1) (kz : TextWithin line key) (kb : List ℕ) (kp : kb ≡ partOf line (key .content)) (x : Key) (g : keyIn x ≡ keyOf (textTrimmed (contents.contentIn kb))) where
-  -- the key is y
-  pub mode-key : (y : Key) {r : Bool} → x ≡ y → r ≡ isModeKey (keyIn y) → r ≡ (hasModes flags && isModeKey (keyOf (keyText (textIn line key))))
-  unfolding hasModes
-  mode-key y e q =
-      let k : pick (eqb (flags % 2) 1) (keyOf (keyText (textIn line key))) modes.ordinary ≡ keyIn y = key-at flags line key x y kb on kz kp g e in
-      q ∙ rw (eq-eqb (flags % 2) 1 on) (ap isModeKey (sym (rw (eq-eqb (flags % 2) 1 on) at k)))
+pub mode-line : {flags : ℕ} (line : List ℕ) (key : TextView) → TextWithin line key → {f : List ℕ} {r : Bool} → f ≡ partOf line (key .content) → HeededKey flags f r → r ≡ (hasModes flags && isModeKey (keyOf (keyText (textIn line key))))
+unfolding keyText
+mode-line {flags} line key z e h = h .is ∙ ap (λ (cs : List ℕ). hasModes flags && isModeKey (keyOf (textTrimmed cs))) (text-content line key z e)
 
 pub meta-within : (line : List ℕ) {b : Between} (k v : TextView) → b ≡ between.Meta k v → BetweenWithin line b → TextWithin line k
 unfolding BetweenWithin

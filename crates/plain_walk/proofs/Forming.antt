@@ -33,7 +33,7 @@ use Rattle.following.proofs.Walking.{Walking, Went, walking-first, walking-next
 use Rattle.plain_walk.specs.Rows.{faultIn, RowFor}
 use Rattle.plain_walk.specs.Lines.{Behind, plainIn}
 use Rattle.plain_walk.specs.Becomes.{Few}
-use Rattle.plain_walk.specs.Walk.{Final, Collected}
+use Rattle.plain_walk.specs.Walk.{Final, PassDone}
 use Rattle.plain_walk.proofs.Grown.{Grown, walk-grown}
 use Rattle.plain_walk.proofs.Same.{plain-same, fault-same, row-there, table-most}
 use Rattle.plain_walk.proofs.Behinds.{behind-first, behind-next, behind-room, behind-few}
@@ -74,7 +74,7 @@ module _ (text : List ℕ) (us : List NamedUnit) (flags : ℕ) (sheet w : List �
     pub is : written ++ form (trace number st es) ≡ form whole
     pub clear : (a : Answer) → unlessFaulty us flags a whole ≡ unlessFaulty us flags a (trace number st es)
 
-  pub forming-starts : {o₀ : List ℕ} → Collected text us flags sheet w h → readSheet text sheet ≡ events (eventsOr (readSheet text sheet)) → Put [] o₀ 0 o₀ 0 → Forming o₀ 0 1 firstFollow o₀ 0
+  pub forming-starts : {o₀ : List ℕ} → PassDone text us flags sheet w h → readSheet text sheet ≡ events (eventsOr (readSheet text sheet)) → Put [] o₀ 0 o₀ 0 → Forming o₀ 0 1 firstFollow o₀ 0
   unfolding readSheet
   forming-starts c q p =
       record {

@@ -50,7 +50,7 @@ use Rattle.plain_walk.specs.Rows.{faultAs, kindFault, markFaultIn, compo
 use Rattle.plain_walk.specs.Lines.{plainIn}
 use Rattle.plain_walk.specs.Faults.{numberOf, ComponentReady, BlockReady, InsideReady, EventReady, LineFault}
 use Rattle.plain_walk.specs.Becomes.{PlainFit, Few, EventTold, PlainWritten}
-use Rattle.plain_walk.specs.Walk.{Final, Collected, FormedAs, FormWritten}
+use Rattle.plain_walk.specs.Walk.{Final, PassDone, FormedAs, FormWritten}
 use Rattle.plain_walk.specs.declared.Plain.{Plain}
 use Rattle.plain_walk.specs.declared.Formed.the-variants.{Fault, Length}
 use Rattle.plain_walk.proofs.Behinds.{behind-none}
@@ -160,7 +160,7 @@ pub record Looping (text : List ℕ) (us : List NamedUnit) (flags : ℕ) (sheet 
   pub held : Held
   pub is : Forming text us flags sheet w held o₀ at number f o n
 
-pub form-starts : {text : List ℕ} {us : List NamedUnit} {flags : ℕ} {sheet w : List ℕ} {h : Held} {o₀ : List ℕ} {f : Follow} → f ≡ firstFollow → Collected text us flags sheet w h
+pub form-starts : {text : List ℕ} {us : List NamedUnit} {flags : ℕ} {sheet w : List ℕ} {h : Held} {o₀ : List ℕ} {f : Follow} → f ≡ firstFollow → PassDone text us flags sheet w h
     → readSheet text sheet ≡ events (eventsOr (readSheet text sheet)) → Looping text us flags sheet w o₀ 0 1 f o₀ 0
 form-starts {text} {us} {flags} {sheet} {w} {h} {o₀} e c q =
     record { held = h; is = subst (λ (x : Follow). Forming text us flags sheet w h o₀ 0 1 x o₀ 0) (sym e) (forming-starts text us flags sheet w h c q (put-none o₀)) }

@@ -24,7 +24,7 @@ pub record Final (sheet w : List ℕ) (h : Held) (final : State) : Type 0 where
   pub cookware : h .counts .cookware ≤ 256
 
 -- the pass accepted the sheet, and work memory is as it left it
-pub record Collected (text : List ℕ) (us : List NamedUnit) (flags : ℕ) (sheet w : List ℕ) (h : Held) : Type 0 where
+pub record PassDone (text : List ℕ) (us : List NamedUnit) (flags : ℕ) (sheet w : List ℕ) (h : Held) : Type 0 where
   pub final : State
   pub walked : walk text us flags 1 (going firstState) (eventsOr (readSheet text sheet)) ≡ going final
   pub memory : Final sheet w h final

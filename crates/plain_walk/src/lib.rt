@@ -17,7 +17,7 @@ ghost use Rattle.model.specs.declared.Open.the-variants as block;
 ghost use Rattle.plain_walk.specs.Rows.{implicitRow};
 ghost use Rattle.plain_walk.specs.Faults.{RowNamed, ComponentReady, InsideReady, EventReady, ImplicitFound, RowFault, StepFault, LineFault};
 ghost use Rattle.plain_walk.specs.Becomes.{PlainFit, Few, StartTold, BetweenTold, ComponentTold, BlockTold, TextTold, EventTold, PlainWritten};
-ghost use Rattle.plain_walk.specs.Walk.{Collected, FormWritten};
+ghost use Rattle.plain_walk.specs.Walk.{PassDone, FormWritten};
 use components::ComponentView;
 use events::Between;
 use events::BlockKind;
@@ -160,26 +160,9 @@ fn is_mode_line(t: &[u32], flags: u32, line: &[u8], key: TextView) -> bool
     requires { ⌜ (now t ≡ unicodeTables) × TextWithin (now line) key ⌝ }
     ensures { λ r. ⌜ r ≡ (hasModes flags && isModeKey (keyOf (keyText (textIn (now (line .entry)) key)))) ⌝ }
 {
-    let odd = flags % 2;
-    if odd == 1 {
-        let kp = key.content;
-        let k = parts::part_of(line, kp);
-        match config_keys::key_of(t, k) {
-            config_keys::Key::Define => {
-                return true;
-            }
-            config_keys::Key::Duplicate => {
-                return true;
-            }
-            config_keys::Key::Unknown => {
-                return false;
-            }
-            config_keys::Key::Ordinary => {
-                return false;
-            }
-        }
-    }
-    false
+    let kp = key.content;
+    let k = parts::part_of(line, kp);
+    config_keys::is_heeded(t, flags, k)
 }
 
 fn start_plain(kind: BlockKind, f: Follow) -> Plain
@@ -338,7 +321,7 @@ pub fn plain_form_lines(
     h: Held,
     out: &mut [u8],
 ) -> Formed
-    requires { ⌜ (now t ≡ unicodeTables) × (length (now sheet) ≤ 65536) × (isUtf8 (now text) ≡ true) × (readSheet (now text) (now sheet) ≡ events (eventsOr (readSheet (now text) (now sheet)))) × Collected (now text) (unitsOr (readUnits (now units))) flags (now sheet) (now words) h ⌝ }
+    requires { ⌜ (now t ≡ unicodeTables) × (length (now sheet) ≤ 65536) × (isUtf8 (now text) ≡ true) × (readSheet (now text) (now sheet) ≡ events (eventsOr (readSheet (now text) (now sheet)))) × PassDone (now text) (unitsOr (readUnits (now units))) flags (now sheet) (now words) h ⌝ }
     ensures { λ r. ⌜ FormWritten (now (text .entry)) (unitsOr (readUnits (now (units .entry)))) flags (now (sheet .entry)) (now (out .entry)) (now (out .exit)) r ⌝ }
 {
     let mut f = following::first_follow();

@@ -31,7 +31,7 @@ use Rattle.pass.specs.declared.Ran.{Ran}
 use Rattle.pass.specs.declared.Ran.the-variants as ran
 use Rattle.page.specs.Pages.{RecipeGiven}
 use Rattle.component_lines.proofs.Rooms.{limits-roomy}
-use Rattle.plain_walk.specs.Walk.{Collected, FormWritten}
+use Rattle.plain_walk.specs.Walk.{PassDone, FormWritten}
 use Rattle.plain_walk.proofs.Results.{form-declined, form-answered, form-put}
 use Rattle.plain_walk.specs.declared.Formed.{Formed}
 use Rattle.plain_walk.specs.declared.Formed.the-variants.{Fault, Length}
@@ -96,7 +96,7 @@ module _ {t sheet text units : List ℕ} {flags : ℕ} {w : List ℕ} {h : Held}
   form = sheetOf (plainEvents text us flags ts)
 
   pub lines-given : (t ≡ unicodeTables) × (length sheet ≤ 65536) × (isUtf8 text ≡ true) × (readSheet text sheet ≡ events (eventsOr (readSheet text sheet)))
-      × Collected text us flags sheet w h
+      × PassDone text us flags sheet w h
   lines-given =
       let k = g .ran .kept in
       let c = limits-roomy sheet w h (k .limits) .0 in (

@@ -8,7 +8,7 @@ use Rattle.meta_map.proofs.index_meta.Tie as tie
 use Rattle.meta_map.proofs.index_meta.Reads as reads
 use Rattle.meta_map.proofs.index_meta.Lts as lts
 use Rattle.meta_map.proofs.insert_meta.Reads as insert-meta-reads
-use Rattle.meta_map.proofs.is_heeded.Reads as is-heeded-reads
+use Rattle.config_keys.proofs.is_heeded.Reads as is-heeded-reads
 use Rattle.meta_map.proofs.trim_part.Reads as trim-part-reads
 
 -- src/lib.rt:204:16

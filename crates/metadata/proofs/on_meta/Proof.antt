@@ -10,7 +10,7 @@ use Rattle.config_keys.proofs.duplicate_value.Reads as duplicate-value-reads
 use Rattle.config_keys.proofs.key_of.Reads as key-of-reads
 use Rattle.metadata.proofs.count_ordinary.Reads as count-ordinary-reads
 use Rattle.metadata.proofs.note_unknown.Reads as note-unknown-reads
-use Rattle.metadata.proofs.part_of.Reads as part-of-reads
+use Rattle.parts.proofs.part_of.Reads as part-of-reads
 use Rattle.metadata.proofs.set_define.Reads as set-define-reads
 use Rattle.metadata.proofs.set_duplicate.Reads as set-duplicate-reads
 

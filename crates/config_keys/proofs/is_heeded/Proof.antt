@@ -1,11 +1,11 @@
 use borrow.Author.Needs.{needs}
 use native.Mathlib.Omega.{arith}
-use Rattle.meta_map.proofs.Metas.{heeded-off, heeded-define, heeded-duplicate, heeded-unknown, heeded-ordinary}
-use Rattle.meta_map.proofs.is_heeded.Statement.{statement}
-use Rattle.meta_map.proofs.is_heeded.Tie as tie
-use Rattle.meta_map.proofs.is_heeded.Reads as reads
-use Rattle.meta_map.proofs.is_heeded.Lts as lts
+use Rattle.config_keys.proofs.Heeded.{heeded-off, heeded-define, heeded-duplicate, heeded-unknown, heeded-ordinary}
+use Rattle.config_keys.proofs.is_heeded.Statement.{statement}
+use Rattle.config_keys.proofs.is_heeded.Tie as tie
+use Rattle.config_keys.proofs.is_heeded.Reads as reads
+use Rattle.config_keys.proofs.is_heeded.Lts as lts
 use Rattle.config_keys.proofs.key_of.Reads as key-of-reads
 
 -- src/lib.rt:135:15
 key-of-requires : tie.Need-key-of-requires
