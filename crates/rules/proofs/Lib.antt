@@ -14,6 +14,7 @@ pub mod Escaped
 pub mod SameChars
 pub mod Walks
 pub mod Chained
+pub mod Referrers
 pub mod Sim
 pub mod Search
 pub mod Parts
