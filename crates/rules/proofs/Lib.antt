@@ -13,6 +13,7 @@ pub mod Insides
 pub mod Escaped
 pub mod SameChars
 pub mod Walks
+pub mod TableSteps
 pub mod Chained
 pub mod Referrers
 pub mod Sim

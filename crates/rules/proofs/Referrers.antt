@@ -2,7 +2,7 @@
 use Prim.Native.Nat.{ℕ, suc, _≤_, _<_}
 use mathlib.Core.Path.{_≡_, refl, sym, ap, _∙_, subst}
 use mathlib.Core.List.{List, [], _∷_}
-use mathlib.Core.Bool.{Bool, true, false, _&&_}
+use mathlib.Core.Bool.{Bool, true, false, _&&_, not}
 use mathlib.Core.Option.{Option, none, some}
 use native.Mathlib.Omega.{arith}
 use lib.Dec.{eqb}
@@ -10,17 +10,19 @@ use lib.ListN.{length}
 use borrow.Author.Tests.{eqb-true, eqb-false, eq-eqb, ne-eqb}
 use Rattle.rules.specs.Basic.{pick, onSome}
 use Rattle.rules.specs.Words.{IntermediateTarget, targetStep, targetSection}
-use Rattle.rules.specs.Event.{Component, Intermediate}
+use Rattle.rules.specs.Event.{Component, Intermediate, Event}
 use Rattle.rules.specs.Units.{NamedUnit}
 use Rattle.rules.specs.Modes.{Modes}
 use Rattle.rules.specs.Model.{Kind, ingredient, cookware, Target, toIngredient, toCookware, toStep, toSection, targetOf, Relation, definition, reference, Entry, entryWith, entryOf, setRelation, setModifiers}
 use Rattle.rules.specs.Reference.{Earlier, sameNameOf, entryAt, refersTo, asReferring, referredBy, setReferencedFrom, isDefinition}
 use Rattle.rules.specs.Checks.{resolveIntermediateRef, intermediateTarget, intermediateRelation}
-use Rattle.rules.specs.State.{State, tableOf}
-use Rattle.rules.specs.Components.{Made, newEntry, foundSame, madeWith, madeByName, madeIntermediate, makeIngredient, referred, pushed}
+use Rattle.rules.specs.State.{State, firstState, tableOf, going}
+use Rattle.rules.specs.Pass.{walk}
+use Rattle.rules.specs.Components.{Made, newEntry, foundSame, madeWith, madeByName, madeIntermediate, makeIngredient, referred, pushed, refersToReference}
 use Rattle.rules.proofs.Basics.{pick-either, no-some, no-truth, some-inj, and-left, and-right}
 use Rattle.rules.proofs.Walks.{found-at}
-use Rattle.rules.proofs.Chained.{Sound, found-definition, refers-same}
+use Rattle.rules.proofs.Chained.{refers-same}
+use Rattle.rules.proofs.TableSteps.{MadeBy, by-name, by-place, Onward, walk-related}
 
 -- ---- the entries that refer to an entry of their own table
 
@@ -134,10 +136,10 @@ own-none k n [] h g = refl
 own-none k n (e ∷ es) h g =
     pick-either (λ (l : List ℕ). l ≡ []) (refersOwn k n (e .relation)) _ _
     (λ b.
-      let at : entryAt (length es) (e ∷ es) ≡ some e = unfold entryAt in rw (eq-eqb (length es) (length es) refl) in
-      let u : n < length es = h (length es) n e at (refers-only k n (e .relation) b) in absurd (omega arith))
+    let at : entryAt (length es) (e ∷ es) ≡ some e = unfold entryAt in rw (eq-eqb (length es) (length es) refl) in
+    let u : n < length es = h (length es) n e at (refers-only k n (e .relation) b) in absurd (omega arith))
     (λ b.
-      own-none k n es (λ i d x q r. h i d x (entry-older i e es (entry-below i es x q) ∙ q) r) (omega arith))
+    own-none k n es (λ i d x q r. h i d x (entry-older i e es (entry-below i es x q) ∙ q) r) (omega arith))
 
 -- ---- one referrer more
 
@@ -344,20 +346,50 @@ unfolding intermediateRelation
 made-intermediate es i b none = made-definition b
 made-intermediate es i b (some j) = made-elsewhere _ j (elsewhere (i .target))
 
-module _ (units : List NamedUnit) (flags : ℕ) where
-  pub by-name-linked : (k : Kind) (c : Component) (st : State) → Sound (tableOf k st)
-      → MadeLinked k (tableOf k st) (madeByName units flags k c st .entry .relation) (madeByName units flags k c st .refersTo)
-  unfolding madeByName madeWith asReferring setRelation setModifiers newEntry entryOf entryWith foundSame sameNameOf
-  by-name-linked k c st s = go (refersTo (st .modes) (newEntry k c st) (foundSame (newEntry k c st) (tableOf k st))) refl
-    where
-      go : (o : Option Earlier) → refersTo (st .modes) (newEntry k c st) (foundSame (newEntry k c st) (tableOf k st)) ≡ o
-          → MadeLinked k (tableOf k st) (asReferring k o (newEntry k c st) .relation) o
-      go none q = made-definition _
-      go (some d) q =
-          let p : foundSame (newEntry k c st) (tableOf k st) ≡ some d = refers-same (st .modes) (newEntry k c st) _ d q in
-          made-reference d (record { entry = d .entry; stands = found-at _ _ _ (tableOf k st) d p; is = found-definition _ _ _ d s p })
+not-false : (b : Bool) → not b ≡ false → b ≡ true
+not-false true q = refl
+not-false false q = no-truth (sym q)
 
-  pub intermediate-linked : (c : Component) (i : Intermediate) (st : State)
+module _ (units : List NamedUnit) (flags : ℕ) where
+  -- what the search finds is a definition, or 18
+  by-name-linked : (k : Kind) (c : Component) (st : State) → refersToReference (madeByName units flags k c st .refersTo) ≡ false
+      → MadeLinked k (tableOf k st) (madeByName units flags k c st .entry .relation) (madeByName units flags k c st .refersTo)
+  unfolding madeByName madeWith asReferring setRelation setModifiers newEntry entryOf entryWith foundSame sameNameOf refersToReference
+  by-name-linked k c st s = go (refersTo (st .modes) (newEntry k c st) (foundSame (newEntry k c st) (tableOf k st))) refl s
+    where
+      go : (o : Option Earlier) → refersTo (st .modes) (newEntry k c st) (foundSame (newEntry k c st) (tableOf k st)) ≡ o → refersToReference o ≡ false
+          → MadeLinked k (tableOf k st) (asReferring k o (newEntry k c st) .relation) o
+      go none q n = made-definition _
+      go (some d) q n =
+          let p : foundSame (newEntry k c st) (tableOf k st) ≡ some d = refers-same (st .modes) (newEntry k c st) _ d q in
+          made-reference d (record { entry = d .entry; stands = found-at _ _ _ (tableOf k st) d p; is = not-false (isDefinition (d .entry .relation)) n })
+
+  intermediate-linked : (c : Component) (i : Intermediate) (st : State)
       → MadeLinked ingredient (tableOf ingredient st) (makeIngredient units flags c (some i) st .entry .relation) (makeIngredient units flags c (some i) st .refersTo)
   unfolding makeIngredient madeIntermediate setRelation newEntry entryOf entryWith
   intermediate-linked c i st = made-intermediate (tableOf ingredient st) i _ _
+
+  made-linked : (k : Kind) (m : Made) (st : State) → MadeBy units flags st k m → refersToReference (m .refersTo) ≡ false
+      → MadeLinked k (tableOf k st) (m .entry .relation) (m .refersTo)
+  made-linked k m st (by-name x c) n = by-name-linked x c st n
+  made-linked k m st (by-place c i r) n = intermediate-linked c i st
+
+  -- linked tables stay linked
+  pub linked-onward : Onward units flags (λ k es fs. Linked k es → Linked k fs)
+  linked-onward =
+      record {
+        same = λ k es l. l;
+        further = λ f g l. g (f l);
+        more = λ k m st h n l. pushed-linked k m (tableOf k st) (made-linked k m st h n) l;
+      }
+
+  first-tables : (k : Kind) → Linked k (tableOf k firstState)
+  unfolding tableOf firstState
+  first-tables ingredient = first-linked ingredient
+  first-tables cookware = first-linked cookware
+
+-- in every state that the pass reaches the tables are linked
+pub walk-linked : (text : List ℕ) (units : List NamedUnit) (flags : ℕ) (es : List Event) (st : State) → walk text units flags 1 (going firstState) es ≡ going st → (k : Kind)
+    → Linked k (tableOf k st)
+walk-linked text units flags es st q k =
+    walk-related (λ k es fs. Linked k es → Linked k fs) text units flags (linked-onward units flags) es 1 firstState st q k (first-tables units flags k)
