@@ -43,3 +43,4 @@ pub mod Answers
 pub mod Lost
 pub mod Refusals
 pub mod Limits
+pub mod LinkedRecipe

@@ -12,10 +12,9 @@ use Rattle.rules.specs.Basic.{pick, onSome}
 use Rattle.rules.specs.Words.{IntermediateTarget, targetStep, targetSection}
 use Rattle.rules.specs.Event.{Component, Intermediate, Event}
 use Rattle.rules.specs.Units.{NamedUnit}
-use Rattle.rules.specs.Modes.{Modes}
 use Rattle.rules.specs.Model.{Kind, ingredient, cookware, Target, toIngredient, toCookware, toStep, toSection, targetOf, Relation, definition, reference, Entry, entryWith, entryOf, setRelation, setModifiers}
 use Rattle.rules.specs.Reference.{Earlier, sameNameOf, entryAt, refersTo, asReferring, referredBy, setReferencedFrom, isDefinition}
-use Rattle.rules.specs.Checks.{resolveIntermediateRef, intermediateTarget, intermediateRelation}
+use Rattle.rules.specs.Checks.{intermediateTarget, intermediateRelation}
 use Rattle.rules.specs.State.{State, firstState, tableOf, going}
 use Rattle.rules.specs.Pass.{walk}
 use Rattle.rules.specs.Components.{Made, newEntry, foundSame, madeWith, madeByName, madeIntermediate, makeIngredient, referred, pushed, refersToReference}
@@ -60,7 +59,7 @@ pub record Linked (k : Kind) (es : List Entry) : Type 0 where
 
 -- ---- what refers
 
-own-target : (k : Kind) → isOwn k (targetOf k) ≡ true
+pub own-target : (k : Kind) → isOwn k (targetOf k) ≡ true
 unfolding isOwn targetOf
 own-target ingredient = refl
 own-target cookware = refl
@@ -346,6 +345,9 @@ unfolding intermediateRelation
 made-intermediate es i b none = made-definition b
 made-intermediate es i b (some j) = made-elsewhere _ j (elsewhere (i .target))
 
+abbrev pub LinkedAfter : Kind → List Entry → List Entry → Type 0
+LinkedAfter k es fs = Linked k es → Linked k fs
+
 not-false : (b : Bool) → not b ≡ false → b ≡ true
 not-false true q = refl
 not-false false q = no-truth (sym q)
@@ -369,13 +371,13 @@ module _ (units : List NamedUnit) (flags : ℕ) where
   unfolding makeIngredient madeIntermediate setRelation newEntry entryOf entryWith
   intermediate-linked c i st = made-intermediate (tableOf ingredient st) i _ _
 
-  made-linked : (k : Kind) (m : Made) (st : State) → MadeBy units flags st k m → refersToReference (m .refersTo) ≡ false
+  pub made-linked : (k : Kind) (m : Made) (st : State) → MadeBy units flags st k m → refersToReference (m .refersTo) ≡ false
       → MadeLinked k (tableOf k st) (m .entry .relation) (m .refersTo)
   made-linked k m st (by-name x c) n = by-name-linked x c st n
   made-linked k m st (by-place c i r) n = intermediate-linked c i st
 
   -- linked tables stay linked
-  pub linked-onward : Onward units flags (λ k es fs. Linked k es → Linked k fs)
+  pub linked-onward : Onward units flags LinkedAfter
   linked-onward =
       record {
         same = λ k es l. l;
@@ -383,13 +385,12 @@ module _ (units : List NamedUnit) (flags : ℕ) where
         more = λ k m st h n l. pushed-linked k m (tableOf k st) (made-linked k m st h n) l;
       }
 
-  first-tables : (k : Kind) → Linked k (tableOf k firstState)
-  unfolding tableOf firstState
-  first-tables ingredient = first-linked ingredient
-  first-tables cookware = first-linked cookware
+first-tables : (k : Kind) → Linked k (tableOf k firstState)
+unfolding tableOf firstState
+first-tables ingredient = first-linked ingredient
+first-tables cookware = first-linked cookware
 
 -- in every state that the pass reaches the tables are linked
 pub walk-linked : (text : List ℕ) (units : List NamedUnit) (flags : ℕ) (es : List Event) (st : State) → walk text units flags 1 (going firstState) es ≡ going st → (k : Kind)
     → Linked k (tableOf k st)
-walk-linked text units flags es st q k =
-    walk-related (λ k es fs. Linked k es → Linked k fs) text units flags (linked-onward units flags) es 1 firstState st q k (first-tables units flags k)
+walk-linked text units flags es st q k = walk-related units flags LinkedAfter (linked-onward units flags) text es 1 firstState st q k (first-tables k)

@@ -1,7 +1,7 @@
 -- What a line does to the tables of components: nothing, or one component more. So what holds of a table and the table with
 -- one component more, holds from line to line.
 use Prim.Native.Nat.{ℕ, suc}
-use mathlib.Core.Path.{_≡_, refl, sym, ap, subst}
+use mathlib.Core.Path.{_≡_, refl, sym, subst}
 use mathlib.Core.List.{List, [], _∷_}
 use mathlib.Core.Bool.{Bool, true, false, not}
 use mathlib.Core.Option.{Option, none, some}
@@ -157,46 +157,46 @@ pub record Onward (units : List NamedUnit) (flags : ℕ) (T : Kind → List Entr
   pub more : (k : Kind) (m : Made) (st : State) → MadeBy units flags st k m → refersToReference (m .refersTo) ≡ false
       → T k (tableOf k st) (pushed m (tableOf k st))
 
-module _ (T : Kind → List Entry → List Entry → Type 0) where
-  abbrev pub Related : State → State → Type 0
-  Related st after = (k : Kind) → T k (tableOf k st) (tableOf k after)
+abbrev pub Related : (Kind → List Entry → List Entry → Type 0) → State → State → Type 0
+Related T st after = (k : Kind) → T k (tableOf k st) (tableOf k after)
 
-  module _ (text : List ℕ) (units : List NamedUnit) (flags : ℕ) (o : Onward units flags T) where
-    kept-related : (st after : State) → SameTables st after → Related st after
-    unfolding tableOf
-    kept-related st after h ingredient = subst (T ingredient (st .tables .ingredients)) (sym (h .0)) (o .same ingredient (st .tables .ingredients))
-    kept-related st after h cookware = subst (T cookware (st .tables .cookware)) (sym (h .1)) (o .same cookware (st .tables .cookware))
+module _ (units : List NamedUnit) (flags : ℕ) (T : Kind → List Entry → List Entry → Type 0) (o : Onward units flags T) where
+  kept-related : (st after : State) → SameTables st after → Related T st after
+  unfolding tableOf
+  kept-related st after h ingredient = subst (T ingredient (st .tables .ingredients)) (sym (h .0)) (o .same ingredient (st .tables .ingredients))
+  kept-related st after h cookware = subst (T cookware (st .tables .cookware)) (sym (h .1)) (o .same cookware (st .tables .cookware))
 
-    pushed-related : (st : State) (k : Kind) (es : List Entry) → T k (tableOf k st) es → Related st (setTable k es st)
-    unfolding tableOf setTable setTables
-    pushed-related st ingredient es h ingredient = h
-    pushed-related st ingredient es h cookware = o .same cookware (st .tables .cookware)
-    pushed-related st cookware es h ingredient = o .same ingredient (st .tables .ingredients)
-    pushed-related st cookware es h cookware = h
+  pushed-related : (st : State) (k : Kind) (es : List Entry) → T k (tableOf k st) es → Related T st (setTable k es st)
+  unfolding tableOf setTable setTables
+  pushed-related st ingredient es h ingredient = h
+  pushed-related st ingredient es h cookware = o .same cookware (st .tables .cookware)
+  pushed-related st cookware es h ingredient = o .same ingredient (st .tables .ingredients)
+  pushed-related st cookware es h cookware = h
 
-    same-related : (st after other : State) → after .tables ≡ other .tables → Related st other → Related st after
-    unfolding tableOf
-    same-related st after other q h ingredient = subst (λ (t : Tables). T ingredient (st .tables .ingredients) (t .ingredients)) (sym q) (h ingredient)
-    same-related st after other q h cookware = subst (λ (t : Tables). T cookware (st .tables .cookware) (t .cookware)) (sym q) (h cookware)
+  same-related : (st after other : State) → after .tables ≡ other .tables → Related T st other → Related T st after
+  unfolding tableOf
+  same-related st after other q h ingredient = subst (λ (t : Tables). T ingredient (st .tables .ingredients) (t .ingredients)) (sym q) (h ingredient)
+  same-related st after other q h cookware = subst (λ (t : Tables). T cookware (st .tables .cookware) (t .cookware)) (sym q) (h cookware)
 
-    line-related : (st : State) (s : Step) → TablesAfter units flags st s → OnStep (Related st) (λ n. Unit {0}) s
-    line-related st (next after) (tables-kept h) = kept-related st after h
-    line-related st (next after) (one-pushed k m h b q) = same-related st after _ q (pushed-related st k (pushed m (tableOf k st)) (o .more k m st h b))
-    line-related st (stop n) h = tt
+  pub line-related : (st : State) (s : Step) → TablesAfter units flags st s → OnStep (Related T st) (λ n. Unit {0}) s
+  line-related st (next after) (tables-kept h) = kept-related st after h
+  line-related st (next after) (one-pushed k m h b q) = same-related st after _ q (pushed-related st k (pushed m (tableOf k st)) (o .more k m st h b))
+  line-related st (stop n) h = tt
 
-    further-step : (first st : State) → Related first st → (s : Step) → OnStep (Related st) (λ n. Unit {0}) s → OnStep (Related first) (λ n. Unit {0}) s
-    further-step first st p (next after) h = λ k. o .further (p k) (h k)
-    further-step first st p (stop n) h = tt
+  further-step : (first st : State) → Related T first st → (s : Step) → OnStep (Related T st) (λ n. Unit {0}) s → OnStep (Related T first) (λ n. Unit {0}) s
+  further-step first st p (next after) h = λ k. o .further (p k) (h k)
+  further-step first st p (stop n) h = tt
 
-    event-related : (first : State) (e : Event) (st : State) → Related first st → OnStep (Related first) (λ n. Unit {0}) (onEvent text units flags e st)
+  module _ (text : List ℕ) where
+    event-related : (first : State) (e : Event) (st : State) → Related T first st → OnStep (Related T first) (λ n. Unit {0}) (onEvent text units flags e st)
     event-related first e st p = further-step first st p (onEvent text units flags e st) (line-related st _ (event-tables text units flags st e))
 
-    pub step-related : (line : ℕ) (e : Event) (st after : State) → step text units flags line e (going st) ≡ going after → Related st after
+    pub step-related : (line : ℕ) (e : Event) (st after : State) → step text units flags line e (going st) ≡ going after → Related T st after
     step-related line e st after q =
-        subst (OnWalk (Related st) (λ n. Unit {0})) q
-        (step-keeps (Related st) (λ n. Unit {0}) text units flags tt (event-related st) line e (going st) (λ k. o .same k (tableOf k st)))
+        subst (OnWalk (Related T st) (λ n. Unit {0})) q
+        (step-keeps (Related T st) (λ n. Unit {0}) text units flags tt (event-related st) line e (going st) (λ k. o .same k (tableOf k st)))
 
-    pub walk-related : (es : List Event) (line : ℕ) (st final : State) → walk text units flags line (going st) es ≡ going final → Related st final
+    pub walk-related : (es : List Event) (line : ℕ) (st final : State) → walk text units flags line (going st) es ≡ going final → Related T st final
     walk-related es line st final q =
-        subst (OnWalk (Related st) (λ n. Unit {0})) q
-        (walk-keeps (Related st) (λ n. Unit {0}) text units flags tt (event-related st) es line (going st) (λ k. o .same k (tableOf k st)))
+        subst (OnWalk (Related T st) (λ n. Unit {0})) q
+        (walk-keeps (Related T st) (λ n. Unit {0}) text units flags tt (event-related st) es line (going st) (λ k. o .same k (tableOf k st)))
