@@ -1,2 +1,4 @@
 pub mod Links
 pub mod Rows
+pub mod Hand
+pub mod Again
