@@ -1,4 +1,5 @@
 pub mod Links
 pub mod Rows
+pub mod Records
 pub mod Hand
 pub mod Again
