@@ -38,3 +38,12 @@ by-bool false f g = g refl
 
 pub nearer : (i m : ℕ) → i < m → m - suc i < m - i
 nearer i m l = omega arith
+
+-- ---- tests
+pub holds : (t : Bool) → T t → t ≡ true
+holds true _ = refl
+holds false a = absurd a
+
+pub fails : (t : Bool) → T (not t) → t ≡ false
+fails true a = absurd a
+fails false _ = refl
