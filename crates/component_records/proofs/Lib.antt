@@ -1,5 +1,6 @@
 pub mod Links
 pub mod Rows
 pub mod Records
+pub mod Pairs
 pub mod Hand
 pub mod Again
