@@ -1,8 +1,8 @@
 -- A table as it is lent: the records and then empty ones, the pairs and then zeros.
-use mathlib.Core.Path.{_≡_, refl, sym, _∙_, ap, subst}
-use Prim.Native.Nat.{ℕ, zero, suc, _-_, _*_, _≤_}
+use mathlib.Core.Path.{_≡_, sym, _∙_, ap, subst}
+use Prim.Native.Nat.{ℕ, zero, suc, _-_, _≤_}
 use native.Mathlib.Omega.{arith}
-use mathlib.Core.List.{List, [], _++_}
+use mathlib.Core.List.{List, _++_}
 use lib.ListN.{length, take, drop, replicate, length-append, length-replicate}
 use native.Mathlib.Nat.{sub-zero, zero-sub}
 use Rattle.component_records.specs.declared.Component.{Component}

@@ -1,8 +1,8 @@
 -- One pair: what `link` answers, and the next place.
-use mathlib.Core.Path.{_≡_, refl, sym, ap, _∙_}
+use mathlib.Core.Path.{_≡_, sym, ap, _∙_}
 use Prim.Native.Nat.{ℕ, _+_, _*_}
 use native.Mathlib.Nat.{add-zero}
-use mathlib.Core.Bool.{Bool, true, false}
+use mathlib.Core.Bool.{true, false}
 use mathlib.Core.List.{List, [], _∷_}
 use lib.ListN.{getD}
 use lib.Seq.{sets}
@@ -13,7 +13,7 @@ use Rattle.component_records.specs.declared.Component.{Component}
 use Rattle.component_records.specs.declared.Linked.{Linked}
 use Rattle.component_records.specs.declared.Linked.the-variants.{Pair, Reference as Refused}
 use Rattle.component_records.specs.Records.{noComponent}
-use Rattle.component_records.specs.Links.{defines, isOwn, LinkedAs, placeAfter, pairAt, ownAt, RefersBack}
+use Rattle.component_records.specs.Links.{isOwn, LinkedAs, placeAfter, pairAt, ownAt, RefersBack}
 
 module _ {ps : List ℕ} {n d r : ℕ} where
   pub linked : {k : Relation} {ps′ : List ℕ} → k ≡ Definition → ps′ ≡ sets ps (n * 2) (d ∷ r ∷ []) → LinkedAs k ps n d r ps′ Pair

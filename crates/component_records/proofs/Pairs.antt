@@ -1,11 +1,11 @@
 -- The pairs of a list of records: their number, and as the loop of `link_records` puts them.
 use mathlib.Core.Path.{_≡_, refl, sym, _∙_, ap, subst}
 use Prim.Native.Nat.{ℕ, zero, suc, _+_, _-_, _*_, _<_, _≤_}
-use native.Mathlib.Nat.{le-of-suc-le-suc, not-suc-le-zero, le-refl, le-of-lt, add-zero, zero-add, add-suc}
+use native.Mathlib.Nat.{le-refl, le-of-lt, add-zero, zero-add, add-suc}
 use native.Mathlib.Omega.{arith}
 use mathlib.Core.Bool.{Bool, true, false}
 use mathlib.Core.List.{List, [], _∷_, _++_, append-assoc, append-nil}
-use lib.ListN.{length, getD, take, drop, replicate, length-append, length-take, length-drop}
+use lib.ListN.{length, getD, take, drop, length-append}
 use lib.Seq.{sets, length-sets, sets-eq, take-suc, take-at, drop-append-add, drop-drop, getD-take, length-take-le}
 use Rattle.rules.specs.Basic.{pick}
 use Rattle.model.specs.declared.Relation.the-variants.{Definition}
@@ -121,8 +121,8 @@ module _ (all : List Component) where
       let is : linked ps i ≡ so-far ++ drop k ps = front ps i (le-of-lt h) (omega arith) in
       let kept : take k (linked ps i) ≡ so-far = ap (take k) is ∙ take-at so-far (drop k ps) k s in
       let rest : drop (k + length vs) (linked ps i) ≡ drop (counted (suc i) * 2) ps
-          = ap (drop (k + length vs)) is ∙ ap (λ (n : ℕ). drop (n + length vs) (so-far ++ drop k ps)) (sym s) ∙ drop-append-add so-far (drop k ps) (length vs)
-              ∙ drop-drop (length vs) k ps ∙ ap (λ (n : ℕ). drop n ps) e in
+      = ap (drop (k + length vs)) is ∙ ap (λ (n : ℕ). drop (n + length vs) (so-far ++ drop k ps)) (sym s) ∙ drop-append-add so-far (drop k ps) (length vs)
+      ∙ drop-drop (length vs) k ps ∙ ap (λ (n : ℕ). drop n ps) e in
       sets-eq vs (linked ps i) k (omega (arith, v, l))
       ∙ ap (λ (x : List ℕ). (x ++ vs) ++ drop (k + length vs) (linked ps i)) kept
       ∙ ap (λ (x : List ℕ). (so-far ++ vs) ++ x) rest

@@ -1,8 +1,8 @@
 -- One record: of a row's relation, and of a row past the last.
-use mathlib.Core.Path.{_≡_, refl, sym, ap, _∙_}
+use mathlib.Core.Path.{_≡_, ap, _∙_}
 use Prim.Native.Nat.{ℕ, _+_, _-_, _*_, _<_, _≤_}
 use mathlib.Core.List.{List}
-use mathlib.Core.Bool.{Bool, true, false}
+use mathlib.Core.Bool.{false}
 use native.Mathlib.Omega.{arith}
 use lib.Dec.{ltb}
 use lib.ListN.{length, take, drop, length-drop}
@@ -11,7 +11,6 @@ use borrow.Author.Tests.{lt-ltb, le-ltb}
 use Rattle.rules.specs.Basic.{pick}
 use Rattle.model.specs.Rows.{rowAt, rowOf}
 use Rattle.model.specs.declared.Target.{Target}
-use Rattle.model.specs.declared.Relation.{Relation}
 use Rattle.model.specs.declared.Relation.the-variants.{Definition, Reference}
 use Rattle.model.specs.declared.RelationRecord.{RelationRecord}
 use Rattle.model.specs.declared.Row.{Row}
@@ -50,16 +49,16 @@ in-rest words from i er ec =
 
 pub row-record : (r : Row) {g : RelationRecord} → g ≡ lentRelation (r .relation)
     → record {
-        «line_at» = r .«line_at»;
-        «line_end» = r .«line_end»;
-        «name_at» = r .«name_at»;
-        «name_end» = r .«name_end»;
-        recipe = r .recipe;
-        reference = r .reference;
-        hidden = r .hidden;
-        opt = r .opt;
-        new = r .new;
-        relation = g;
-      } ≡ componentOf r
+      «line_at» = r .«line_at»;
+      «line_end» = r .«line_end»;
+      «name_at» = r .«name_at»;
+      «name_end» = r .«name_end»;
+      recipe = r .recipe;
+      reference = r .reference;
+      hidden = r .hidden;
+      opt = r .opt;
+      new = r .new;
+      relation = g;
+    } ≡ componentOf r
 unfolding componentOf
 row-record r e = simp e

@@ -1,7 +1,7 @@
 -- What a lent record says: the fields of a component's row in work memory.
 use Prim.Native.Nat.{ℕ, zero, suc}
 use mathlib.Core.List.{List, [], _∷_, _++_}
-use mathlib.Core.Bool.{Bool, true, false}
+use mathlib.Core.Bool.{Bool, false}
 use lib.ListN.{drop}
 use Rattle.model.specs.Rows.{rowAt, rowOf}
 use Rattle.model.specs.declared.Relation.{Relation}

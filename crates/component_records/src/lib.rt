@@ -204,10 +204,7 @@ pub fn link_record(all: &mut [Component], i: usize, pairs: &mut [u32], n: usize)
 {
     let g = all[i].relation;
     if is_own_reference(g) {
-        return place_after(
-            set_referenced_from(all, i, g.index as usize, pairs, n),
-            n,
-        );
+        return place_after(set_referenced_from(all, i, g.index as usize, pairs, n), n);
     }
     n
 }
@@ -242,7 +239,7 @@ pub fn lend_table(
         × Linkable (recordsIn (now words) from count) (length (now pairs)) ⌝ }
     ensures { λ r. ⌜ (now (all .exit) ≡ recordsIn (now (words .entry)) from count ++ replicate (length (now (all .entry)) - count) noComponent)
         × (now (pairs .exit) ≡ pairsOf (recordsIn (now (words .entry)) from count)
-            ++ replicate (length (now (pairs .entry)) - length (pairsOf (recordsIn (now (words .entry)) from count))) 0)
+        ++ replicate (length (now (pairs .entry)) - length (pairsOf (recordsIn (now (words .entry)) from count))) 0)
         × (r ≡ ownCount (recordsIn (now (words .entry)) from count)) ⌝ }
 {
     lend_records(words, from, count, all);

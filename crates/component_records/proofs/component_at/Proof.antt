@@ -3,10 +3,6 @@ use native.Mathlib.Omega.{arith}
 use Rattle.component_records.proofs.Rows.{within-row, no-row, a-row}
 use Rattle.component_records.proofs.component_at.Statement.{statement}
 use Rattle.component_records.proofs.component_at.Tie as tie
-use Rattle.component_records.proofs.component_at.Reads as reads
-use Rattle.component_records.proofs.component_at.Lts as lts
-use Rattle.component_records.proofs.component_in.Reads as component-in-reads
-use Rattle.component_records.proofs.no_component.Reads as no-component-reads
 
 -- src/lib.rt:106:9
 no-component-requires : tie.Need-no-component-requires

@@ -1,12 +1,7 @@
 use borrow.Author.Needs.{needs}
-use native.Mathlib.Omega.{arith}
 use Rattle.component_records.proofs.Rows.{in-rest}
 use Rattle.component_records.proofs.component_in.Statement.{statement}
 use Rattle.component_records.proofs.component_in.Tie as tie
-use Rattle.component_records.proofs.component_in.Reads as reads
-use Rattle.component_records.proofs.component_in.Lts as lts
-use Rattle.component_records.proofs.component_of.Reads as component-of-reads
-use Rattle.model.proofs.row_at.Reads as row-at-reads
 
 -- src/lib.rt:97:32
 mul-row-at : tie.Need-mul-row-at

@@ -1,11 +1,7 @@
 use borrow.Author.Needs.{needs}
-use native.Mathlib.Omega.{arith}
 use Rattle.component_records.proofs.Rows.{row-record}
 use Rattle.component_records.proofs.component_of.Statement.{statement}
 use Rattle.component_records.proofs.component_of.Tie as tie
-use Rattle.component_records.proofs.component_of.Reads as reads
-use Rattle.component_records.proofs.component_of.Lts as lts
-use Rattle.component_records.proofs.lent_relation.Reads as lent-relation-reads
 
 -- src/lib.rt:88:19
 lent-relation-requires : tie.Need-lent-relation-requires

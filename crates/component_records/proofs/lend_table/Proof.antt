@@ -1,6 +1,6 @@
 -- `component_records::lend_table` meets its contract: a walk of its MIR, by hand. The records are lent again to `lend_records` and the pairs to `clear_words`, and come back (`Again.antt`); then both are passed on to `link_records`, at their own lifetimes, and are given up for good.
 -- Assumes nothing.
-use mathlib.Core.Path.{_≡_, refl, sym, _∙_, ap, subst}
+use mathlib.Core.Path.{_≡_, refl, sym, _∙_, subst}
 use Prim.Native.Nat.{ℕ, _+_, _-_, _*_, _<_, _≤_, _^_}
 use mathlib.Core.List.{List, [], _∷_, _++_}
 use lib.ListN.{length, take, drop, replicate}
@@ -22,7 +22,7 @@ use types.Tokens.{lft-new, lft-end}
 use types.Part.{agg, whole, sub, look-in}
 use types.Run.{look, init, store, forget, stop, hop, fld, from, load, addr, and-then, no-more, assigns, land, returns, enter, alloc1, alloc0, params1, pass1, pass0, free1, free0}
 use sound.WpLaws.{FmC, fmOf, WpFn-mono}
-use denote.RattleType.{RattleType, owns}
+use denote.RattleType.{owns}
 use denote.Laws.{Is, shows}
 use denote.Plain.{Nothing, nothing-lawful, uint-makes, uint-lawful, uint-vals, uint-tells}
 use denote.Builtin.{u32, usize}
@@ -43,7 +43,7 @@ use Rattle.clearing.proofs.clear_words.Symbol as clear-def
 use Rattle.clearing.proofs.clear_words.Symbol.{name as #clearing·clear-words}
 use Rattle.clearing.proofs.clear_words.Met as clear-thm
 use Rattle.component_records.specs.declared.Component.{Component}
-use Rattle.component_records.specs.Records.{noComponent, recordsIn}
+use Rattle.component_records.specs.Records.{recordsIn}
 use Rattle.component_records.specs.Links.{pairsOf, ownCount, Linkable}
 use Rattle.component_records.proofs.Hand.{R}
 use Rattle.component_records.proofs.Again.{LentAgain, lends-again, comes-back}
@@ -168,7 +168,7 @@ module _ {M : Type 1} (𝓤 : URA M) (H : Heap 𝓤) (A : Atoms 𝓤) (W : Given
       nothing ! $ move ! (3 ∷ 0 ∷ []) $ fjoin ! $ move ! (2 ∷ 0 ∷ []) $ fjoin ! $ owned ! usize (Is usize) (uint-makes 𝓤 H A W w64) m _ (refl, gm) $ fjoin ! $ owned ! usize (Is usize) (uint-makes 𝓤 H A W w64) a _ (refl, ga) $ fjoin ! $ move ! (1 ∷ 0 ∷ []) $ fjoin ! $ done !
 
   module _ (C : Calls 𝓤 H) (Λ : Loops 𝓤 H) (fm : FmC 𝓤 H (W .laws) C) (fill-known : Triple 𝓤 (C #component-records·lend-records) (Fill 𝓤 H A mem run)) (clear-known : Triple 𝓤 (C #clearing·clear-words) (Clear 𝓤 H A mem run))
-    (link-known : Triple 𝓤 (C #component-records·link-records) (Link 𝓤 H A mem run)) where
+      (link-known : Triple 𝓤 (C #component-records·link-records) (Link 𝓤 H A mem run)) where
     walk : Room u32 (length ws) → Room R (length ys) → Room u32 (length ps) → (m ≤ 513) × (0 < m → a + m * 12 ≤ length ws) × (m ≤ length ys) → Linkable rows (length ps)
         → ent 𝓤 (onEntry 𝓤 H A f.signature (κ, (κ′, (κ″, tt))) (q, (q′, (q″, tt))) x at) (WpFn 𝓤 H C Λ code.function (s ∷ vint w64 a ∷ vint w64 m ∷ s′ ∷ s″ ∷ []) Post)
     walk room room′ room″ need able =

@@ -1,10 +1,7 @@
 use borrow.Author.Needs.{needs}
-use native.Mathlib.Omega.{arith}
 use Rattle.component_records.proofs.Rows.{lent-definition, lent-reference}
 use Rattle.component_records.proofs.lent_relation.Statement.{statement}
 use Rattle.component_records.proofs.lent_relation.Tie as tie
-use Rattle.component_records.proofs.lent_relation.Reads as reads
-use Rattle.component_records.proofs.lent_relation.Lts as lts
 
 enum-told : tie.Need-enum-told
 enum-told c = search needs

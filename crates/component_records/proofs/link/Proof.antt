@@ -1,11 +1,7 @@
 use borrow.Author.Needs.{needs}
-use native.Mathlib.Omega.{arith}
 use Rattle.component_records.proofs.Links.{linked, refused}
 use Rattle.component_records.proofs.link.Statement.{statement}
 use Rattle.component_records.proofs.link.Tie as tie
-use Rattle.component_records.proofs.link.Reads as reads
-use Rattle.component_records.proofs.link.Lts as lts
-use Rattle.model.proofs.put_pair.Reads as put-pair-reads
 
 enum-told : tie.Need-enum-told
 enum-told c = search needs

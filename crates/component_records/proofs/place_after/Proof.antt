@@ -1,10 +1,7 @@
 use borrow.Author.Needs.{needs}
-use native.Mathlib.Omega.{arith}
 use Rattle.component_records.proofs.Links.{after-pair}
 use Rattle.component_records.proofs.place_after.Statement.{statement}
 use Rattle.component_records.proofs.place_after.Tie as tie
-use Rattle.component_records.proofs.place_after.Reads as reads
-use Rattle.component_records.proofs.place_after.Lts as lts
 
 -- src/lib.rt:183:25
 enum-told : tie.Need-enum-told
