@@ -3,7 +3,7 @@ use Prim.Native.Nat.{ℕ, _+_, _*_, _≤_, _<_}
 use mathlib.Core.Path.{_≡_}
 use mathlib.Core.List.{List}
 use lib.Dec.{leb}
-use lib.ListN.{length, take}
+use lib.ListN.{length, take, drop}
 use Rattle.rules.specs.Basic.{pick}
 use Rattle.rules.specs.Answer as rules
 use Rattle.rules.specs.Answer.{answered, declined, Lent, collectAnswer, plainAnswer, outAfter, workAfter, printed}
@@ -97,7 +97,9 @@ Collected sheet text units flags m w b o r = AnswerLeft (collectAnswer sheet tex
 abbrev pub PlainFormed : List ℕ → List ℕ → List ℕ → ℕ → Lent → List ℕ → List ℕ → List ℕ → Answer → Type 0
 PlainFormed sheet text units flags m w b o r = AnswerLeft (plainAnswer sheet text units flags m) m w b o r
 
--- what the programs print of an answer r in the output o₀: n bytes at the front of o
+-- what the programs print of an answer r in the output o₀: n bytes at the front of o; the rest is as it was. Ruled out: a program
+-- that prints the page's bytes behind a refusal's line (`is`); one that lets a refusal's line run over what stood past it (`rest`).
 pub record PrintedAt (r : Answer) (o₀ o : List ℕ) (n : ℕ) : Type 0 where
   pub is : take n o ≡ printed (answerOf r o₀)
+  pub rest : drop n o ≡ drop n o₀
   pub fits : n ≤ length o
