@@ -3,7 +3,7 @@
  * Link with target/staticlib/librecipe.a (made by `rt staticlib recipe`; x86-64). The library allocates nothing, keeps
  * nothing between calls, calls nothing but memcpy, memmove and memset, and may be used from several threads at once as
  * long as each lends its own memory. No input makes it read or write outside what is lent, loop for ever or stop the
- * program: this is proved of its source, as is everything said below.
+ * program: this is proved of its source, as is what is said below of answers and of what is left in memory.
  *
  * A slice is a pointer and a length. A pointer must not be null, also where its length is 0, and must be aligned for
  * its type. What is written to (words, bytes, out) must overlap nothing else that is lent.
@@ -28,7 +28,7 @@ size_t recipe_bytes(void);
  * The answer holds a number in its upper 32 bits. 0: the page was written, and the lower 32 bits are its length in bytes.
  * Else the input was refused by that number (docs/FINDINGS.md says what each means), and the lower 32 bits are the line
  * of the sheet, from 1, or 0 where no line is at fault. 1 is also the answer where work memory is too short, and 20 where
- * the page is longer than `out`.
+ * the page is longer than `out`. Of an `out` of 4,294,967,296 bytes or more the first 4,294,967,295 are used.
  *
  * Afterwards `words`, `bytes` and all of `out` past the page are zero; after a refusal all of `out` is.
  * What the memory held before does not matter.

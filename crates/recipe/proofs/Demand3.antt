@@ -17,16 +17,11 @@ use Rattle.rules.proofs.Basics.{pick-either}
 use Rattle.rules.proofs.Lending.{plain-lent}
 use Rattle.rules.proofs.PlainForm as rules-proofs
 use Rattle.recipe.specs.declared.Answer.{Answer}
+use Rattle.recipe.proofs.Clears.{not-answered, same-bytes}
 use Rattle.recipe.specs.Answers.{answerOf, PlainFormed}
 use Rattle.recipe.specs.Demand3.{SameCollected, Hands, Demand3}
 
 -- ---- with the memory lent
-not-answered : {P : Type 0} {n l : ℕ} {f : List ℕ} → declined n l ≡ answered f → P
-not-answered q = absurd (let z : _≡_ {A = ℕ} 0 1 = cc in omega arith)
-
-same-bytes : {a b : List ℕ} → answered a ≡ answered b → a ≡ b
-same-bytes q = cc
-
 abbrev Lends : Bool → ℕ → rules.Answer → List ℕ → Type 0
 Lends s room x form = (s ≡ false) × (length form ≤ room) × (x ≡ answered form)
 

@@ -5,7 +5,7 @@ use mathlib.Core.List.{List, [], _∷_, _++_}
 use native.Mathlib.Omega.{arith}
 use lib.Dec.{ltb}
 use lib.ListN.{length, take, drop, length-append}
-use lib.Seq.{take-at}
+use lib.Seq.{take-at, drop-at}
 use Rattle.rules.specs.Basic.{codes, tab, lf, digits, decimal}
 use Rattle.rules.specs.Sheet.{escape, escapeChar, refusedLine}
 use Rattle.rules.specs.Answer.{printed}
@@ -48,7 +48,7 @@ refused-short n l =
 module _ {r : Answer} {o₀ : List ℕ} where
   pub page-printed : {n : ℕ} → usedOf r ≤ length o₀ → r ≡ Page n → PrintedAt r o₀ o₀ n
   unfolding usedOf answerOf printed
-  page-printed {n} h q = rw q record { is = refl; fits = rw q at h }
+  page-printed {n} h q = rw q record { is = refl; rest = refl; fits = rw q at h }
 
   pub refusal-printed : {n l k : ℕ} {o : List ℕ} → 30 ≤ length o₀ → r ≡ Refused n l → Put (refusedLine n l) o₀ 0 o k → PrintedAt r o₀ o k
   unfolding answerOf printed
@@ -59,5 +59,8 @@ module _ {r : Answer} {o₀ : List ℕ} where
       rw q
       record {
         is = ap (take k) (put-fits p f) ∙ take-at (refusedLine n l) (drop (0 + length (refusedLine n l)) o₀) k (sym e);
+        rest =
+            ap (drop k) (put-fits p f) ∙ drop-at (refusedLine n l) (drop (0 + length (refusedLine n l)) o₀) k (sym e)
+            ∙ ap (λ (j : ℕ). drop j o₀) (let x : 0 + length (refusedLine n l) ≡ k = omega (arith, e) in x);
         fits = omega (arith, keeps p);
       }

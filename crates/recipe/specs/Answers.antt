@@ -1,9 +1,9 @@
 -- What an answer stands for, and what `collect` and `plain_form` leave in lent memory.
-use Prim.Native.Nat.{ℕ, _+_, _*_, _≤_}
+use Prim.Native.Nat.{ℕ, _+_, _*_, _≤_, _<_}
 use mathlib.Core.Path.{_≡_}
 use mathlib.Core.List.{List}
 use lib.Dec.{leb}
-use lib.ListN.{length, take}
+use lib.ListN.{length, take, drop}
 use Rattle.rules.specs.Basic.{pick}
 use Rattle.rules.specs.Answer as rules
 use Rattle.rules.specs.Answer.{answered, declined, Lent, collectAnswer, plainAnswer, outAfter, workAfter, printed}
@@ -31,6 +31,17 @@ codeOf (declined n l) = n * 4294967296 + l
 unfoldable pub answerCode : Answer → ℕ
 answerCode (Page n) = n
 answerCode (Refused n l) = n * 4294967296 + l
+
+-- the half of that number that holds a length counts no further: of a longer output only the front is used
+unfoldable pub usableOf : ℕ → ℕ
+usableOf room = pick (leb room 4294967295) room 4294967295
+
+-- the same work memory, and another output
+abbrev pub lends : Lent → ℕ → Lent
+lends m room = record { words = m .words; bytes = m .bytes; room = room }
+
+abbrev pub usableLent : Lent → Lent
+usableLent m = lends m (usableOf (m .room))
 
 -- so much is lent
 abbrev pub lengths : List ℕ → ℕ → List ℕ → Lent
@@ -69,9 +80,11 @@ pub record AnswerLeft (a : rules.Answer) (m : Lent) (w b o : List ℕ) (r : Answ
   pub words : w ≡ workAfter (m .words)
   pub bytes : b ≡ workAfter (m .bytes)
 
--- the same of the answer in one number
+-- The same of the answer in one number; a page's is below 2^32, so its upper half is 0. Ruled out: a program whose page of 2^32
+-- bytes reads as refusal 1 (`short`); one that clears the front of a longer output alone (`out`).
 pub record Coded (a : rules.Answer) (m : Lent) (w b o : List ℕ) (r : ℕ) : Type 0 where
   pub is : r ≡ codeOf a
+  pub short : (bytes : List ℕ) → a ≡ answered bytes → codeOf a < 4294967296
   pub out : o ≡ outAfter (m .room) a
   pub words : w ≡ workAfter (m .words)
   pub bytes : b ≡ workAfter (m .bytes)
@@ -84,7 +97,9 @@ Collected sheet text units flags m w b o r = AnswerLeft (collectAnswer sheet tex
 abbrev pub PlainFormed : List ℕ → List ℕ → List ℕ → ℕ → Lent → List ℕ → List ℕ → List ℕ → Answer → Type 0
 PlainFormed sheet text units flags m w b o r = AnswerLeft (plainAnswer sheet text units flags m) m w b o r
 
--- what the programs print of an answer r in the output o₀: n bytes at the front of o
+-- what the programs print of an answer r in the output o₀: n bytes at the front of o; the rest is as it was. Ruled out: a program
+-- that prints the page's bytes behind a refusal's line (`is`); one that lets a refusal's line run over what stood past it (`rest`).
 pub record PrintedAt (r : Answer) (o₀ o : List ℕ) (n : ℕ) : Type 0 where
   pub is : take n o ≡ printed (answerOf r o₀)
+  pub rest : drop n o ≡ drop n o₀
   pub fits : n ≤ length o

@@ -6,7 +6,7 @@ ghost use lib.ListN.{length};
 ghost use Rattle.rules.specs.Answer.{wordsNeeded, bytesNeeded, events, eventsOr, readSheet, collectAnswer, errorLine, formAnswer, plainAnswer};
 ghost use Rattle.unicode.specs.Tables.{unicodeTables};
 ghost use Rattle.page.specs.Pages.{RecipeGiven};
-ghost use Rattle.recipe.specs.Answers.{usedOf, answerCode, lengths, lentOf, pageOr20, Given, Answered, Collected, PlainFormed, Coded, PrintedAt};
+ghost use Rattle.recipe.specs.Answers.{usedOf, answerCode, usableOf, usableLent, lengths, lentOf, pageOr20, Given, Answered, Collected, PlainFormed, Coded, PrintedAt};
 ghost use Rattle.recipe.specs.Forms.{tells17, formGiven};
 use inputs::Inputs;
 use model::Held;
@@ -288,6 +288,16 @@ fn code(r: Answer) -> u64
     }
 }
 
+// How much of the output is used: the lower half of an answer holds a page's length.
+fn usable(room: usize) -> usize
+    ensures { λ r. ⌜ (r ≡ usableOf room) × (r ≤ room) ⌝ }
+{
+    if room <= 4294967295 {
+        return room;
+    }
+    4294967295
+}
+
 #[no_mangle]
 pub extern "C" fn recipe_words() -> usize
     ensures { λ r. ⌜ r ≡ wordsNeeded ⌝ }
@@ -312,9 +322,12 @@ pub extern "C" fn recipe_collect(
     bytes: &mut [u8],
     out: &mut [u8],
 ) -> u64
-    ensures { λ r. ⌜ Coded (collectAnswer (now (sheet .entry)) (now (text .entry)) (now (units .entry)) flags (lentOf (now (words .entry)) (now (bytes .entry)) (now (out .entry)))) (lentOf (now (words .entry)) (now (bytes .entry)) (now (out .entry))) (now (words .exit)) (now (bytes .exit)) (now (out .exit)) r ⌝ }
+    ensures { λ r. ⌜ Coded (collectAnswer (now (sheet .entry)) (now (text .entry)) (now (units .entry)) flags (usableLent (lentOf (now (words .entry)) (now (bytes .entry)) (now (out .entry))))) (lentOf (now (words .entry)) (now (bytes .entry)) (now (out .entry))) (now (words .exit)) (now (bytes .exit)) (now (out .exit)) r ⌝ }
 {
-    code(collect(sheet, text, units, flags, words, bytes, out))
+    let room = usable(out.len());
+    let r = collect(sheet, text, units, flags, words, bytes, &mut out[0..room]);
+    clearing::clear_from(out, room);
+    code(r)
 }
 
 #[no_mangle]
@@ -327,7 +340,10 @@ pub extern "C" fn recipe_plain_form(
     bytes: &mut [u8],
     out: &mut [u8],
 ) -> u64
-    ensures { λ r. ⌜ Coded (plainAnswer (now (sheet .entry)) (now (text .entry)) (now (units .entry)) flags (lentOf (now (words .entry)) (now (bytes .entry)) (now (out .entry)))) (lentOf (now (words .entry)) (now (bytes .entry)) (now (out .entry))) (now (words .exit)) (now (bytes .exit)) (now (out .exit)) r ⌝ }
+    ensures { λ r. ⌜ Coded (plainAnswer (now (sheet .entry)) (now (text .entry)) (now (units .entry)) flags (usableLent (lentOf (now (words .entry)) (now (bytes .entry)) (now (out .entry))))) (lentOf (now (words .entry)) (now (bytes .entry)) (now (out .entry))) (now (words .exit)) (now (bytes .exit)) (now (out .exit)) r ⌝ }
 {
-    code(plain_form(sheet, text, units, flags, words, bytes, out))
+    let room = usable(out.len());
+    let r = plain_form(sheet, text, units, flags, words, bytes, &mut out[0..room]);
+    clearing::clear_from(out, room);
+    code(r)
 }
