@@ -35,7 +35,8 @@ pub record PassDone (text : List ℕ) (us : List NamedUnit) (flags : ℕ) (sheet
 abbrev pub traceOf : List ℕ → List NamedUnit → ℕ → List ℕ → List Traced
 traceOf text us flags sheet = traceFrom text us flags 1 (going firstState) (eventsOr (readSheet text sheet))
 
--- the first fault: its number and line; or no fault, and the form's bytes at the front of a buffer that held o₀, or they do not fit
+-- the first fault: its number and line, and what the buffer then holds is the program's choice; or no fault, and the form's bytes
+-- at the front of a buffer that held o₀, or they do not fit
 unfoldable pub FormedAs : List ℕ → List NamedUnit → ℕ → List ℕ → List ℕ → List ℕ → Formed → Type 0
 FormedAs text us flags sheet o₀ o (Fault n l) = (a : Answer) → unlessFaulty us flags a (traceOf text us flags sheet) ≡ declined n l
 FormedAs text us flags sheet o₀ o (Length r) =

@@ -1,7 +1,7 @@
 -- A line that is a component, read again.
 use Prim.Native.Nat.{ℕ}
-use mathlib.Core.Path.{_≡_, refl}
-use mathlib.Core.Bool.{true}
+use mathlib.Core.Path.{_≡_, refl, sym}
+use mathlib.Core.Bool.{true, false}
 use mathlib.Core.Option.{some}
 use mathlib.Core.List.{List}
 use Rattle.rules.specs.Read.{parseLine}
@@ -71,6 +71,20 @@ module _ (line : List ℕ) where
   event-fields k (event.Inside (inside.Component c)) h w = component-fields k c h w
   event-fields k (event.Finding s n) h w = no-truth h
 
+  no-component : (c : ComponentEvent) → ((k : Kind) → isComponentOf k (componentEventIn line c) ≡ false) → viewOf c ≡ blankView
+  unfolding isComponentOf componentEventIn viewOf
+  no-component (component.Ingredient v i) h = no-truth (sym (h ingredient))
+  no-component (component.Cookware v) h = no-truth (sym (h cookware))
+  no-component (component.Timer s n q) h = refl
+
+  no-event : (e : EventView) → ((k : Kind) → isOfKind k (some (eventIn line e)) ≡ false) → viewIn e ≡ blankView
+  unfolding isOfKind isInsideOf eventIn insideIn viewIn viewInside
+  no-event (event.Between b) h = refl
+  no-event (event.Inside (inside.End b)) h = refl
+  no-event (event.Inside (inside.Text t)) h = refl
+  no-event (event.Inside (inside.Component c)) h = no-component c h
+  no-event (event.Finding s n) h = refl
+
 module _ {line : List ℕ} {v : EventView} (o : KnownEvent line v) where
   of-kind : (k : Kind) → isOfKind k (parseLine line) ≡ true → isOfKind k (some (eventIn line v)) ≡ true
   of-kind k h = rw (o .is) at h
@@ -82,4 +96,9 @@ module _ {line : List ℕ} {v : EventView} (o : KnownEvent line v) where
   pub recall-event : {c : ComponentView} → c ≡ viewIn v → Recalled line c
   recall-event x =
       rw x
-      (record { is = recall-is; within = λ k h. event-within line k v (of-kind k h) (o .within); fields = λ k h. event-fields line k v (of-kind k h) (o .fields) })
+      (record {
+        is = recall-is;
+        within = λ k h. event-within line k v (of-kind k h) (o .within);
+        fields = λ k h. event-fields line k v (of-kind k h) (o .fields);
+        nothing = λ h. no-event line v (λ k. rw (o .is) at (h k));
+      })

@@ -48,8 +48,10 @@ viewIn (event.Between b) = blankView
 viewIn (event.Inside i) = viewInside i
 viewIn (event.Finding s n) = blankView
 
--- where the line is a component of a kind, the view stands for that component, and its contents are whole fields of the line
+-- where the line is a component of a kind, the view stands for that component, and its contents are whole fields of the line;
+-- else it is the view of nothing
 pub record Recalled (line : List ℕ) (v : ComponentView) : Type 0 where
   pub is : (k : Kind) → isOfKind k (parseLine line) ≡ true → componentIn line v ≡ componentOfLine k line
   pub within : (k : Kind) → isOfKind k (parseLine line) ≡ true → ComponentWithin line v
   pub fields : (k : Kind) → isOfKind k (parseLine line) ≡ true → ComponentFields line v
+  pub nothing : ((k : Kind) → isOfKind k (parseLine line) ≡ false) → v ≡ blankView
