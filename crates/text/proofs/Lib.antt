@@ -3,3 +3,4 @@ pub mod Writes
 pub mod Names
 pub mod Paths
 pub mod Plain
+pub mod Seams

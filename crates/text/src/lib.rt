@@ -2,21 +2,22 @@
 // are read. The Unicode tables are lent.
 use unicode::Folded;
 ghost use mathlib.Core.Path.{_≡_};
-ghost use mathlib.Core.Bool.{_&&_};
-ghost use mathlib.Core.List.{[], _∷_};
-ghost use Prim.Native.Nat.{_≤_, _<_};
+ghost use mathlib.Core.Bool.{true, false, _&&_};
+ghost use Prim.Native.Nat.{_+_, _≤_, _<_};
 ghost use lib.Dec.{eqb};
-ghost use lib.ListN.{length};
+ghost use lib.ListN.{length, drop};
 ghost use Rattle.rules.specs.Basic.{blank, any};
 ghost use Rattle.rules.specs.Text.{retain, trimEnd, trimMatches};
-ghost use Rattle.rules.specs.Unicode.{isAlphanumeric, fold, sameName};
+ghost use Rattle.rules.specs.Unicode.{isAlphanumeric, sameName};
 ghost use Rattle.content.specs.Contents.{contentIn, keptIn};
+ghost use Rattle.content.proofs.Seams.{Opens};
 ghost use Rattle.unicode.specs.Tables.{unicodeTables};
 ghost use Rattle.output.specs.Put.{Put};
 ghost use Rattle.text.specs.Trims.{dropsOf, StartAt, EndAt, TrimmedBy, TrimmedTo, UnitTrimmedTo, PutTrimmed};
 ghost use Rattle.text.specs.Paths.{isBack, pathBytes};
 ghost use Rattle.text.specs.Names.{startCursor, stepOf, foldFrom, rest, told};
-ghost use Rattle.text.specs.Plain.{isPlain, isSingle, sameFrom, sameAfter};
+ghost use Rattle.text.specs.Plain.{isPlain};
+ghost use Rattle.text.specs.Seams.{sameAt, WordAt, Common, Seam, meetingOf, Met};
 
 // Which characters a trimming drops at both ends.
 pub enum Dropped {
@@ -344,70 +345,42 @@ fn is_plain(c: u8) -> bool
     c != b'\\'
 }
 
-// Whether a blank stands at a place and none after it.
-fn is_single(s: &[u8], i: usize) -> bool
-    requires { ⌜ i < length (now s) ⌝ }
-    ensures { λ r. ⌜ r ≡ isSingle (now (s .entry)) i ⌝ }
+// Whether the characters at a place of each of two names tell that they are not the same from there on: both are plain, and
+// not the two cases of one letter, which are 32 apart.
+fn is_parted(a: &[u8], i: usize, b: &[u8], j: usize) -> bool
+    ensures { λ r. ⌜ (r ≡ true → sameAt (now (a .entry)) i (now (b .entry)) j ≡ false) ⌝ }
 {
-    if s[i] != 32 {
+    if a.len() <= i {
         return false;
     }
-    let j = i + 1;
-    if s.len() <= j {
-        return true;
+    if b.len() <= j {
+        return false;
     }
-    s[j] != 32
-}
-
-// What a byte below 128 folds to.
-fn lower(c: u8) -> u8
-    requires { ⌜ c < 128 ⌝ }
-    ensures { λ r. ⌜ r ∷ [] ≡ fold c ⌝ }
-{
-    if c < 65 {
-        return c;
-    }
-    if 90 < c {
-        return c;
-    }
-    c + 32
-}
-
-// What the bytes at one place tell of two names that are the same before it.
-enum Bytes {
-    Same,
-    Other,
-    Unclear,
-}
-
-fn compare_at(a: &[u8], b: &[u8], i: usize) -> Bytes
-    requires { ⌜ (i < length (now a)) × (i < length (now b)) ⌝ }
-    ensures { λ r. ⌜ sameAfter (now (a .entry)) (now (b .entry)) i r ≡ sameFrom (now (a .entry)) (now (b .entry)) i ⌝ }
-{
     let x = a[i];
-    let y = b[i];
-    if is_plain(x) {
-        if x == y {
-            return Bytes::Same;
-        }
-        if !is_plain(y) {
-            return Bytes::Unclear;
-        }
-        if x % 32 != y % 32 {
-            return Bytes::Other;
-        }
-        if lower(x) == lower(y) {
-            return Bytes::Same;
-        }
-        return Bytes::Other;
+    let y = b[j];
+    if x % 32 == y % 32 {
+        return false;
     }
-    if !is_single(a, i) {
-        return Bytes::Unclear;
+    if !is_plain(x) {
+        return false;
     }
-    if !is_single(b, i) {
-        return Bytes::Unclear;
-    }
-    Bytes::Same
+    is_plain(y)
+}
+
+fn wide(b: u8) -> u32
+    ensures { λ r. ⌜ r ≡ b ⌝ }
+{
+    b as u32
+}
+
+// Four bytes as one number.
+fn word(s: &[u8], i: usize) -> u32
+    requires { ⌜ i + 4 ≤ length (now s) ⌝ }
+    ensures { λ r. ⌜ WordAt (now (s .entry)) i r ⌝ }
+{
+    let lower = wide(s[i]) + wide(s[i + 1]) * 256;
+    let upper = wide(s[i + 2]) + wide(s[i + 3]) * 256;
+    lower + upper * 65536
 }
 
 fn shorter(n: usize, m: usize) -> usize
@@ -416,26 +389,160 @@ fn shorter(n: usize, m: usize) -> usize
     if n < m { n } else { m }
 }
 
-// Whether two fields have the same folding, their blanks collapsed. No table is asked as long as their bytes tell.
-pub fn same_name(t: &[u32], a: &[u8], b: &[u8]) -> bool
-    requires { ⌜ now t ≡ unicodeTables ⌝ }
-    ensures { λ r. ⌜ r ≡ sameName (keptIn (now (a .entry))) (keptIn (now (b .entry))) ⌝ }
+// A length of the front that two names have in common; four bytes a turn.
+fn common_words(a: &[u8], b: &[u8]) -> usize
+    ensures { λ r. ⌜ Common (now (a .entry)) (now (b .entry)) r ⌝ }
 {
     let n = shorter(a.len(), b.len());
     let mut i = 0;
     while i < n {
-        let k = compare_at(a, b, i);
-        match k {
-            Bytes::Same => {
-                i += 1;
+        if n - i < 4 {
+            return i;
+        }
+        if word(a, i) != word(b, i) {
+            return i;
+        }
+        i += 4;
+    }
+    i
+}
+
+// The whole length of that front.
+fn common(a: &[u8], b: &[u8]) -> usize
+    ensures { λ r. ⌜ Common (now (a .entry)) (now (b .entry)) r ⌝ }
+{
+    let n = shorter(a.len(), b.len());
+    let mut i = common_words(a, b);
+    while i < n {
+        if a[i] != b[i] {
+            return i;
+        }
+        i += 1;
+    }
+    i
+}
+
+// Whether no blank stands at a place and no byte that goes on with a character.
+fn opens(s: &[u8], i: usize) -> bool
+    ensures { λ r. ⌜ (r ≡ true → Opens (drop i (now (s .entry)))) ⌝ }
+{
+    if s.len() <= i {
+        return true;
+    }
+    let c = s[i];
+    if c == 32 {
+        return false;
+    }
+    if c < 0x80 {
+        return true;
+    }
+    0xbf < c
+}
+
+// Whether the names can be cut at a place, the bytes before it being the same: no escape goes over it, and both rests open.
+fn is_seam(a: &[u8], b: &[u8], i: usize) -> bool
+    requires { ⌜ (0 < i) × Common (now a) (now b) i ⌝ }
+    ensures { λ r. ⌜ (r ≡ true → Seam (now (a .entry)) (now (b .entry)) i) ⌝ }
+{
+    if a[i - 1] == b'\\' {
+        return false;
+    }
+    if !opens(a, i) {
+        return false;
+    }
+    opens(b, i)
+}
+
+// A length of the common front that leaves two names with the same answer.
+fn seam(a: &[u8], b: &[u8]) -> usize
+    ensures { λ r. ⌜ Seam (now (a .entry)) (now (b .entry)) r ⌝ }
+{
+    let mut i = common(a, b);
+    while 0 < i {
+        if is_seam(a, b, i) {
+            return i;
+        }
+        i -= 1;
+    }
+    0
+}
+
+// What the characters at a place of each of two names tell of the names from there on: the answer, or where to go on.
+enum Meeting {
+    Answer(bool),
+    On(usize, usize),
+    Unclear,
+}
+
+// By the foldings of two characters.
+fn meet_folded(f: Folded, g: Folded, i: usize, j: usize) -> Meeting
+    ensures { λ r. ⌜ r ≡ meetingOf f g i j ⌝ }
+{
+    match f {
+        Folded::One(x) => {
+            match g {
+                Folded::One(y) => {
+                    if x == y {
+                        return Meeting::On(i, j);
+                    }
+                    Meeting::Answer(false)
+                }
+                Folded::Two(_, _) => Meeting::Unclear,
+                Folded::Three(_, _, _) => Meeting::Unclear,
             }
-            Bytes::Other => {
-                return false;
+        }
+        Folded::Two(_, _) => Meeting::Unclear,
+        Folded::Three(_, _, _) => Meeting::Unclear,
+    }
+}
+
+fn meet(t: &[u32], a: &[u8], i: usize, b: &[u8], j: usize) -> Meeting
+    requires { ⌜ now t ≡ unicodeTables ⌝ }
+    ensures { λ r. ⌜ Met (now (a .entry)) i (now (b .entry)) j r ⌝ }
+{
+    if is_parted(a, i, b, j) {
+        return Meeting::Answer(false);
+    }
+    if a.len() <= i {
+        return Meeting::Answer(b.len() <= j);
+    }
+    if b.len() <= j {
+        return Meeting::Answer(false);
+    }
+    let x = content::kept_char(a, i);
+    let y = content::kept_char(b, j);
+    let f = unicode::fold(t, x.code);
+    let g = unicode::fold(t, y.code);
+    meet_folded(f, g, i + x.size, j + y.size)
+}
+
+// Whether two fields have the same folding, their blanks collapsed. No table is asked where their bytes are the same.
+pub fn same_name(t: &[u32], a: &[u8], b: &[u8]) -> bool
+    requires { ⌜ now t ≡ unicodeTables ⌝ }
+    ensures { λ r. ⌜ r ≡ sameName (keptIn (now (a .entry))) (keptIn (now (b .entry))) ⌝ }
+{
+    if is_parted(a, 0, b, 0) {
+        return false;
+    }
+    let mut i = 0;
+    let mut j = 0;
+    loop {
+        let n = seam(&a[i..], &b[j..]);
+        i += n;
+        j += n;
+        let m = meet(t, a, i, b, j);
+        match m {
+            Meeting::Answer(r) => {
+                return r;
             }
-            Bytes::Unclear => {
+            Meeting::On(k, l) => {
+                i = k;
+                j = l;
+            }
+            Meeting::Unclear => {
                 break;
             }
         }
     }
-    same_rest(t, &a[i..], &b[i..])
+    same_rest(t, &a[i..], &b[j..])
 }
