@@ -4,3 +4,4 @@ pub mod Names
 pub mod Paths
 pub mod Plain
 pub mod Seams
+pub mod Lasts

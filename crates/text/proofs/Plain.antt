@@ -35,12 +35,12 @@ module _ (c : ℕ) where
 
 -- ---- a byte that is a character of the content, whatever stands before it, and is kept
 
-record Stands (s : List ℕ) (i : ℕ) : Type 0 where
-  below : getD s i 0 < 128
-  reads : keptIn (drop i s) ≡ getD s i 0 ∷ keptIn (drop (i + 1) s)
+pub record Stands (s : List ℕ) (i : ℕ) : Type 0 where
+  pub below : getD s i 0 < 128
+  pub reads : keptIn (drop i s) ≡ getD s i 0 ∷ keptIn (drop (i + 1) s)
 
 module _ (s : List ℕ) (i : ℕ) (h : i < length s) where
-  plain-stands : isPlain (getD s i 0) ≡ true → Stands s i
+  pub plain-stands : isPlain (getD s i 0) ≡ true → Stands s i
   unfolding isPlain
   plain-stands t =
       let w = and-left (within 33 126 (getD s i 0)) _ t in
@@ -48,12 +48,16 @@ module _ (s : List ℕ) (i : ℕ) (h : i < length s) where
       let l : getD s i 0 < 128 = omega (arith, within-to 33 126 (getD s i 0) w) in
       record { below = l; reads = kept-ascii s i h refl l n (λ e. omega (arith, within-from 33 126 (getD s i 0) w)) .reads }
 
+pub plain-solid : (c : ℕ) → isPlain c ≡ true → c ≡ 32 → ⊥
+unfolding isPlain
+plain-solid c t e = omega (arith, within-from 33 126 c (and-left (within 33 126 c) _ t))
+
 fold-stands : {s : List ℕ} {i : ℕ} → Stands s i → (l : ℕ) → l ∷ [] ≡ fold (getD s i 0) → foldName (keptIn (drop i s)) ≡ l ∷ foldName (keptIn (drop (i + 1) s))
 unfolding foldName
 fold-stands p l e = ap foldName (p .reads) ∙ rw (← e)
 
 -- the two cases of a letter are 32 apart
-case-apart : (c : ℕ) → pick (within 65 90 c) (c + 32) c % 32 ≡ c % 32
+pub case-apart : (c : ℕ) → pick (within 65 90 c) (c + 32) c % 32 ≡ c % 32
 case-apart c = go (within 65 90 c)
   where
     go : (upper : Bool) → pick upper (c + 32) c % 32 ≡ c % 32

@@ -3,7 +3,7 @@
 use unicode::Folded;
 ghost use mathlib.Core.Path.{_≡_};
 ghost use mathlib.Core.Bool.{true, false, _&&_};
-ghost use Prim.Native.Nat.{_+_, _≤_, _<_};
+ghost use Prim.Native.Nat.{ℕ, _+_, _≤_, _<_};
 ghost use lib.Dec.{eqb};
 ghost use lib.ListN.{length, drop};
 ghost use Rattle.rules.specs.Basic.{blank, any};
@@ -367,6 +367,36 @@ fn is_parted(a: &[u8], i: usize, b: &[u8], j: usize) -> bool
     is_plain(y)
 }
 
+// Whether the last bytes of two names tell that they are not the same: the bytes before them start no escape, and both are
+// plain and not the two cases of one letter.
+fn is_parted_last(a: &[u8], b: &[u8]) -> bool
+    ensures { λ r. ⌜ (r ≡ true → sameName (keptIn (now (a .entry))) (keptIn (now (b .entry))) ≡ false) ⌝ }
+{
+    let n = a.len();
+    let m = b.len();
+    if n < 2 {
+        return false;
+    }
+    if m < 2 {
+        return false;
+    }
+    let x = a[n - 1];
+    let y = b[m - 1];
+    if x % 32 == y % 32 {
+        return false;
+    }
+    if a[n - 2] == b'\\' {
+        return false;
+    }
+    if b[m - 2] == b'\\' {
+        return false;
+    }
+    if !is_plain(x) {
+        return false;
+    }
+    is_plain(y)
+}
+
 fn wide(b: u8) -> u32
     ensures { λ r. ⌜ r ≡ b ⌝ }
 {
@@ -389,16 +419,23 @@ fn shorter(n: usize, m: usize) -> usize
     if n < m { n } else { m }
 }
 
+// From how many places on four bytes follow, in names of so many bytes.
+fn words_in(n: usize) -> usize
+    ensures { λ r. ⌜ (r ≤ n) × ((i : ℕ) → i < r → i + 4 ≤ n) ⌝ }
+{
+    if n < 4 {
+        return 0;
+    }
+    n - 3
+}
+
 // A length of the front that two names have in common; four bytes a turn.
 fn common_words(a: &[u8], b: &[u8]) -> usize
     ensures { λ r. ⌜ Common (now (a .entry)) (now (b .entry)) r ⌝ }
 {
-    let n = shorter(a.len(), b.len());
+    let n = words_in(shorter(a.len(), b.len()));
     let mut i = 0;
     while i < n {
-        if n - i < 4 {
-            return i;
-        }
         if word(a, i) != word(b, i) {
             return i;
         }
@@ -522,6 +559,9 @@ pub fn same_name(t: &[u32], a: &[u8], b: &[u8]) -> bool
     ensures { λ r. ⌜ r ≡ sameName (keptIn (now (a .entry))) (keptIn (now (b .entry))) ⌝ }
 {
     if is_parted(a, 0, b, 0) {
+        return false;
+    }
+    if is_parted_last(a, b) {
         return false;
     }
     let mut i = 0;
