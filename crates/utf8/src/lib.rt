@@ -1,11 +1,11 @@
 ghost use mathlib.Core.Path.{_≡_};
 ghost use mathlib.Core.List.{[], _∷_};
-ghost use Prim.Native.Nat.{_≤_, _<_};
+ghost use Prim.Native.Nat.{_+_, _≤_, _<_};
 ghost use lib.ListN.{length, drop, getD};
 ghost use Rattle.rules.specs.Utf8.{lowest, highest, second, later, sized, firstFault, isInside};
 ghost use Rattle.utf8.specs.Decoding.{decodedAs, decodedOf};
 ghost use Rattle.utf8.specs.Reading.{charOf};
-ghost use Rattle.utf8.specs.Checking.{checkedOf};
+ghost use Rattle.utf8.specs.Checking.{checkedOf, asciiFor, AsciiTo};
 
 // The character that bytes start with, and how many bytes it takes.
 pub enum Decoded {
@@ -191,10 +191,41 @@ pub fn char_at(s: &[u8], at: usize) -> Char
     }
 }
 
+// Whether the sixteen bytes at a place are ASCII. All of them are looked at, which the compiler makes one comparison.
+fn are_ascii(s: &[u8], at: usize) -> bool
+    requires { ⌜ at + 16 ≤ length (now s) ⌝ }
+    ensures { λ r. ⌜ r ≡ asciiFor (now (s .entry)) at 16 ⌝ }
+{
+    let mut all = true;
+    let mut j = 0;
+    while j < 16 {
+        if 0x80 <= s[at + j] {
+            all = false;
+        }
+        j += 1;
+    }
+    all
+}
+
+// A place that only ASCII stands before, from `at` on, by sixteen bytes a turn.
+fn past_ascii(s: &[u8], at: usize) -> usize
+    requires { ⌜ at ≤ length (now s) ⌝ }
+    ensures { λ r. ⌜ AsciiTo (now (s .entry)) at r ⌝ }
+{
+    let mut i = at;
+    while 16 <= s.len() - i {
+        if !are_ascii(s, i) {
+            return i;
+        }
+        i += 16;
+    }
+    i
+}
+
 pub fn first_fault(s: &[u8]) -> Checked
     ensures { λ r. ⌜ r ≡ checkedOf (firstFault (now (s .entry))) ⌝ }
 {
-    let mut at = 0;
+    let mut at = past_ascii(s, 0);
     while at < s.len() {
         let a = s[at];
         if a < 0x80 {
@@ -221,7 +252,8 @@ pub fn first_fault(s: &[u8]) -> Checked
                     return Checked::Fault(at);
                 }
                 Decoded::Char { code: _, size } => {
-                    at += size;
+                    let next = at + size;
+                    at = past_ascii(s, next);
                 }
             }
         }
