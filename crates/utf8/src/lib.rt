@@ -169,6 +169,27 @@ pub fn decode(s: &[u8], at: usize) -> Decoded
     first(&s[at..])
 }
 
+// The same at a byte that is not ASCII: most characters there have two or three bytes.
+fn wide_at(s: &[u8], at: usize) -> Decoded
+    requires { ⌜ (at < length (now s)) × (128 ≤ getD (now s) at 0) ⌝ }
+    ensures { λ r. ⌜ r ≡ decodedOf (drop at (now (s .entry))) ⌝ }
+{
+    let a = s[at];
+    if a < 0xc2 {
+        return Decoded::Fault;
+    }
+    if a < 0xe0 {
+        let b = byte(s, at + 1);
+        return two(a, b);
+    }
+    if a < 0xf0 {
+        let b = byte(s, at + 1);
+        let c = byte(s, at + 2);
+        return three(a, b, c);
+    }
+    decode(s, at)
+}
+
 // The code point at a place.
 pub fn char_at(s: &[u8], at: usize) -> Char
     requires { ⌜ at < length (now s) ⌝ }
@@ -181,7 +202,7 @@ pub fn char_at(s: &[u8], at: usize) -> Char
             size: 1,
         };
     }
-    let d = decode(s, at);
+    let d = wide_at(s, at);
     match d {
         Decoded::Fault => Char {
             code: 0xfffd,
@@ -246,7 +267,7 @@ pub fn first_fault(s: &[u8]) -> Checked
                 at = b;
             }
         } else {
-            let d = decode(s, at);
+            let d = wide_at(s, at);
             match d {
                 Decoded::Fault => {
                     return Checked::Fault(at);

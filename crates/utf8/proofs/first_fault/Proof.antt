@@ -10,7 +10,7 @@ use Rattle.utf8.proofs.first_fault.Statement.{statement}
 use Rattle.utf8.proofs.first_fault.Tie as tie
 use Rattle.utf8.proofs.first_fault.Reads as reads
 use Rattle.utf8.proofs.first_fault.Lts as lts
-use Rattle.utf8.proofs.decode.Reads as decode-reads
+use Rattle.utf8.proofs.wide_at.Reads as wide-at-reads
 use Rattle.utf8.proofs.past_ascii.Reads as past-ascii-reads
 
 abbrev Inv-loop : tie.InvT-loop
@@ -85,8 +85,8 @@ loop-again-4 : tie.Need-loop-again-4 Inv-loop μ-loop
 loop-again-4 c = search (needs, ascii-on)
 
 -- src/lib.rt:249:17
-decode-requires : tie.Need-decode-requires Inv-loop μ-loop
-decode-requires c κs = search needs
+wide-at-requires : tie.Need-wide-at-requires Inv-loop μ-loop
+wide-at-requires c κs = search needs
 
 -- src/lib.rt:252:21
 enum-told : tie.Need-enum-told Inv-loop μ-loop
@@ -102,21 +102,21 @@ enum-known-d c = search needs
 
 -- src/lib.rt:255:32
 add-next : tie.Need-add-next Inv-loop μ-loop
-add-next c = omega (arith, char-most (c .before .before .before .before .before .before .before .before .before .before .args .s .now) (c .before .before .before .before .before .before .before .loop .at) (c .before .before .before .before .before .before .loop-test .taken) (c .before .before .before .decode .result) (c .before .before .before .decode .ensures) _ _ (c .before .d .given .1))
+add-next c = omega (arith, char-most (c .before .before .before .before .before .before .before .before .before .before .args .s .now) (c .before .before .before .before .before .before .before .loop .at) (c .before .before .before .before .before .before .loop-test .taken) (c .before .before .before .wide-at .result) (c .before .before .before .wide-at .ensures) _ _ (c .before .d .given .1))
 
 -- src/lib.rt:256:21
 past-ascii-requires-2 : tie.Need-past-ascii-requires-2 Inv-loop μ-loop
-past-ascii-requires-2 c κs = char-most (c .before .before .before .before .before .before .before .before .before .before .args .s .now) (c .before .before .before .before .before .before .before .loop .at) (c .before .before .before .before .before .before .loop-test .taken) (c .before .before .before .decode .result) (c .before .before .before .decode .ensures) _ _ (c .before .d .given .1)
+past-ascii-requires-2 c κs = char-most (c .before .before .before .before .before .before .before .before .before .before .args .s .now) (c .before .before .before .before .before .before .before .loop .at) (c .before .before .before .before .before .before .loop-test .taken) (c .before .before .before .wide-at .result) (c .before .before .before .wide-at .ensures) _ _ (c .before .d .given .1)
 
 -- src/lib.rt:229:5
 loop-less-5 : tie.Need-loop-less-5 Inv-loop μ-loop
 loop-less-5 c =
-    omega (arith, c .past-ascii2 .ensures .from, c .past-ascii2 .ensures .inside, char-least (c .before .before .before .before .before .before .before .before .before .before .before .args .s .now) (c .before .before .before .before .before .before .before .before .loop .at) (c .before .before .before .before .before .before .before .loop-test .taken) (c .before .before .before .before .decode .result) (c .before .before .before .before .decode .ensures) _ _ (c .before .before .d .given .1))
+    omega (arith, c .past-ascii2 .ensures .from, c .past-ascii2 .ensures .inside, char-least (c .before .before .before .before .before .before .before .before .before .before .before .args .s .now) (c .before .before .before .before .before .before .before .before .loop .at) (c .before .before .before .before .before .before .before .loop-test .taken) (c .before .before .before .before .wide-at .result) (c .before .before .before .before .wide-at .ensures) _ _ (c .before .before .d .given .1))
 
 -- src/lib.rt:229:5
 loop-again-5 : tie.Need-loop-again-5 Inv-loop μ-loop
 loop-again-5 c =
-    (c .past-ascii2 .ensures .inside, run-on (c .past-ascii2 .ensures) (char-on (c .before .before .before .before .before .before .before .before .before .before .before .args .s .now) (c .before .before .before .before .before .before .before .before .loop .at) (c .before .before .before .before .before .before .before .loop-test .taken) (c .before .before .before .before .decode .result) (c .before .before .before .before .decode .ensures) _ _ (c .before .before .d .given .1) (c .before .before .before .before .before .before .before .before .loop .inv .1)))
+    (c .past-ascii2 .ensures .inside, run-on (c .past-ascii2 .ensures) (char-on (c .before .before .before .before .before .before .before .before .before .before .before .args .s .now) (c .before .before .before .before .before .before .before .before .loop .at) (c .before .before .before .before .before .before .before .loop-test .taken) (c .before .before .before .before .wide-at .result) (c .before .before .before .before .wide-at .ensures) _ _ (c .before .before .d .given .1) (c .before .before .before .before .before .before .before .before .loop .inv .1)))
 
 -- src/lib.rt:225:1
 returns-2 : tie.Need-returns-2 Inv-loop μ-loop
@@ -144,7 +144,7 @@ first-fault-spec =
     loop-again-3
     loop-less-4
     loop-again-4
-    decode-requires
+    wide-at-requires
     enum-told
     returns
     enum-known-d
