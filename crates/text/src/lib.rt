@@ -13,7 +13,7 @@ ghost use Rattle.content.specs.Contents.{contentIn, keptIn};
 ghost use Rattle.content.proofs.Seams.{Opens};
 ghost use Rattle.unicode.specs.Tables.{unicodeTables};
 ghost use Rattle.output.specs.Put.{Put};
-ghost use Rattle.text.specs.Trims.{dropsOf, StartAt, EndAt, TrimmedBy, TrimmedTo, UnitTrimmedTo, PutTrimmed};
+ghost use Rattle.text.specs.Trims.{dropsOf, StartAt, EndAt, LastStart, TrimmedBy, TrimmedTo, UnitTrimmedTo, PutTrimmed};
 ghost use Rattle.text.specs.Paths.{isBack, pathBytes};
 ghost use Rattle.text.specs.Names.{startCursor, stepOf, foldFrom, rest, told};
 ghost use Rattle.text.specs.Plain.{isPlain};
@@ -51,11 +51,53 @@ pub fn start_of(t: &[u32], s: &[u8], d: Dropped) -> usize
     at
 }
 
+// The last place where no byte stands that goes on with a character; without one 0.
+fn last_start(s: &[u8]) -> usize
+    requires { ⌜ 0 < length (now s) ⌝ }
+    ensures { λ r. ⌜ LastStart (now (s .entry)) r ⌝ }
+{
+    let mut i = s.len() - 1;
+    while 0 < i {
+        if s[i] < 0x80 {
+            return i;
+        }
+        if 0xbf < s[i] {
+            return i;
+        }
+        i -= 1;
+    }
+    0
+}
+
+// Whether the last character is seen to stay, without the characters before it.
+fn stays_whole(t: &[u32], s: &[u8], d: Dropped) -> bool
+    requires { ⌜ now t ≡ unicodeTables ⌝ }
+    ensures { λ r. ⌜ (r ≡ true → EndAt (dropsOf d) (now (s .entry)) (length (now (s .entry)))) ⌝ }
+{
+    if s.len() < 1 {
+        return false;
+    }
+    let i = last_start(s);
+    if 0 < i {
+        if s[i - 1] == b'\\' {
+            return false;
+        }
+    }
+    let c = content::char_in(s, i);
+    if i + c.size < s.len() {
+        return false;
+    }
+    !is_dropped(t, d, c.code)
+}
+
 // The place after the last character that stays.
 pub fn end_of(t: &[u32], s: &[u8], d: Dropped) -> usize
     requires { ⌜ now t ≡ unicodeTables ⌝ }
     ensures { λ r. ⌜ EndAt (dropsOf d) (now (s .entry)) r ⌝ }
 {
+    if stays_whole(t, s, d) {
+        return s.len();
+    }
     let mut end = 0;
     let mut at = 0;
     while at < s.len() {

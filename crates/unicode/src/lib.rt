@@ -157,8 +157,8 @@ fn row(a: u32, b: u32, c: u32) -> Folded
     Folded::Three(a, b, c)
 }
 
-// Whether c lies in a part of Unicode where nothing folds to anything else: small letters of Latin-1 and Cyrillic, Hebrew to
-// Myanmar, Chinese and Japanese, Hangul. No other code point is asked for.
+// Whether c lies in one of the large parts of Unicode where each code point folds to itself: the small letters of Latin-1
+// and of Cyrillic, Hebrew to Myanmar, Chinese and Japanese, Hangul.
 fn is_still(c: u32) -> bool
     ensures { λ r. ⌜ (r ≡ true → c ∷ [] ≡ foldRule c) ⌝ }
 {
