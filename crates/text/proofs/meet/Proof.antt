@@ -7,7 +7,7 @@ use Rattle.text.proofs.meet.Tie as tie
 use Rattle.text.proofs.meet.Reads as reads
 use Rattle.text.proofs.meet.Lts as lts
 use Rattle.content.proofs.kept_char.Reads as kept-char-reads
-use Rattle.text.proofs.is_parted.Reads as is-parted-reads
+use Rattle.text.proofs.fronts.is_parted.Reads as is-parted-reads
 use Rattle.text.proofs.meet_folded.Reads as meet-folded-reads
 use Rattle.unicode.proofs.fold.Reads as fold-reads
 

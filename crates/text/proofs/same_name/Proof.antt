@@ -8,11 +8,11 @@ use Rattle.text.proofs.same_name.Statement.{statement}
 use Rattle.text.proofs.same_name.Tie as tie
 use Rattle.text.proofs.same_name.Reads as reads
 use Rattle.text.proofs.same_name.Lts as lts
-use Rattle.text.proofs.is_parted.Reads as is-parted-reads
-use Rattle.text.proofs.is_parted_last.Reads as is-parted-last-reads
+use Rattle.text.proofs.fronts.is_parted.Reads as is-parted-reads
+use Rattle.text.proofs.fronts.is_parted_last.Reads as is-parted-last-reads
 use Rattle.text.proofs.meet.Reads as meet-reads
 use Rattle.text.proofs.same_rest.Reads as same-rest-reads
-use Rattle.text.proofs.seam.Reads as seam-reads
+use Rattle.text.proofs.fronts.seam.Reads as seam-reads
 
 abbrev Inv-loop : tie.InvT-loop
 Inv-loop t a b i₀ j₀ i j = Facing a b i j

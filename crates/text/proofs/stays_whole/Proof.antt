@@ -12,7 +12,7 @@ use Rattle.text.proofs.stays_whole.Reads as reads
 use Rattle.text.proofs.stays_whole.Lts as lts
 use Rattle.content.proofs.char_in.Reads as char-in-reads
 use Rattle.text.proofs.is_dropped.Reads as is-dropped-reads
-use Rattle.text.proofs.last_start.Reads as last-start-reads
+use Rattle.text.proofs.fronts.last_start.Reads as last-start-reads
 
 -- src/lib.rt:78:9
 returns : tie.Need-returns

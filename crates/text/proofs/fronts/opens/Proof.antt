@@ -3,10 +3,10 @@ use native.Mathlib.Omega.{arith}
 use Rattle.rules.proofs.Basics.{no-truth}
 use borrow.Author.Tests.{ltb-true}
 use Rattle.text.proofs.Seams.{opens-end, opens-low, opens-high}
-use Rattle.text.proofs.opens.Statement.{statement}
-use Rattle.text.proofs.opens.Tie as tie
-use Rattle.text.proofs.opens.Reads as reads
-use Rattle.text.proofs.opens.Lts as lts
+use Rattle.text.proofs.fronts.opens.Statement.{statement}
+use Rattle.text.proofs.fronts.opens.Tie as tie
+use Rattle.text.proofs.fronts.opens.Reads as reads
+use Rattle.text.proofs.fronts.opens.Lts as lts
 
 -- src/lib.rt:430:9
 returns : tie.Need-returns

@@ -4,11 +4,11 @@ use Rattle.rules.proofs.Basics.{no-truth}
 use borrow.Author.Tests.{not-false}
 use mathlib.Core.Path.{sym, _∙_}
 use Rattle.text.proofs.Lasts.{closes, parted-last}
-use Rattle.text.proofs.is_parted_last.Statement.{statement}
-use Rattle.text.proofs.is_parted_last.Tie as tie
-use Rattle.text.proofs.is_parted_last.Reads as reads
-use Rattle.text.proofs.is_parted_last.Lts as lts
-use Rattle.text.proofs.is_plain.Reads as is-plain-reads
+use Rattle.text.proofs.fronts.is_parted_last.Statement.{statement}
+use Rattle.text.proofs.fronts.is_parted_last.Tie as tie
+use Rattle.text.proofs.fronts.is_parted_last.Reads as reads
+use Rattle.text.proofs.fronts.is_parted_last.Lts as lts
+use Rattle.text.proofs.fronts.is_plain.Reads as is-plain-reads
 
 -- src/lib.rt:378:9
 returns : tie.Need-returns

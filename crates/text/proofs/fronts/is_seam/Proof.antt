@@ -3,11 +3,11 @@ use native.Mathlib.Omega.{arith}
 use Rattle.rules.proofs.Basics.{no-truth}
 use borrow.Author.Tests.{not-false}
 use Rattle.text.proofs.Seams.{seam-at}
-use Rattle.text.proofs.is_seam.Statement.{statement}
-use Rattle.text.proofs.is_seam.Tie as tie
-use Rattle.text.proofs.is_seam.Reads as reads
-use Rattle.text.proofs.is_seam.Lts as lts
-use Rattle.text.proofs.opens.Reads as opens-reads
+use Rattle.text.proofs.fronts.is_seam.Statement.{statement}
+use Rattle.text.proofs.fronts.is_seam.Tie as tie
+use Rattle.text.proofs.fronts.is_seam.Reads as reads
+use Rattle.text.proofs.fronts.is_seam.Lts as lts
+use Rattle.text.proofs.fronts.opens.Reads as opens-reads
 
 -- src/lib.rt:447:10
 sub-if1 : tie.Need-sub-if1

@@ -3,10 +3,10 @@ use native.Mathlib.Omega.{arith}
 use Prim.Native.Nat.{_<_}
 use lib.ListN.{length}
 use Rattle.text.proofs.Trims.{start-ascii, start-high, start-none}
-use Rattle.text.proofs.last_start.Statement.{statement}
-use Rattle.text.proofs.last_start.Tie as tie
-use Rattle.text.proofs.last_start.Reads as reads
-use Rattle.text.proofs.last_start.Lts as lts
+use Rattle.text.proofs.fronts.last_start.Statement.{statement}
+use Rattle.text.proofs.fronts.last_start.Tie as tie
+use Rattle.text.proofs.fronts.last_start.Reads as reads
+use Rattle.text.proofs.fronts.last_start.Lts as lts
 
 abbrev Inv-loop : tie.InvT-loop
 Inv-loop s i₀ i = i < length s

@@ -3,13 +3,13 @@ use native.Mathlib.Omega.{arith}
 use Prim.Native.Nat.{_-_}
 use Rattle.text.specs.Seams.{Common}
 use Rattle.text.proofs.Seams.{common-none, common-four}
-use Rattle.text.proofs.common_words.Statement.{statement}
-use Rattle.text.proofs.common_words.Tie as tie
-use Rattle.text.proofs.common_words.Reads as reads
-use Rattle.text.proofs.common_words.Lts as lts
-use Rattle.text.proofs.shorter.Reads as shorter-reads
-use Rattle.text.proofs.word.Reads as word-reads
-use Rattle.text.proofs.words_in.Reads as words-in-reads
+use Rattle.text.proofs.fronts.common_words.Statement.{statement}
+use Rattle.text.proofs.fronts.common_words.Tie as tie
+use Rattle.text.proofs.fronts.common_words.Reads as reads
+use Rattle.text.proofs.fronts.common_words.Lts as lts
+use Rattle.text.proofs.fronts.shorter.Reads as shorter-reads
+use Rattle.text.proofs.fronts.word.Reads as word-reads
+use Rattle.text.proofs.fronts.words_in.Reads as words-in-reads
 
 abbrev Inv-loop : tie.InvT-loop
 Inv-loop a b n i₀ i = Common a b i

@@ -2,12 +2,12 @@ use borrow.Author.Needs.{needs}
 use native.Mathlib.Omega.{arith}
 use Rattle.text.specs.Seams.{Common}
 use Rattle.text.proofs.Seams.{common-back, seam-none}
-use Rattle.text.proofs.seam.Statement.{statement}
-use Rattle.text.proofs.seam.Tie as tie
-use Rattle.text.proofs.seam.Reads as reads
-use Rattle.text.proofs.seam.Lts as lts
-use Rattle.text.proofs.common.Reads as common-reads
-use Rattle.text.proofs.is_seam.Reads as is-seam-reads
+use Rattle.text.proofs.fronts.seam.Statement.{statement}
+use Rattle.text.proofs.fronts.seam.Tie as tie
+use Rattle.text.proofs.fronts.seam.Reads as reads
+use Rattle.text.proofs.fronts.seam.Lts as lts
+use Rattle.text.proofs.fronts.common.Reads as common-reads
+use Rattle.text.proofs.fronts.is_seam.Reads as is-seam-reads
 
 abbrev Inv-loop : tie.InvT-loop
 Inv-loop a b i₀ i = Common a b i

@@ -3,11 +3,11 @@ use native.Mathlib.Omega.{arith}
 use native.Mathlib.Omega.{arith}
 use Prim.Native.Nat.{_+_}
 use Rattle.text.proofs.Seams.{word-read}
-use Rattle.text.proofs.word.Statement.{statement}
-use Rattle.text.proofs.word.Tie as tie
-use Rattle.text.proofs.word.Reads as reads
-use Rattle.text.proofs.word.Lts as lts
-use Rattle.text.proofs.wide.Reads as wide-reads
+use Rattle.text.proofs.fronts.word.Statement.{statement}
+use Rattle.text.proofs.fronts.word.Tie as tie
+use Rattle.text.proofs.fronts.word.Reads as reads
+use Rattle.text.proofs.fronts.word.Lts as lts
+use Rattle.text.proofs.fronts.wide.Reads as wide-reads
 
 -- src/lib.rt:381:22
 shared-slice-read-wide : tie.Need-shared-slice-read-wide

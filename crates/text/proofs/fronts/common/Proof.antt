@@ -4,12 +4,12 @@ use Prim.Native.Nat.{_-_, _≤_}
 use lib.ListN.{length}
 use Rattle.text.specs.Seams.{Common}
 use Rattle.text.proofs.Seams.{common-one}
-use Rattle.text.proofs.common.Statement.{statement}
-use Rattle.text.proofs.common.Tie as tie
-use Rattle.text.proofs.common.Reads as reads
-use Rattle.text.proofs.common.Lts as lts
-use Rattle.text.proofs.common_words.Reads as common-words-reads
-use Rattle.text.proofs.shorter.Reads as shorter-reads
+use Rattle.text.proofs.fronts.common.Statement.{statement}
+use Rattle.text.proofs.fronts.common.Tie as tie
+use Rattle.text.proofs.fronts.common.Reads as reads
+use Rattle.text.proofs.fronts.common.Lts as lts
+use Rattle.text.proofs.fronts.common_words.Reads as common-words-reads
+use Rattle.text.proofs.fronts.shorter.Reads as shorter-reads
 
 abbrev Inv-loop : tie.InvT-loop
 Inv-loop a b n i₀ i = (n ≤ length a) × (n ≤ length b) × Common a b i
