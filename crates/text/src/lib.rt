@@ -397,6 +397,10 @@ fn meet(t: &[u32], a: &[u8], i: usize, b: &[u8], j: usize) -> Meeting
     if b.len() <= j {
         return Meeting::Answer(false);
     }
+    // a run of backslashes has no seam: there the names are folded to their ends
+    if a[i] == b'\\' {
+        return Meeting::Unclear;
+    }
     let x = content::kept_char(a, i);
     let y = content::kept_char(b, j);
     let f = unicode::fold(t, x.code);

@@ -2,6 +2,7 @@ use borrow.Author.Needs.{needs}
 use native.Mathlib.Omega.{arith}
 use Rattle.text.proofs.Seams.{met-parted, met-end, met-right, met-folded}
 use mathlib.Core.Path.{sym}
+use Rattle.text.specs.Seams.{unclear}
 use Rattle.text.proofs.meet.Statement.{statement}
 use Rattle.text.proofs.meet.Tie as tie
 use Rattle.text.proofs.meet.Reads as reads
@@ -27,7 +28,15 @@ returns-2 c = met-end _ _ _ _ (c .if2 .taken)
 returns-3 : tie.Need-returns-3
 returns-3 c = met-right _ _ _ _ (c .before .if2 .left) (c .if3 .taken)
 
--- src/lib.rt:512:9
+-- src/lib.rt:401:8
+shared-slice-read-if4 : tie.Need-shared-slice-read-if4
+shared-slice-read-if4 c = search needs
+
+-- src/lib.rt:402:9
+returns-4 : tie.Need-returns-4
+returns-4 c = unclear
+
+-- src/lib.rt:404:13
 kept-char-requires : tie.Need-kept-char-requires
 kept-char-requires c κs = search needs
 
@@ -56,8 +65,8 @@ meet-folded-requires : tie.Need-meet-folded-requires
 meet-folded-requires c κs = search needs
 
 -- src/lib.rt:499:1
-returns-4 : tie.Need-returns-4
-returns-4 c = rw (c .meet-folded .ensures) (met-folded _ _ _ _ (c .before .before .before .before .before .before .kept-char .ensures) (c .before .before .before .before .before .kept-char2 .ensures) _ _ (c .before .before .before .before .fold .ensures) (c .before .before .before .fold2 .ensures))
+returns-5 : tie.Need-returns-5
+returns-5 c = rw (c .meet-folded .ensures) (met-folded _ _ _ _ (c .before .before .before .before .before .before .kept-char .ensures) (c .before .before .before .before .before .kept-char2 .ensures) _ _ (c .before .before .before .before .fold .ensures) (c .before .before .before .fold2 .ensures))
 
 pub meet-spec : {M : Type 1} → statement M
 meet-spec =
@@ -67,6 +76,8 @@ meet-spec =
     returns
     returns-2
     returns-3
+    shared-slice-read-if4
+    returns-4
     kept-char-requires
     kept-char-requires-2
     fold-requires
@@ -74,4 +85,4 @@ meet-spec =
     add-meet-folded
     add-meet-folded-2
     meet-folded-requires
-    returns-4)
+    returns-5)
