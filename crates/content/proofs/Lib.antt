@@ -10,3 +10,4 @@ pub mod Splits
 pub mod Paths
 pub mod Marks
 pub mod Lines
+pub mod Seams

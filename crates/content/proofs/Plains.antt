@@ -88,11 +88,11 @@ plain-low c [] h = h
 plain-low c (d ∷ s) h = pick-either (λ (l : List ℕ). getD l 0 0 < 128) (eqb c 92) _ _ (λ _. escaped-low d (plainOf s) (plainOf (d ∷ s))) (λ _. h)
 
 -- the first byte, or none
-data First : List ℕ → Type 0 where
+pub data First : List ℕ → Type 0 where
   low : {s : List ℕ} → getD s 0 0 < 128 → getD (plainOf s) 0 0 < 128 → First s
   high : {b : ℕ} {s : List ℕ} → 128 ≤ b → plainOf (b ∷ s) ≡ b ∷ plainOf s → First (b ∷ s)
 
-first : (s : List ℕ) → First s
+pub first : (s : List ℕ) → First s
 first [] = low {s = []} (omega arith) (unfold plainOf in omega arith)
 first (b ∷ s) = by-order b 127 (λ h. low {s = b ∷ s} (omega arith) (plain-low b s (omega arith))) (λ h. high h (plain-one b s (λ e. omega arith)))
 

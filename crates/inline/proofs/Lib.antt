@@ -3,6 +3,7 @@ pub mod Words
 pub mod Seeks
 pub mod Tries
 pub mod Scans
+pub mod Wide
 pub mod Signs
 pub mod Names
 pub mod Turns

@@ -3,7 +3,9 @@ use Prim.Native.Nat.{ℕ, _≤_, _-_}
 use mathlib.Core.Path.{_≡_}
 use mathlib.Core.Bool.{Bool, not}
 use mathlib.Core.List.{List}
+use lib.Dec.{ltb}
 use lib.ListN.{length, take, drop}
+use Rattle.rules.specs.Basic.{pick}
 use Rattle.rules.specs.Unicode.{isWhiteSpace}
 use Rattle.content.specs.Contents.{contentIn}
 use Rattle.content.specs.Parts.{Field}
@@ -13,6 +15,10 @@ use Rattle.inline.specs.declared.Span.{Span}
 
 unfoldable pub isNotWhite : ℕ → Bool
 isNotWhite c = not (isWhiteSpace c)
+
+-- how many bytes a character of UTF-8 takes that starts with the byte a, which is not ASCII
+unfoldable pub leadSize : ℕ → ℕ
+leadSize a = pick (ltb a 0xe0) 2 (pick (ltb a 0xf0) 3 4)
 
 -- the bytes from place a to place e
 abbrev pub part : ℕ → ℕ → List ℕ → List ℕ

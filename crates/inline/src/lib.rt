@@ -14,7 +14,7 @@ ghost use Rattle.content.specs.Parts.{Field};
 ghost use Rattle.rules.specs.Text.{isNotAlphabetic};
 ghost use Rattle.rules.specs.Inline.{isNoDigit, isDigitOrPoint, points as pointsIn};
 ghost use Rattle.unicode.specs.Tables.{unicodeTables};
-ghost use Rattle.inline.specs.Scans.{isNotWhite, part, Front, SignAt, UnitPart};
+ghost use Rattle.inline.specs.Scans.{isNotWhite, leadSize, part, Front, SignAt, UnitPart};
 ghost use Rattle.inline.specs.Found.{InlineAt};
 ghost use Rattle.inline.specs.Items.{CountsOf, textItems};
 
@@ -43,6 +43,19 @@ fn is_digit_or_point(c: u32) -> bool
     c == 46
 }
 
+// How many bytes the character takes that a byte beyond ASCII starts.
+fn lead_size(a: u8) -> usize
+    ensures { λ r. ⌜ r ≡ leadSize a ⌝ }
+{
+    if a < 0xe0 {
+        return 2;
+    }
+    if a < 0xf0 {
+        return 3;
+    }
+    4
+}
+
 // The place of the next ASCII digit, or the end.
 fn next_digit(s: &[u8], at: usize) -> usize
     requires { ⌜ (at ≤ length (now s)) × (Field (drop at (now s))) ⌝ }
@@ -50,11 +63,16 @@ fn next_digit(s: &[u8], at: usize) -> usize
 {
     let mut i = at;
     while i < s.len() {
-        let c = content::char_in(s, i);
-        if is_digit(c.code) {
-            return i;
+        let a = s[i];
+        if 0x80 <= a {
+            i += lead_size(a);
+        } else {
+            let c = content::char_in(s, i);
+            if is_digit(c.code) {
+                return i;
+            }
+            i += c.size;
         }
-        i += c.size;
     }
     i
 }

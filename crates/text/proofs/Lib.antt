@@ -3,3 +3,5 @@ pub mod Writes
 pub mod Names
 pub mod Paths
 pub mod Plain
+pub mod Seams
+pub mod Lasts

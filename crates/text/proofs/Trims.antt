@@ -1,13 +1,16 @@
 -- Trimming, one character at a time.
-use Prim.Native.Nat.{ℕ, _≤_, _<_, _+_, _-_}
+use Prim.Native.Nat.{ℕ, zero, suc, _≤_, _<_, _+_, _-_}
 use mathlib.Core.Path.{_≡_, refl, sym, ap, _∙_}
 use mathlib.Core.Bool.{Bool, true, false, not}
 use mathlib.Core.List.{List, [], _∷_, _++_, append-assoc}
 use native.Mathlib.Omega.{arith}
 use borrow.Author.Tests.{not-true, not-false}
-use lib.ListN.{length, drop, take, length-drop, length-append, take-append-drop}
-use lib.Seq.{take-all}
+use lib.ListN.{length, getD, drop, take, length-drop, length-append, take-append-drop}
+use lib.Seq.{take-all, take-length, drop-length, split-at, getD-drop}
 use Rattle.rules.specs.Basic.{any}
+use Rattle.rules.specs.Utf8.{later}
+use Rattle.rules.proofs.Basics.{within-high}
+use Rattle.rules.proofs.Begins.{later-ascii}
 use Rattle.rules.specs.Text.{trimStart, trimOnto, trimEnd, trimMatches, textOuterTrimmed, unitTrimmed, isNotAlphabetic}
 use Rattle.rules.specs.Unicode.{isWhiteSpace, isAlphabetic}
 use Rattle.utf8.specs.declared.Char.{Char}
@@ -15,10 +18,11 @@ use Rattle.content.specs.Contents.{contentIn}
 use Rattle.content.specs.Readings.{charIn}
 use Rattle.content.specs.Parts.{Cut, CutAt}
 use Rattle.content.proofs.Chars.{content-step, content-none, no-content}
-use Rattle.content.proofs.Cuts.{cut-none, cut-seq, cut-start, cut-step}
+use Rattle.content.proofs.Cuts.{cut-none, cut-all, cut-seq, cut-start, cut-step}
+use Rattle.content.proofs.Seams.{content-join}
 use Rattle.text.specs.declared.Dropped.{Dropped}
 use Rattle.text.specs.declared.Dropped.the-variants.{White, NotAlphabetic}
-use Rattle.text.specs.Trims.{dropsOf, StartAt, EndAt, TrimmedBy, TrimmedTo, UnitTrimmedTo}
+use Rattle.text.specs.Trims.{dropsOf, StartAt, EndAt, LastStart, TrimmedBy, TrimmedTo, UnitTrimmedTo}
 
 -- the tests
 pub dropped-white : (d : Dropped) (c : ℕ) (r : Bool) → d ≡ White → r ≡ isWhiteSpace c → r ≡ dropsOf d c
@@ -121,6 +125,12 @@ module _ (drops : ℕ → Bool) where
             is = ap (trimEnd drops) (k .passed) ∙ end-kept (contentIn (take at s)) (ch .code) (sym p ∙ not-true r t) ∙ sym (k .passed);
           }
 
+  -- ---- the last character alone
+
+  pub end-whole : (s xs : List ℕ) (c : ℕ) → contentIn s ≡ xs ++ (c ∷ []) → drops c ≡ false → EndAt drops s (length s)
+  end-whole s xs c e n =
+      record { most = omega arith; cut = rw (take-length, drop-length) (cut-all s); is = rw (take-length, e) (sym (end-kept xs c n)) }
+
   -- ---- both ends
 
   pub trimmed-front : {s : List ℕ} {e : ℕ} → EndAt drops s e → TrimmedBy (trimEnd drops) s (take e s)
@@ -154,6 +164,46 @@ module _ (drops : ℕ → Bool) where
   trimmed-both {s} {a} {r} v w =
       let l : length (drop a s) ≤ length s - a = omega (arith, length-drop a s) in
       trimmed-behind v (rw (take-all (length s - a) (drop a s) l) at w)
+
+-- ---- the last character of a field, where the bytes tell it
+
+record Ends (s : List ℕ) (c : ℕ) : Type 0 where
+  front : List ℕ
+  is : contentIn s ≡ front ++ (c ∷ [])
+
+-- the bytes before it end in no backslash
+ends-at : (s : List ℕ) (i : ℕ) (c : ℕ) → i < length s → (0 < i → getD s (i - 1) 0 ≡ 92 → ⊥) → (0 < i → later (getD s i 0) ≡ false) → contentIn (drop i s) ≡ c ∷ [] → Ends s c
+ends-at s zero c h n o e = record { front = []; is = e }
+ends-at s (suc m) c h n o e =
+    let z : suc m - 1 ≡ m = omega arith in
+    let k : getD s m 0 ≡ 92 → ⊥ = rw z at (n (omega arith)) in
+    let f : getD (drop (suc m) s) 0 0 ≡ getD s (suc m) 0 = getD-drop (suc m) s 0 0 ∙ (let y : suc m + 0 ≡ suc m = omega arith in rw y) in
+    record {
+      front = contentIn (take m s ++ (getD s m 0 ∷ []));
+      is = ap contentIn (split-at s m 0 (omega arith)) ∙ content-join (take m s) (getD s m 0) (drop (suc m) s) k (rw f (o (omega arith))) ∙ rw e;
+    }
+
+pub stays-whole : (drops : ℕ → Bool) (s : List ℕ) (i : ℕ) (ch : Char) → LastStart s i → (0 < i → getD s (i - 1) 0 ≡ 92 → ⊥) → ch ≡ charIn (drop i s) → length s ≤ i + ch .size → drops (ch .code) ≡ false → EndAt drops s (length s)
+stays-whole drops s i ch v n e h q =
+    let g = content-step s i ch (v .inside) e in
+    let k = ends-at s i (ch .code) (v .inside) n (v .starts) (g .reads ∙ rw (content-none s (i + ch .size) h)) in
+    end-whole drops s (k .front) (ch .code) (k .is) q
+
+-- ---- the ways of `last_start`
+
+later-high : (c : ℕ) → 191 < c → later c ≡ false
+unfolding later
+later-high c h = within-high 128 191 c h
+
+module _ (s : List ℕ) (i : ℕ) (h : i < length s) where
+  pub start-ascii : getD s i 0 < 128 → LastStart s i
+  start-ascii l = record { inside = h; starts = λ _. later-ascii (getD s i 0) l }
+
+  pub start-high : 191 < getD s i 0 → LastStart s i
+  start-high l = record { inside = h; starts = λ _. later-high (getD s i 0) l }
+
+pub start-none : (s : List ℕ) → 0 < length s → LastStart s 0
+start-none s h = record { inside = h; starts = λ l. absurd (omega arith) }
 
 pub trimmed-white : {s r : List ℕ} → TrimmedBy (trimMatches (dropsOf White)) s r → TrimmedTo s r
 unfolding dropsOf textOuterTrimmed

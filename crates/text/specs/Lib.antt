@@ -2,3 +2,4 @@ pub mod Trims
 pub mod Names
 pub mod Paths
 pub mod Plain
+pub mod Seams

@@ -1,11 +1,12 @@
 -- What the trimmings of fields give.
-use Prim.Native.Nat.{ℕ, _≤_}
+use Prim.Native.Nat.{ℕ, _≤_, _<_}
 use mathlib.Core.Path.{_≡_}
-use mathlib.Core.Bool.{Bool}
+use mathlib.Core.Bool.{Bool, false}
 use mathlib.Core.List.{List, _++_}
-use lib.ListN.{length, take, drop}
+use lib.ListN.{length, getD, take, drop}
 use Rattle.rules.specs.Text.{trimStart, trimEnd, textOuterTrimmed, retain, textTrimmed, unitTrimmed, isNotAlphabetic}
 use Rattle.rules.specs.Unicode.{isWhiteSpace}
+use Rattle.rules.specs.Utf8.{later}
 use Rattle.output.specs.Put.{Put}
 use Rattle.content.specs.Contents.{contentIn, spell}
 use Rattle.content.specs.Parts.{Field, Cut, CutAt}
@@ -27,6 +28,11 @@ pub record EndAt (drops : ℕ → Bool) (s : List ℕ) (r : ℕ) : Type 0 where
   pub most : r ≤ length s
   pub cut : CutAt s r
   pub is : contentIn (take r s) ≡ trimEnd drops (contentIn s)
+
+-- no byte that goes on with a character stands at r, or r is 0
+pub record LastStart (s : List ℕ) (r : ℕ) : Type 0 where
+  pub inside : r < length s
+  pub starts : 0 < r → later (getD s r 0) ≡ false
 
 -- r is the part of the field s that a trimming of its content leaves
 pub record TrimmedBy (trim : List ℕ → List ℕ) (s r : List ℕ) : Type 0 where

@@ -1,22 +1,22 @@
 // The contents of fields as they stand in a sheet, escaped, or of any bytes: trimming, and names that are folded as they
 // are read. The Unicode tables are lent.
+mod fronts;
+
 use unicode::Folded;
 ghost use mathlib.Core.Path.{_≡_};
-ghost use mathlib.Core.Bool.{_&&_};
-ghost use mathlib.Core.List.{[], _∷_};
-ghost use Prim.Native.Nat.{_≤_, _<_};
+ghost use mathlib.Core.Bool.{true, false, _&&_};
 ghost use lib.Dec.{eqb};
 ghost use lib.ListN.{length};
 ghost use Rattle.rules.specs.Basic.{blank, any};
 ghost use Rattle.rules.specs.Text.{retain, trimEnd, trimMatches};
-ghost use Rattle.rules.specs.Unicode.{isAlphanumeric, fold, sameName};
+ghost use Rattle.rules.specs.Unicode.{isAlphanumeric, sameName};
 ghost use Rattle.content.specs.Contents.{contentIn, keptIn};
 ghost use Rattle.unicode.specs.Tables.{unicodeTables};
 ghost use Rattle.output.specs.Put.{Put};
 ghost use Rattle.text.specs.Trims.{dropsOf, StartAt, EndAt, TrimmedBy, TrimmedTo, UnitTrimmedTo, PutTrimmed};
 ghost use Rattle.text.specs.Paths.{isBack, pathBytes};
 ghost use Rattle.text.specs.Names.{startCursor, stepOf, foldFrom, rest, told};
-ghost use Rattle.text.specs.Plain.{isPlain, isSingle, sameFrom, sameAfter};
+ghost use Rattle.text.specs.Seams.{meetingOf, Met};
 
 // Which characters a trimming drops at both ends.
 pub enum Dropped {
@@ -50,11 +50,35 @@ pub fn start_of(t: &[u32], s: &[u8], d: Dropped) -> usize
     at
 }
 
+// Whether the last character is seen to stay, without the characters before it.
+fn stays_whole(t: &[u32], s: &[u8], d: Dropped) -> bool
+    requires { ⌜ now t ≡ unicodeTables ⌝ }
+    ensures { λ r. ⌜ (r ≡ true → EndAt (dropsOf d) (now (s .entry)) (length (now (s .entry)))) ⌝ }
+{
+    if s.len() < 1 {
+        return false;
+    }
+    let i = fronts::last_start(s);
+    if 0 < i {
+        if s[i - 1] == b'\\' {
+            return false;
+        }
+    }
+    let c = content::char_in(s, i);
+    if i + c.size < s.len() {
+        return false;
+    }
+    !is_dropped(t, d, c.code)
+}
+
 // The place after the last character that stays.
 pub fn end_of(t: &[u32], s: &[u8], d: Dropped) -> usize
     requires { ⌜ now t ≡ unicodeTables ⌝ }
     ensures { λ r. ⌜ EndAt (dropsOf d) (now (s .entry)) r ⌝ }
 {
+    if stays_whole(t, s, d) {
+        return s.len();
+    }
     let mut end = 0;
     let mut at = 0;
     while at < s.len() {
@@ -331,111 +355,89 @@ fn same_rest(t: &[u32], a: &[u8], b: &[u8]) -> bool
     }
 }
 
-// Whether a byte stands for itself wherever it stands, is kept, and is below 128: printed, no blank, no backslash.
-fn is_plain(c: u8) -> bool
-    ensures { λ r. ⌜ r ≡ isPlain c ⌝ }
-{
-    if b'\\' < c {
-        return c < 127;
-    }
-    if c < 33 {
-        return false;
-    }
-    c != b'\\'
-}
-
-// Whether a blank stands at a place and none after it.
-fn is_single(s: &[u8], i: usize) -> bool
-    requires { ⌜ i < length (now s) ⌝ }
-    ensures { λ r. ⌜ r ≡ isSingle (now (s .entry)) i ⌝ }
-{
-    if s[i] != 32 {
-        return false;
-    }
-    let j = i + 1;
-    if s.len() <= j {
-        return true;
-    }
-    s[j] != 32
-}
-
-// What a byte below 128 folds to.
-fn lower(c: u8) -> u8
-    requires { ⌜ c < 128 ⌝ }
-    ensures { λ r. ⌜ r ∷ [] ≡ fold c ⌝ }
-{
-    if c < 65 {
-        return c;
-    }
-    if 90 < c {
-        return c;
-    }
-    c + 32
-}
-
-// What the bytes at one place tell of two names that are the same before it.
-enum Bytes {
-    Same,
-    Other,
+// What the characters at a place of each of two names tell of the names from there on: the answer, or where to go on.
+enum Meeting {
+    Answer(bool),
+    On(usize, usize),
     Unclear,
 }
 
-fn compare_at(a: &[u8], b: &[u8], i: usize) -> Bytes
-    requires { ⌜ (i < length (now a)) × (i < length (now b)) ⌝ }
-    ensures { λ r. ⌜ sameAfter (now (a .entry)) (now (b .entry)) i r ≡ sameFrom (now (a .entry)) (now (b .entry)) i ⌝ }
+// By the foldings of two characters.
+fn meet_folded(f: Folded, g: Folded, i: usize, j: usize) -> Meeting
+    ensures { λ r. ⌜ r ≡ meetingOf f g i j ⌝ }
 {
-    let x = a[i];
-    let y = b[i];
-    if is_plain(x) {
-        if x == y {
-            return Bytes::Same;
+    match f {
+        Folded::One(x) => {
+            match g {
+                Folded::One(y) => {
+                    if x == y {
+                        return Meeting::On(i, j);
+                    }
+                    Meeting::Answer(false)
+                }
+                Folded::Two(_, _) => Meeting::Unclear,
+                Folded::Three(_, _, _) => Meeting::Unclear,
+            }
         }
-        if !is_plain(y) {
-            return Bytes::Unclear;
-        }
-        if x % 32 != y % 32 {
-            return Bytes::Other;
-        }
-        if lower(x) == lower(y) {
-            return Bytes::Same;
-        }
-        return Bytes::Other;
+        Folded::Two(_, _) => Meeting::Unclear,
+        Folded::Three(_, _, _) => Meeting::Unclear,
     }
-    if !is_single(a, i) {
-        return Bytes::Unclear;
-    }
-    if !is_single(b, i) {
-        return Bytes::Unclear;
-    }
-    Bytes::Same
 }
 
-fn shorter(n: usize, m: usize) -> usize
-    ensures { λ r. ⌜ (r ≤ n) × (r ≤ m) ⌝ }
+fn meet(t: &[u32], a: &[u8], i: usize, b: &[u8], j: usize) -> Meeting
+    requires { ⌜ now t ≡ unicodeTables ⌝ }
+    ensures { λ r. ⌜ Met (now (a .entry)) i (now (b .entry)) j r ⌝ }
 {
-    if n < m { n } else { m }
+    if fronts::is_parted(a, i, b, j) {
+        return Meeting::Answer(false);
+    }
+    if a.len() <= i {
+        return Meeting::Answer(b.len() <= j);
+    }
+    if b.len() <= j {
+        return Meeting::Answer(false);
+    }
+    // a run of backslashes has no seam: there the names are folded to their ends
+    if a[i] == b'\\' {
+        return Meeting::Unclear;
+    }
+    let x = content::kept_char(a, i);
+    let y = content::kept_char(b, j);
+    let f = unicode::fold(t, x.code);
+    let g = unicode::fold(t, y.code);
+    meet_folded(f, g, i + x.size, j + y.size)
 }
 
-// Whether two fields have the same folding, their blanks collapsed. No table is asked as long as their bytes tell.
+// Whether two fields have the same folding, their blanks collapsed. No table is asked where their bytes are the same.
 pub fn same_name(t: &[u32], a: &[u8], b: &[u8]) -> bool
     requires { ⌜ now t ≡ unicodeTables ⌝ }
     ensures { λ r. ⌜ r ≡ sameName (keptIn (now (a .entry))) (keptIn (now (b .entry))) ⌝ }
 {
-    let n = shorter(a.len(), b.len());
+    if fronts::is_parted(a, 0, b, 0) {
+        return false;
+    }
+    if fronts::is_parted_last(a, b) {
+        return false;
+    }
     let mut i = 0;
-    while i < n {
-        let k = compare_at(a, b, i);
-        match k {
-            Bytes::Same => {
-                i += 1;
+    let mut j = 0;
+    loop {
+        let n = fronts::seam(&a[i..], &b[j..]);
+        i += n;
+        j += n;
+        let m = meet(t, a, i, b, j);
+        match m {
+            Meeting::Answer(r) => {
+                return r;
             }
-            Bytes::Other => {
-                return false;
+            Meeting::On(k, l) => {
+                i = k;
+                j = l;
             }
-            Bytes::Unclear => {
+            Meeting::Unclear => {
                 break;
             }
         }
     }
-    same_rest(t, &a[i..], &b[i..])
+    same_rest(t, &a[i..], &b[j..])
 }

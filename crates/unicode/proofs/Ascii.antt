@@ -54,12 +54,12 @@ pub ascii-numeric : (c : ℕ) → c < 128 → within 48 57 c ≡ isNumeric c
 ascii-numeric c h = same-is (within 48 57 c) (isNumeric c) (below (λ c. same (within 48 57 c) (isNumeric c)) 128 numeric-below c h)
 
 -- the list is x alone
-abbrev alone : ℕ → List ℕ → Bool
+abbrev pub alone : ℕ → List ℕ → Bool
 alone x [] = false
 alone x (y ∷ []) = eqb x y
 alone x (y ∷ z ∷ ys) = false
 
-alone-is : (x : ℕ) (ys : List ℕ) → alone x ys ≡ true → x ∷ [] ≡ ys
+pub alone-is : (x : ℕ) (ys : List ℕ) → alone x ys ≡ true → x ∷ [] ≡ ys
 alone-is x [] h = no-truth h
 alone-is x (y ∷ []) h = rw (eqb-true x y h)
 alone-is x (y ∷ z ∷ ys) h = no-truth h

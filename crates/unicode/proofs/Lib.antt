@@ -2,4 +2,5 @@ pub mod Places
 pub mod Windows
 pub mod Below
 pub mod Rows
+pub mod Still
 pub mod Ascii

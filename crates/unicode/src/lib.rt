@@ -1,7 +1,8 @@
 mod tables;
 
 ghost use mathlib.Core.Path.{_≡_};
-ghost use mathlib.Core.Bool.{_||_};
+ghost use mathlib.Core.Bool.{true, _||_};
+ghost use mathlib.Core.List.{[], _∷_};
 ghost use Prim.Native.Nat.{ℕ, _+_, _≤_, _<_};
 ghost use lib.ListN.{getD, length};
 ghost use Rattle.rules.specs.Basic.{within};
@@ -95,6 +96,14 @@ pub fn is_white_space(t: &[u32], c: u32) -> bool
         }
         return is_within(9, 13, c);
     }
+    if 0xa0 < c {
+        if c < 0x1680 {
+            return false;
+        }
+        if 0x3000 < c {
+            return false;
+        }
+    }
     in_ranges(&t[WHITE..WHITE_ENDS], &t[WHITE_ENDS..ALPHABETIC], c)
 }
 
@@ -148,6 +157,40 @@ fn row(a: u32, b: u32, c: u32) -> Folded
     Folded::Three(a, b, c)
 }
 
+// Whether c lies in one of the large parts of Unicode where each code point folds to itself: the small letters of Latin-1
+// and of Cyrillic, Hebrew to Myanmar, Chinese and Japanese, Hangul.
+fn is_still(c: u32) -> bool
+    ensures { λ r. ⌜ (r ≡ true → c ∷ [] ≡ foldRule c) ⌝ }
+{
+    if c < 0x588 {
+        if c < 0x100 {
+            return 0xe0 <= c;
+        }
+        return is_within(0x430, 0x45f, c);
+    }
+    if c < 0x2cf3 {
+        return c < 0x10a0;
+    }
+    if c < 0xa640 {
+        return true;
+    }
+    is_within(0xabc0, 0xfaff, c)
+}
+
+// The folding by a search in the table.
+fn fold_in(t: &[u32], c: u32) -> Folded
+    requires { ⌜ now t ≡ unicodeTables ⌝ }
+    ensures { λ r. ⌜ foldedOf r ≡ foldRule c ⌝ }
+{
+    let k = lower_bound(&t[KEYS..FIRST], c);
+    if k < 1557 {
+        if t[KEYS + k] == c {
+            return row(t[FIRST + k], t[SECOND + k], t[THIRD + k]);
+        }
+    }
+    Folded::One(c)
+}
+
 pub fn fold(t: &[u32], c: u32) -> Folded
     requires { ⌜ now t ≡ unicodeTables ⌝ }
     ensures { λ r. ⌜ foldedOf r ≡ foldRule c ⌝ }
@@ -158,11 +201,12 @@ pub fn fold(t: &[u32], c: u32) -> Folded
         }
         return Folded::One(c);
     }
-    let k = lower_bound(&t[KEYS..FIRST], c);
-    if k < 1557 {
-        if t[KEYS + k] == c {
-            return row(t[FIRST + k], t[SECOND + k], t[THIRD + k]);
-        }
+    if is_still(c) {
+        return Folded::One(c);
     }
-    Folded::One(c)
+    // the Cyrillic capitals
+    if is_within(0x410, 0x42f, c) {
+        return Folded::One(c + 32);
+    }
+    fold_in(t, c)
 }

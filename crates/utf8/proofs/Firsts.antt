@@ -65,3 +65,25 @@ module _ (s : List ℕ) (a : ℕ) (some : 1 ≤ length s) (ea : a ≡ getD s 0 0
       pub first-four : (d : ℕ) → d ≡ getD s 3 0 → 240 ≤ a → a < 245 → r ≡ decodedAs 4 (sized 4 a (b ∷ c ∷ d ∷ [])) → r ≡ decodedOf s
       first-four d ed h g e =
           e ∙ ap (decodedAs 4) (same-4 a b c d (drop 1 s) (eb ∙ after 0) (ec ∙ after 1) (ed ∙ after 2)) ∙ sym (of-size 4 (size-4 a h (omega arith)))
+
+-- ---- at a place of a slice
+
+module _ (s : List ℕ) (at : ℕ) (h : at < length s) where
+  rest : 1 ≤ length (drop at s)
+  rest = rw (length-drop at s) (omega arith)
+
+  here : getD s at 0 ≡ getD (drop at s) 0 0
+  here = sym (getD-drop at s 0 0 ∙ (let z : at + 0 ≡ at = omega arith in rw z))
+
+  there : (i : ℕ) → getD s (at + i) 0 ≡ getD (drop at s) i 0
+  there i = sym (getD-drop at s i 0)
+
+  pub low-at : 128 ≤ getD s at 0 → getD s at 0 < 194 → Fault ≡ decodedOf (drop at s)
+  low-at l m = first-low (drop at s) (getD s at 0) rest here l m
+
+  module _ (b : ℕ) (eb : b ≡ getD s (at + 1) 0) (r : Decoded) where
+    pub two-at : 194 ≤ getD s at 0 → getD s at 0 < 224 → r ≡ decodedAs 2 (sized 2 (getD s at 0) (b ∷ [])) → r ≡ decodedOf (drop at s)
+    two-at l m e = first-two (drop at s) (getD s at 0) rest here b (eb ∙ there 1) r l m e
+
+    pub three-at : (c : ℕ) → c ≡ getD s (at + 2) 0 → 224 ≤ getD s at 0 → getD s at 0 < 240 → r ≡ decodedAs 3 (sized 3 (getD s at 0) (b ∷ c ∷ [])) → r ≡ decodedOf (drop at s)
+    three-at c ec l m e = first-three (drop at s) (getD s at 0) rest here b (eb ∙ there 1) r c (ec ∙ there 2) l m e

@@ -1,11 +1,11 @@
 ghost use mathlib.Core.Path.{_≡_};
 ghost use mathlib.Core.List.{[], _∷_};
-ghost use Prim.Native.Nat.{_≤_, _<_};
+ghost use Prim.Native.Nat.{_+_, _≤_, _<_};
 ghost use lib.ListN.{length, drop, getD};
 ghost use Rattle.rules.specs.Utf8.{lowest, highest, second, later, sized, firstFault, isInside};
 ghost use Rattle.utf8.specs.Decoding.{decodedAs, decodedOf};
 ghost use Rattle.utf8.specs.Reading.{charOf};
-ghost use Rattle.utf8.specs.Checking.{checkedOf};
+ghost use Rattle.utf8.specs.Checking.{checkedOf, asciiFor, AsciiTo};
 
 // The character that bytes start with, and how many bytes it takes.
 pub enum Decoded {
@@ -169,6 +169,27 @@ pub fn decode(s: &[u8], at: usize) -> Decoded
     first(&s[at..])
 }
 
+// The same at a byte that is not ASCII: most characters there have two or three bytes.
+fn wide_at(s: &[u8], at: usize) -> Decoded
+    requires { ⌜ (at < length (now s)) × (128 ≤ getD (now s) at 0) ⌝ }
+    ensures { λ r. ⌜ r ≡ decodedOf (drop at (now (s .entry))) ⌝ }
+{
+    let a = s[at];
+    if a < 0xc2 {
+        return Decoded::Fault;
+    }
+    if a < 0xe0 {
+        let b = byte(s, at + 1);
+        return two(a, b);
+    }
+    if a < 0xf0 {
+        let b = byte(s, at + 1);
+        let c = byte(s, at + 2);
+        return three(a, b, c);
+    }
+    decode(s, at)
+}
+
 // The code point at a place.
 pub fn char_at(s: &[u8], at: usize) -> Char
     requires { ⌜ at < length (now s) ⌝ }
@@ -181,7 +202,7 @@ pub fn char_at(s: &[u8], at: usize) -> Char
             size: 1,
         };
     }
-    let d = decode(s, at);
+    let d = wide_at(s, at);
     match d {
         Decoded::Fault => Char {
             code: 0xfffd,
@@ -191,10 +212,41 @@ pub fn char_at(s: &[u8], at: usize) -> Char
     }
 }
 
+// Whether the sixteen bytes at a place are ASCII. All of them are looked at, which the compiler makes one comparison.
+fn are_ascii(s: &[u8], at: usize) -> bool
+    requires { ⌜ at + 16 ≤ length (now s) ⌝ }
+    ensures { λ r. ⌜ r ≡ asciiFor (now (s .entry)) at 16 ⌝ }
+{
+    let mut all = true;
+    let mut j = 0;
+    while j < 16 {
+        if 0x80 <= s[at + j] {
+            all = false;
+        }
+        j += 1;
+    }
+    all
+}
+
+// A place that only ASCII stands before, from `at` on, by sixteen bytes a turn.
+fn past_ascii(s: &[u8], at: usize) -> usize
+    requires { ⌜ at ≤ length (now s) ⌝ }
+    ensures { λ r. ⌜ AsciiTo (now (s .entry)) at r ⌝ }
+{
+    let mut i = at;
+    while 16 <= s.len() - i {
+        if !are_ascii(s, i) {
+            return i;
+        }
+        i += 16;
+    }
+    i
+}
+
 pub fn first_fault(s: &[u8]) -> Checked
     ensures { λ r. ⌜ r ≡ checkedOf (firstFault (now (s .entry))) ⌝ }
 {
-    let mut at = 0;
+    let mut at = past_ascii(s, 0);
     while at < s.len() {
         let a = s[at];
         if a < 0x80 {
@@ -215,13 +267,14 @@ pub fn first_fault(s: &[u8]) -> Checked
                 at = b;
             }
         } else {
-            let d = decode(s, at);
+            let d = wide_at(s, at);
             match d {
                 Decoded::Fault => {
                     return Checked::Fault(at);
                 }
                 Decoded::Char { code: _, size } => {
-                    at += size;
+                    let next = at + size;
+                    at = past_ascii(s, next);
                 }
             }
         }

@@ -1,96 +1,140 @@
 use borrow.Author.Needs.{needs}
-use Prim.Native.Nat.{_-_, _≤_}
-use mathlib.Core.Path.{_≡_}
+use native.Mathlib.Omega.{arith}
+use Prim.Native.Nat.{_-_}
 use lib.ListN.{length}
-use Rattle.rules.specs.Unicode.{sameName}
-use Rattle.content.specs.Contents.{keptIn}
-use Rattle.text.specs.Plain.{sameFrom}
-use Rattle.text.proofs.Plain.{from-start, turn-same, turn-other, rests}
+use mathlib.Core.Path.{sym}
+use Rattle.text.proofs.Seams.{Facing, facing, parted-first, facing-seam, facing-answer, facing-on, facing-rest}
 use Rattle.text.proofs.same_name.Statement.{statement}
 use Rattle.text.proofs.same_name.Tie as tie
 use Rattle.text.proofs.same_name.Reads as reads
 use Rattle.text.proofs.same_name.Lts as lts
-use Rattle.text.proofs.compare_at.Reads as compare-at-reads
+use Rattle.text.proofs.fronts.is_parted.Reads as is-parted-reads
+use Rattle.text.proofs.fronts.is_parted_last.Reads as is-parted-last-reads
+use Rattle.text.proofs.meet.Reads as meet-reads
 use Rattle.text.proofs.same_rest.Reads as same-rest-reads
-use Rattle.text.proofs.shorter.Reads as shorter-reads
+use Rattle.text.proofs.fronts.seam.Reads as seam-reads
 
 abbrev Inv-loop : tie.InvT-loop
-Inv-loop t a b n i₀ i = (i ≤ n) × (n ≤ length a) × (n ≤ length b) × (sameFrom a b i ≡ sameName (keptIn a) (keptIn b))
+Inv-loop t a b i₀ j₀ i j = Facing a b i j
 
 abbrev μ-loop : tie.MeasureT-loop
-μ-loop t a b n i₀ i = n - i
+μ-loop t a b i₀ j₀ i j = length a - i
 
--- src/lib.rt:421:9
-shorter-requires : tie.Need-shorter-requires Inv-loop μ-loop
-shorter-requires c κs = search needs
+-- src/lib.rt:561:8
+is-parted-requires : tie.Need-is-parted-requires Inv-loop μ-loop
+is-parted-requires c κs = search needs
 
--- src/lib.rt:423:5
+-- src/lib.rt:562:9
+returns : tie.Need-returns Inv-loop μ-loop
+returns c = parted-first _ _ (c .before .is-parted .ensures (c .if1 .taken))
+
+-- src/lib.rt:564:8
+is-parted-last-requires : tie.Need-is-parted-last-requires Inv-loop μ-loop
+is-parted-last-requires c κs = search needs
+
+-- src/lib.rt:565:9
+returns-2 : tie.Need-returns-2 Inv-loop μ-loop
+returns-2 c = sym (c .before .is-parted-last .ensures (c .if2 .taken))
+
+-- src/lib.rt:569:5
 loop-holds : tie.Need-loop-holds Inv-loop μ-loop
-loop-holds c = search (needs, from-start)
+loop-holds c = facing _ _
 
--- src/lib.rt:424:13
-compare-at-requires : tie.Need-compare-at-requires Inv-loop μ-loop
-compare-at-requires c κs = search needs
+-- src/lib.rt:570:22
+sub-seam : tie.Need-sub-seam Inv-loop μ-loop
+sub-seam c = search needs
 
--- src/lib.rt:427:17
+-- src/lib.rt:570:22
+part-seam-start : tie.Need-part-seam-start Inv-loop μ-loop
+part-seam-start c = search needs
+
+-- src/lib.rt:570:22
+part-seam-end : tie.Need-part-seam-end Inv-loop μ-loop
+part-seam-end c = search needs
+
+-- src/lib.rt:570:31
+sub-seam-2 : tie.Need-sub-seam-2 Inv-loop μ-loop
+sub-seam-2 c = search needs
+
+-- src/lib.rt:570:31
+part-seam-start-2 : tie.Need-part-seam-start-2 Inv-loop μ-loop
+part-seam-start-2 c = search needs
+
+-- src/lib.rt:570:31
+part-seam-end-2 : tie.Need-part-seam-end-2 Inv-loop μ-loop
+part-seam-end-2 c = search needs
+
+-- src/lib.rt:570:13
+seam-requires : tie.Need-seam-requires Inv-loop μ-loop
+seam-requires c κs = search needs
+
+-- src/lib.rt:571:9
+add-i : tie.Need-add-i Inv-loop μ-loop
+add-i c = omega (arith, facing-seam (c .before .before .before .loop .inv) (c .seam .ensures) .left)
+
+-- src/lib.rt:572:9
+add-j : tie.Need-add-j Inv-loop μ-loop
+add-j c = omega (arith, facing-seam (c .before .before .before .loop .inv) (c .seam .ensures) .right)
+
+-- src/lib.rt:573:13
+meet-requires : tie.Need-meet-requires Inv-loop μ-loop
+meet-requires c κs = search needs
+
+-- src/lib.rt:575:29
+enum-known-m : tie.Need-enum-known-m Inv-loop μ-loop
+enum-known-m c = search needs
+
+-- src/lib.rt:576:17
+returns-3 : tie.Need-returns-3 Inv-loop μ-loop
+returns-3 c = facing-answer (facing-seam (c .before .before .before .before .before .before .before .loop .inv) (c .before .before .before .before .seam .ensures)) (c .before .before .before .meet .ensures) _ (c .before .m .given .1)
+
+-- src/lib.rt:578:25
+enum-known-m-2 : tie.Need-enum-known-m-2 Inv-loop μ-loop
+enum-known-m-2 c = search needs
+
+-- src/lib.rt:569:5
+loop-less : tie.Need-loop-less Inv-loop μ-loop
+loop-less c = let w = facing-on (facing-seam (c .before .before .before .before .before .before .before .loop .inv) (c .before .before .before .before .seam .ensures)) (c .before .before .before .meet .ensures) _ _ (c .before .m2 .given .1) in omega (arith, w .more, w .still .left)
+
+-- src/lib.rt:569:5
+loop-again : tie.Need-loop-again Inv-loop μ-loop
+loop-again c = facing-on (facing-seam (c .before .before .before .before .before .before .before .loop .inv) (c .before .before .before .before .seam .ensures)) (c .before .before .before .meet .ensures) _ _ (c .before .m2 .given .1) .still
+
+-- src/lib.rt:583:17
 enum-told : tie.Need-enum-told Inv-loop μ-loop
 enum-told c = search needs
 
--- src/lib.rt:427:17
-add-i : tie.Need-add-i Inv-loop μ-loop
-add-i c = search needs
-
--- src/lib.rt:423:5
-loop-less : tie.Need-loop-less Inv-loop μ-loop
-loop-less c = search needs
-
--- src/lib.rt:423:5
-loop-again : tie.Need-loop-again Inv-loop μ-loop
-loop-again c = search (needs, turn-same)
-
--- src/lib.rt:430:17
-enum-told-2 : tie.Need-enum-told-2 Inv-loop μ-loop
-enum-told-2 c = search needs
-
--- src/lib.rt:430:17
-returns : tie.Need-returns Inv-loop μ-loop
-returns c = search (needs, turn-other)
-
--- src/lib.rt:433:37
-enum-told-3 : tie.Need-enum-told-3 Inv-loop μ-loop
-enum-told-3 c = search needs
-
--- src/lib.rt:433:37
+-- src/lib.rt:587:18
 sub-same-rest : tie.Need-sub-same-rest Inv-loop μ-loop
-sub-same-rest c = search needs
+sub-same-rest c = omega (arith, facing-seam (c .before .before .before .before .before .before .loop .inv) (c .before .before .before .seam .ensures) .left)
 
--- src/lib.rt:433:37
+-- src/lib.rt:587:18
 part-same-rest-start : tie.Need-part-same-rest-start Inv-loop μ-loop
-part-same-rest-start c = search needs
+part-same-rest-start c = omega (arith, facing-seam (c .before .before .before .before .before .before .loop .inv) (c .before .before .before .seam .ensures) .left)
 
--- src/lib.rt:433:37
+-- src/lib.rt:587:18
 part-same-rest-end : tie.Need-part-same-rest-end Inv-loop μ-loop
-part-same-rest-end c = search needs
+part-same-rest-end c = omega (arith, facing-seam (c .before .before .before .before .before .before .loop .inv) (c .before .before .before .seam .ensures) .left)
 
--- src/lib.rt:433:46
+-- src/lib.rt:587:27
 sub-same-rest-2 : tie.Need-sub-same-rest-2 Inv-loop μ-loop
-sub-same-rest-2 c = search needs
+sub-same-rest-2 c = omega (arith, facing-seam (c .before .before .before .before .before .before .before .loop .inv) (c .before .before .before .before .seam .ensures) .right)
 
--- src/lib.rt:433:46
+-- src/lib.rt:587:27
 part-same-rest-start-2 : tie.Need-part-same-rest-start-2 Inv-loop μ-loop
-part-same-rest-start-2 c = search needs
+part-same-rest-start-2 c = omega (arith, facing-seam (c .before .before .before .before .before .before .before .loop .inv) (c .before .before .before .before .seam .ensures) .right)
 
--- src/lib.rt:433:46
+-- src/lib.rt:587:27
 part-same-rest-end-2 : tie.Need-part-same-rest-end-2 Inv-loop μ-loop
-part-same-rest-end-2 c = search needs
+part-same-rest-end-2 c = omega (arith, facing-seam (c .before .before .before .before .before .before .before .loop .inv) (c .before .before .before .before .seam .ensures) .right)
 
--- src/lib.rt:433:17
+-- src/lib.rt:587:5
 same-rest-requires : tie.Need-same-rest-requires Inv-loop μ-loop
 same-rest-requires c κs = search needs
 
--- src/lib.rt:433:17
-returns-2 : tie.Need-returns-2 Inv-loop μ-loop
-returns-2 c = search (needs, rests)
+-- src/lib.rt:557:1
+returns-4 : tie.Need-returns-4 Inv-loop μ-loop
+returns-4 c = facing-rest (facing-seam (c .before .before .before .before .before .before .before .before .before .loop .inv) (c .before .before .before .before .before .before .seam .ensures)) _ (c .same-rest .ensures)
 
 pub same-name-spec : {M : Type 1} → statement M
 same-name-spec =
@@ -98,16 +142,27 @@ same-name-spec =
     (tie.spec
     Inv-loop
     μ-loop
-    shorter-requires
+    is-parted-requires
+    returns
+    is-parted-last-requires
+    returns-2
     loop-holds
-    compare-at-requires
-    enum-told
+    sub-seam
+    part-seam-start
+    part-seam-end
+    sub-seam-2
+    part-seam-start-2
+    part-seam-end-2
+    seam-requires
     add-i
+    add-j
+    meet-requires
+    enum-known-m
+    returns-3
+    enum-known-m-2
     loop-less
     loop-again
-    enum-told-2
-    returns
-    enum-told-3
+    enum-told
     sub-same-rest
     part-same-rest-start
     part-same-rest-end
@@ -115,4 +170,4 @@ same-name-spec =
     part-same-rest-start-2
     part-same-rest-end-2
     same-rest-requires
-    returns-2)
+    returns-4)

@@ -1,142 +1,78 @@
 use borrow.Author.Needs.{needs}
 use native.Mathlib.Omega.{arith}
-use Rattle.unicode.proofs.Windows.{columns}
+use Rattle.rules.proofs.Basics.{within-to}
+use mathlib.Core.Path.{sym, _∙_}
 use Rattle.unicode.proofs.Ascii.{fold-upper, fold-other}
-use Rattle.unicode.proofs.Rows.{window-ascends, row-found, row-other, row-past}
+use Rattle.unicode.proofs.Still.{capital}
 use Rattle.unicode.specs.Folded.{foldedOf}
 use Rattle.unicode.proofs.fold.Statement.{statement}
 use Rattle.unicode.proofs.fold.Tie as tie
 use Rattle.unicode.proofs.fold.Reads as reads
 use Rattle.unicode.proofs.fold.Lts as lts
+use Rattle.unicode.proofs.fold_in.Reads as fold-in-reads
+use Rattle.unicode.proofs.is_still.Reads as is-still-reads
 use Rattle.unicode.proofs.is_within.Reads as is-within-reads
-use Rattle.unicode.proofs.lower_bound.Reads as lower-bound-reads
-use Rattle.unicode.proofs.row.Reads as row-reads
 
--- src/lib.rt:143:12
+-- src/lib.rt:199:12
 is-within-requires : tie.Need-is-within-requires
 is-within-requires c κs = search needs
 
--- src/lib.rt:144:32
-add-t6 : tie.Need-add-t6
-add-t6 c = search needs
+-- src/lib.rt:200:32
+add-t5 : tie.Need-add-t5
+add-t5 c = search needs
 
--- src/lib.rt:144:13
+-- src/lib.rt:200:13
 returns : tie.Need-returns
 unfolding foldedOf
 returns c = fold-upper _ (c .before .before .if1 .taken) (c .before .is-within .ensures) (c .if2 .taken)
 
--- src/lib.rt:146:9
+-- src/lib.rt:202:9
 returns-2 : tie.Need-returns-2
 unfolding foldedOf
 returns-2 c = fold-other _ (c .before .before .if1 .taken) (c .before .is-within .ensures) (c .if2 .left)
 
--- src/lib.rt:148:25
-sub-lower-bound : tie.Need-sub-lower-bound
-sub-lower-bound c = search needs
+-- src/lib.rt:204:8
+is-still-requires : tie.Need-is-still-requires
+is-still-requires c κs = search needs
 
--- src/lib.rt:148:25
-part-lower-bound-start : tie.Need-part-lower-bound-start
-part-lower-bound-start c = search needs
-
--- src/lib.rt:148:25
-part-lower-bound-end : tie.Need-part-lower-bound-end
-part-lower-bound-end c = omega (arith, columns (c .before .before .pre) .long)
-
--- src/lib.rt:148:9
-lower-bound-requires : tie.Need-lower-bound-requires
-lower-bound-requires c κs = window-ascends _ (c .before .before .before .pre)
-
--- src/lib.rt:150:14
-add-if4 : tie.Need-add-if4
-add-if4 c = search needs
-
--- src/lib.rt:150:12
-mul-if4 : tie.Need-mul-if4
-mul-if4 c = search needs
-
--- src/lib.rt:150:12
-shared-slice-read-if4 : tie.Need-shared-slice-read-if4
-shared-slice-read-if4 c = omega (arith, columns (c .before .before .before .before .before .before .pre) .long)
-
--- src/lib.rt:151:26
-add-row : tie.Need-add-row
-add-row c = search needs
-
--- src/lib.rt:151:24
-mul-row : tie.Need-mul-row
-mul-row c = search needs
-
--- src/lib.rt:151:24
-shared-slice-read-row : tie.Need-shared-slice-read-row
-shared-slice-read-row c = omega (arith, columns (c .before .before .before .before .before .before .before .before .pre) .long)
-
--- src/lib.rt:151:40
-add-row-2 : tie.Need-add-row-2
-add-row-2 c = search needs
-
--- src/lib.rt:151:38
-mul-row-2 : tie.Need-mul-row-2
-mul-row-2 c = search needs
-
--- src/lib.rt:151:38
-shared-slice-read-row-2 : tie.Need-shared-slice-read-row-2
-shared-slice-read-row-2 c = omega (arith, columns (c .before .before .before .before .before .before .before .before .before .pre) .long)
-
--- src/lib.rt:151:55
-add-row-3 : tie.Need-add-row-3
-add-row-3 c = search needs
-
--- src/lib.rt:151:53
-mul-row-3 : tie.Need-mul-row-3
-mul-row-3 c = search needs
-
--- src/lib.rt:151:53
-shared-slice-read-row-3 : tie.Need-shared-slice-read-row-3
-shared-slice-read-row-3 c = omega (arith, columns (c .before .before .before .before .before .before .before .before .before .before .pre) .long)
-
--- src/lib.rt:151:13
-row-requires : tie.Need-row-requires
-row-requires c κs = search needs
-
--- src/lib.rt:151:13
+-- src/lib.rt:205:9
 returns-3 : tie.Need-returns-3
-returns-3 c = row-found _ (c .before .before .before .before .before .before .before .before .before .before .before .pre) _ _ (c .before .before .before .before .before .before .before .lower-bound .ensures) (c .before .before .before .before .before .before .if3 .taken) (c .before .before .before .before .if4 .taken) (c .row .ensures)
+unfolding foldedOf
+returns-3 c = c .before .is-still .ensures (c .if3 .taken)
 
--- src/lib.rt:138:1
+-- src/lib.rt:208:8
+is-within-requires-2 : tie.Need-is-within-requires-2
+is-within-requires-2 c κs = search needs
+
+-- src/lib.rt:209:28
+add-t8 : tie.Need-add-t8
+add-t8 c = omega (arith, within-to 0x410 0x42f (c .before .before .before .before .before .before .args .c) (sym (c .before .is-within2 .ensures) ∙ c .if4 .taken))
+
+-- src/lib.rt:209:9
 returns-4 : tie.Need-returns-4
 unfolding foldedOf
-returns-4 c = row-other _ (c .before .before .before .before .before .before .before .pre) _ _ (c .before .before .before .lower-bound .ensures) (c .before .before .if3 .taken) (c .if4 .left)
+returns-4 c = capital _ (c .before .is-within2 .ensures) (c .if4 .taken)
 
--- src/lib.rt:138:1
+-- src/lib.rt:211:5
+fold-in-requires : tie.Need-fold-in-requires
+fold-in-requires c κs = search needs
+
+-- src/lib.rt:194:1
 returns-5 : tie.Need-returns-5
-unfolding foldedOf
-returns-5 c = row-past _ (c .before .before .before .before .before .pre) _ _ (c .before .lower-bound .ensures) (c .if3 .left)
+returns-5 c = search needs
 
 pub fold-spec : {M : Type 1} → statement M
 fold-spec =
     tie.close
     (tie.spec
     is-within-requires
-    add-t6
+    add-t5
     returns
     returns-2
-    sub-lower-bound
-    part-lower-bound-start
-    part-lower-bound-end
-    lower-bound-requires
-    add-if4
-    mul-if4
-    shared-slice-read-if4
-    add-row
-    mul-row
-    shared-slice-read-row
-    add-row-2
-    mul-row-2
-    shared-slice-read-row-2
-    add-row-3
-    mul-row-3
-    shared-slice-read-row-3
-    row-requires
+    is-still-requires
     returns-3
+    is-within-requires-2
+    add-t8
     returns-4
+    fold-in-requires
     returns-5)

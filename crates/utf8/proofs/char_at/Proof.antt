@@ -4,7 +4,7 @@ use Rattle.utf8.proofs.char_at.Statement.{statement}
 use Rattle.utf8.proofs.char_at.Tie as tie
 use Rattle.utf8.proofs.char_at.Reads as reads
 use Rattle.utf8.proofs.char_at.Lts as lts
-use Rattle.utf8.proofs.decode.Reads as decode-reads
+use Rattle.utf8.proofs.wide_at.Reads as wide-at-reads
 use Rattle.utf8.proofs.wide.Reads as wide-reads
 
 -- src/lib.rt:177:13
@@ -20,8 +20,8 @@ returns : tie.Need-returns
 returns c = search (needs, ascii-char)
 
 -- src/lib.rt:184:9
-decode-requires : tie.Need-decode-requires
-decode-requires c κs = search needs
+wide-at-requires : tie.Need-wide-at-requires
+wide-at-requires c κs = search needs
 
 -- src/lib.rt:186:27
 enum-told : tie.Need-enum-told
@@ -46,7 +46,7 @@ char-at-spec =
     shared-slice-read-a
     wide-requires
     returns
-    decode-requires
+    wide-at-requires
     enum-told
     enum-known-d
     returns-2

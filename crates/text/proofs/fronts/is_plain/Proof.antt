@@ -1,8 +1,8 @@
 use Rattle.text.proofs.Plain.{plain-after, plain-low, plain-before}
-use Rattle.text.proofs.is_plain.Statement.{statement}
-use Rattle.text.proofs.is_plain.Tie as tie
-use Rattle.text.proofs.is_plain.Reads as reads
-use Rattle.text.proofs.is_plain.Lts as lts
+use Rattle.text.proofs.fronts.is_plain.Statement.{statement}
+use Rattle.text.proofs.fronts.is_plain.Tie as tie
+use Rattle.text.proofs.fronts.is_plain.Reads as reads
+use Rattle.text.proofs.fronts.is_plain.Lts as lts
 
 -- src/lib.rt:339:9
 returns : tie.Need-returns

@@ -1,0 +1,263 @@
+-- Names whose fronts are compared byte by byte.
+use Prim.Native.Nat.{ℕ, zero, suc, _+_, _-_, _*_, _≤_, _<_}
+use mathlib.Core.Path.{_≡_, refl, sym, ap, _∙_}
+use mathlib.Core.Bool.{Bool, true, false}
+use mathlib.Core.List.{List, [], _∷_, _++_, append-assoc}
+use native.Mathlib.Numerals.{add-one}
+use native.Mathlib.Omega.{arith}
+use borrow.Author.Tests.{eq-eqb, ne-eqb, leb-true, leb-false}
+use lib.Dec.{eqb, leb}
+use lib.ListN.{length, getD, take, drop, take-append-drop, length-drop, length-append}
+use lib.Seq.{take-suc, take-take, drop-drop, getD-drop}
+use Rattle.rules.specs.Basic.{pick, eqList}
+use Rattle.rules.specs.Utf8.{later}
+use Rattle.rules.specs.Unicode.{fold, foldName, sameName}
+use Rattle.rules.proofs.Basics.{within-high, by-order, no-truth}
+use Rattle.rules.proofs.Begins.{later-ascii}
+use Rattle.rules.proofs.Folds.{fold-least}
+use Rattle.utf8.specs.declared.Char.{Char}
+use Rattle.utf8.proofs.Firsts.{part-rest}
+use Rattle.content.specs.Contents.{keptIn}
+use Rattle.content.specs.Kept.{KeptStep}
+use Rattle.content.proofs.Kept.{kept-none, kept-some}
+use Rattle.content.proofs.Seams.{Opens, names-join}
+use Rattle.unicode.specs.declared.Folded.{Folded}
+use Rattle.unicode.specs.declared.Folded.the-variants.{One, Two, Three}
+use Rattle.unicode.specs.Folded.{foldedOf}
+use Rattle.text.specs.declared.Meeting.{Meeting}
+use Rattle.text.specs.declared.Meeting.the-variants.{Answer, On, Unclear}
+use Rattle.text.specs.Seams.{sameAt, WordAt, Common, Seam, meetingOf, Met, answered, onward, unclear}
+use Rattle.text.proofs.Paths.{past-none}
+
+-- ---- the common front
+
+pub common-none : {a b : List ℕ} → Common a b 0
+common-none = record { left = omega arith; right = omega arith; same = refl }
+
+pub common-one : {a b : List ℕ} {i : ℕ} → Common a b i → i < length a → i < length b → getD a i 0 ≡ getD b i 0 → Common a b (i + 1)
+common-one {a} {b} {i} v h g e = record { left = omega arith; right = omega arith; same = rw (add-one, take-suc a i 0 h, take-suc b i 0 g, v .same, e) }
+
+pub word-read : (s : List ℕ) (i : ℕ) {x y z w : ℕ} → x ≡ getD s i 0 → y ≡ getD s (i + 1) 0 → z ≡ getD s (i + 2) 0 → w ≡ getD s (i + 3) 0
+    → ((k : ℕ) → getD s k 0 < 256) → WordAt s i ((x + y * 256) + (z + w * 256) * 65536)
+word-read s i e f g h b = record { is = rw (e, f, g, h); byte0 = b i; byte1 = b (i + 1); byte2 = b (i + 2); byte3 = b (i + 3) }
+
+-- digits are told by their sum
+record Digits (u p v q : ℕ) : Type 0 where
+  low : u ≡ v
+  high : p ≡ q
+
+digits-by : {u p v q : ℕ} → (p < q → ⊥) → (q < p → ⊥) → (p ≡ q → u ≡ v) → Digits u p v q
+digits-by {u} {p} {v} {q} n m f =
+    by-order p q (λ h. by-order q p (λ g. let e : p ≡ q = omega arith in record { low = f e; high = e }) (λ g. absurd (n g))) (λ h. absurd (m h))
+
+digits-256 : {u p v q : ℕ} → u < 256 → v < 256 → u + p * 256 ≡ v + q * 256 → Digits u p v q
+digits-256 h g e = digits-by (λ l. omega arith) (λ l. omega arith) (λ z. omega arith)
+
+digits-65536 : {u p v q : ℕ} → u < 65536 → v < 65536 → u + p * 65536 ≡ v + q * 65536 → Digits u p v q
+digits-65536 h g e = digits-by (λ l. omega arith) (λ l. omega arith) (λ z. omega arith)
+
+pub common-four : {a b : List ℕ} {i x y : ℕ} → Common a b i → i + 4 ≤ length a → i + 4 ≤ length b → WordAt a i x → WordAt b i y → x ≡ y → Common a b (i + 4)
+common-four {a} {b} {i} {x} {y} v h g p q e =
+    let d = digits-65536 (omega (arith, p .byte0, p .byte1)) (omega (arith, q .byte0, q .byte1)) (sym (p .is) ∙ e ∙ q .is) in
+    let l = digits-256 (p .byte0) (q .byte0) (d .low) in
+    let u = digits-256 (p .byte2) (q .byte2) (d .high) in
+    let c1 : Common a b (i + 1) = common-one v (omega arith) (omega arith) (l .low) in
+    let c2 : Common a b (i + 2) = common-next 1 c1 (omega arith) (omega arith) (l .high) in
+    let c3 : Common a b (i + 3) = common-next 2 c2 (omega arith) (omega arith) (u .low) in
+    common-next 3 c3 (omega arith) (omega arith) (u .high)
+  where
+    common-next : (k : ℕ) → Common a b (i + k) → i + k < length a → i + k < length b → getD a (i + k) 0 ≡ getD b (i + k) 0 → Common a b (i + suc k)
+    common-next k c l m z = let w : i + suc k ≡ (i + k) + 1 = omega arith in rw w (common-one c l m z)
+
+pub common-back : {a b : List ℕ} {i : ℕ} → Common a b i → Common a b (i - 1)
+common-back {a} {b} {i} v =
+    let h : i - 1 ≤ i = omega arith in
+    record {
+      left = omega (arith, v .left);
+      right = omega (arith, v .right);
+      same = sym (take-take (i - 1) i a h) ∙ ap (take (i - 1)) (v .same) ∙ take-take (i - 1) i b h;
+    }
+
+-- ---- the ways of `opens`
+
+later-high : (c : ℕ) → 191 < c → later c ≡ false
+unfolding later
+later-high c h = within-high 128 191 c h
+
+module _ (s : List ℕ) (i : ℕ) where
+  first-at : getD (drop i s) 0 0 ≡ getD s i 0
+  first-at = getD-drop i s 0 0 ∙ (let z : i + 0 ≡ i = omega arith in rw z)
+
+  opens-by : later (getD s i 0) ≡ false → (getD s i 0 ≡ 32 → ⊥) → Opens (drop i s)
+  opens-by e n = record { starts = rw first-at e; solid = λ q. n (sym first-at ∙ q) }
+
+  pub opens-end : length s ≤ i → Opens (drop i s)
+  opens-end h = let z = past-none s i h in opens-by (rw z (later-ascii 0 (omega arith))) (λ q. omega (arith, z))
+
+  pub opens-low : getD s i 0 < 128 → (getD s i 0 ≡ 32 → ⊥) → Opens (drop i s)
+  opens-low h n = opens-by (later-ascii (getD s i 0) h) n
+
+  pub opens-high : 191 < getD s i 0 → Opens (drop i s)
+  opens-high h = opens-by (later-high (getD s i 0) h) (λ q. omega arith)
+
+-- ---- seams
+
+pub seam-none : (a b : List ℕ) → Seam a b 0
+unfolding sameAt
+seam-none a b = record { left = omega arith; right = omega arith; is = refl }
+
+module _ (a b : List ℕ) (m : ℕ) (v : Common a b (suc m)) where
+  front : take (suc m) a ≡ take m a ++ (getD a m 0 ∷ [])
+  front = take-suc a m 0 (v .left)
+
+  joined : (r : List ℕ) → take (suc m) a ++ r ≡ take m a ++ (getD a m 0 ∷ r)
+  joined r = rw (front, append-assoc)
+
+  whole-left : a ≡ take m a ++ (getD a m 0 ∷ drop (suc m) a)
+  whole-left = sym (take-append-drop (suc m) a) ∙ joined (drop (suc m) a)
+
+  whole-right : b ≡ take m a ++ (getD a m 0 ∷ drop (suc m) b)
+  whole-right = sym (take-append-drop (suc m) b) ∙ ap (λ (x : List ℕ). x ++ drop (suc m) b) (sym (v .same)) ∙ joined (drop (suc m) b)
+
+  seam-after : (getD a m 0 ≡ 92 → ⊥) → Opens (drop (suc m) a) → Opens (drop (suc m) b) → Seam a b (suc m)
+  unfolding sameAt
+  seam-after n o q =
+      record {
+        left = v .left;
+        right = v .right;
+        is = sym (ap (λ (x : List ℕ). sameName (keptIn x) (keptIn b)) whole-left ∙ ap (λ (x : List ℕ). sameName (keptIn (take m a ++ (getD a m 0 ∷ drop (suc m) a))) (keptIn x)) whole-right ∙ names-join (take m a) (getD a m 0) (drop (suc m) a) (drop (suc m) b) n o q);
+      }
+
+pub seam-at : (a b : List ℕ) (i : ℕ) → 0 < i → Common a b i → (getD a (i - 1) 0 ≡ 92 → ⊥) → Opens (drop i a) → Opens (drop i b) → Seam a b i
+seam-at a b zero h v n o q = absurd (omega arith)
+seam-at a b (suc m) h v n o q = let z : suc m - 1 ≡ m = omega arith in seam-after a b m v (rw z at n) o q
+
+-- ---- the ways of `meet`
+
+fold-more : (c : ℕ) (cs : List ℕ) → eqList (foldName []) (foldName (c ∷ cs)) ≡ false
+unfolding foldName
+fold-more c cs = go (fold c ++ foldName cs) (omega (arith, fold-least c, length-append (fold c) (foldName cs)))
+  where
+    go : (l : List ℕ) → 1 ≤ length l → eqList [] l ≡ false
+    go [] h = absurd (omega arith)
+    go (x ∷ l) h = unfold eqList in refl
+
+more-fold : (c : ℕ) (cs : List ℕ) → eqList (foldName (c ∷ cs)) (foldName []) ≡ false
+unfolding foldName
+more-fold c cs = go (fold c ++ foldName cs) (omega (arith, fold-least c, length-append (fold c) (foldName cs)))
+  where
+    go : (l : List ℕ) → 1 ≤ length l → eqList l [] ≡ false
+    go [] h = absurd (omega arith)
+    go (x ∷ l) h = unfold eqList in refl
+
+module _ (a : List ℕ) (i : ℕ) (b : List ℕ) (j : ℕ) where
+  pub met-parted : sameAt a i b j ≡ false → Met a i b j (Answer false)
+  met-parted e = answered (sym e)
+
+  pub met-both : length a ≤ i → length b ≤ j → true ≡ sameAt a i b j
+  unfolding sameAt sameName foldName eqList
+  met-both h g = rw (kept-none a i h, kept-none b j g)
+
+  pub met-left : length a ≤ i → j < length b → false ≡ sameAt a i b j
+  unfolding sameAt sameName
+  met-left h g = sym (ap (λ (x : List ℕ). eqList (foldName x) (foldName (keptIn (drop j b)))) (kept-none a i h) ∙ ap (λ (x : List ℕ). eqList (foldName []) (foldName x)) (kept-some b j g) ∙ fold-more _ _)
+
+  pub met-end : length a ≤ i → Met a i b j (Answer (leb (length b) j))
+  met-end h = go (leb (length b) j) refl
+    where
+      go : (x : Bool) → leb (length b) j ≡ x → Met a i b j (Answer x)
+      go true e = answered (met-both h (leb-true _ _ e))
+      go false e = answered (met-left h (leb-false _ _ e))
+
+  pub met-right : i < length a → length b ≤ j → Met a i b j (Answer false)
+  unfolding sameAt sameName
+  met-right h g = answered {r = false} (sym (ap (λ (x : List ℕ). eqList (foldName (keptIn (drop i a))) (foldName x)) (kept-none b j g) ∙ ap (λ (x : List ℕ). eqList (foldName x) (foldName [])) (kept-some a i h) ∙ more-fold _ _))
+
+  module _ {x y : Char} (p : KeptStep a i x) (q : KeptStep b j y) where
+    same-step : (u v : ℕ) → u ∷ [] ≡ fold (x .code) → v ∷ [] ≡ fold (y .code) → sameAt a i b j ≡ pick (eqb u v) (sameAt a (i + x .size) b (j + y .size)) false
+    unfolding sameAt sameName foldName
+    same-step u v e g = rw (p .reads, q .reads) (unfold foldName eqList in rw (← e, ← g))
+
+    pub met-folded : (f g : Folded) → foldedOf f ≡ fold (x .code) → foldedOf g ≡ fold (y .code) → Met a i b j (meetingOf f g (i + x .size) (j + y .size))
+    unfolding meetingOf foldedOf
+    met-folded (One u) (One v) e g = go (eqb u v) refl
+      where
+        go : (t : Bool) → eqb u v ≡ t → Met a i b j (pick t (On (i + x .size) (j + y .size)) (Answer false))
+        go true z = let m : i < i + x .size = omega (arith, p .least) in onward m (p .most) (q .most) (sym (same-step u v e g ∙ rw z))
+        go false z = answered {r = false} (sym (same-step u v e g ∙ rw z))
+    met-folded (One u) (Two v w) e g = unclear
+    met-folded (One u) (Three v w z) e g = unclear
+    met-folded (Two u s) g e h = unclear
+    met-folded (Three u s r) g e h = unclear
+
+-- ---- the ways of `meet_folded`
+
+module _ (f g : Folded) (i j : ℕ) where
+  pub folded-same : (x y : ℕ) → f ≡ One x → g ≡ One y → x ≡ y → On i j ≡ meetingOf f g i j
+  unfolding meetingOf
+  folded-same x y e h z = rw (e, h, eq-eqb x y z)
+
+  pub folded-other : (x y : ℕ) → f ≡ One x → g ≡ One y → (x ≡ y → ⊥) → Answer false ≡ meetingOf f g i j
+  unfolding meetingOf
+  folded-other x y e h z = rw (e, h, ne-eqb x y z)
+
+  pub folded-two : (x y z : ℕ) → f ≡ One x → g ≡ Two y z → Unclear ≡ meetingOf f g i j
+  unfolding meetingOf
+  folded-two x y z e h = rw (e, h)
+
+  pub folded-three : (x y z w : ℕ) → f ≡ One x → g ≡ Three y z w → Unclear ≡ meetingOf f g i j
+  unfolding meetingOf
+  folded-three x y z w e h = rw (e, h)
+
+  pub two-folded : (y z : ℕ) → f ≡ Two y z → Unclear ≡ meetingOf f g i j
+  unfolding meetingOf
+  two-folded y z h = rw h
+
+  pub three-folded : (y z w : ℕ) → f ≡ Three y z w → Unclear ≡ meetingOf f g i j
+  unfolding meetingOf
+  three-folded y z w h = rw h
+
+-- ---- the turns of `same_name`
+
+pub record Facing (a b : List ℕ) (i j : ℕ) : Type 0 where
+  pub left : i ≤ length a
+  pub right : j ≤ length b
+  pub is : sameAt a i b j ≡ sameName (keptIn a) (keptIn b)
+
+pub facing : (a b : List ℕ) → Facing a b 0 0
+unfolding sameAt
+facing a b = record { left = omega arith; right = omega arith; is = refl }
+
+pub parted-first : (a b : List ℕ) → sameAt a 0 b 0 ≡ false → false ≡ sameName (keptIn a) (keptIn b)
+parted-first a b e = sym e ∙ facing a b .is
+
+module _ {a b : List ℕ} {i j : ℕ} (v : Facing a b i j) where
+  pub facing-seam : {n : ℕ} → Seam (take (length a - i) (drop i a)) (take (length b - j) (drop j b)) n → Facing a b (i + n) (j + n)
+  unfolding sameAt
+  facing-seam {n} s =
+      let w : Seam (drop i a) (drop j b) n = rw (part-rest a i, part-rest b j) at s in
+      record {
+        left = omega (arith, w .left, length-drop i a, v .left);
+        right = omega (arith, w .right, length-drop j b, v .right);
+        is = (rw (drop-drop n i a, drop-drop n j b) at (w .is)) ∙ v .is;
+      }
+
+  pub facing-answer : {m : Meeting} → Met a i b j m → (r : Bool) → m ≡ Answer r → r ≡ sameName (keptIn a) (keptIn b)
+  facing-answer p r e = go (rw e at p)
+    where
+      go : Met a i b j (Answer r) → r ≡ sameName (keptIn a) (keptIn b)
+      go (answered q) = q ∙ v .is
+
+  pub record Further (k l : ℕ) : Type 0 where
+    pub more : i < k
+    pub still : Facing a b k l
+
+  pub facing-on : {m : Meeting} → Met a i b j m → (k l : ℕ) → m ≡ On k l → Further k l
+  facing-on p k l e = go (rw e at p)
+    where
+      go : Met a i b j (On k l) → Further k l
+      go (onward h g f q) = record { more = h; still = record { left = g; right = f; is = q ∙ v .is } }
+
+  -- the rests as they are lent
+  pub facing-rest : (r : Bool) → r ≡ sameName (keptIn (take (length a - i) (drop i a))) (keptIn (take (length b - j) (drop j b))) → r ≡ sameName (keptIn a) (keptIn b)
+  facing-rest r e = unfold sameAt in ((rw (part-rest a i, part-rest b j) at e) ∙ v .is)

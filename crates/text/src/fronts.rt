@@ -1,0 +1,201 @@
+// The bytes at the fronts and the ends of names and fields; no table is asked.
+ghost use mathlib.Core.Path.{_≡_};
+ghost use mathlib.Core.Bool.{true, false};
+ghost use Prim.Native.Nat.{ℕ, _+_, _≤_, _<_};
+ghost use lib.ListN.{length, drop};
+ghost use Rattle.rules.specs.Unicode.{sameName};
+ghost use Rattle.content.specs.Contents.{keptIn};
+ghost use Rattle.content.proofs.Seams.{Opens};
+ghost use Rattle.text.specs.Plain.{isPlain};
+ghost use Rattle.text.specs.Seams.{sameAt, WordAt, Common, Seam};
+ghost use Rattle.text.specs.Trims.{LastStart};
+
+// Whether a byte stands for itself wherever it stands, is kept, and is below 128: printed, no blank, no backslash.
+fn is_plain(c: u8) -> bool
+    ensures { λ r. ⌜ r ≡ isPlain c ⌝ }
+{
+    if b'\\' < c {
+        return c < 127;
+    }
+    if c < 33 {
+        return false;
+    }
+    c != b'\\'
+}
+
+// Whether the characters at a place of each of two names tell that they are not the same from there on: both are plain, and
+// not the two cases of one letter, which are 32 apart.
+pub(crate) fn is_parted(a: &[u8], i: usize, b: &[u8], j: usize) -> bool
+    ensures { λ r. ⌜ (r ≡ true → sameAt (now (a .entry)) i (now (b .entry)) j ≡ false) ⌝ }
+{
+    if a.len() <= i {
+        return false;
+    }
+    if b.len() <= j {
+        return false;
+    }
+    let x = a[i];
+    let y = b[j];
+    if x % 32 == y % 32 {
+        return false;
+    }
+    if !is_plain(x) {
+        return false;
+    }
+    is_plain(y)
+}
+
+// Whether the last bytes of two names tell that they are not the same: the bytes before them start no escape, and both are
+// plain and not the two cases of one letter.
+pub(crate) fn is_parted_last(a: &[u8], b: &[u8]) -> bool
+    ensures { λ r. ⌜ (r ≡ true → sameName (keptIn (now (a .entry))) (keptIn (now (b .entry))) ≡ false) ⌝ }
+{
+    let n = a.len();
+    let m = b.len();
+    if n < 2 {
+        return false;
+    }
+    if m < 2 {
+        return false;
+    }
+    let x = a[n - 1];
+    let y = b[m - 1];
+    if x % 32 == y % 32 {
+        return false;
+    }
+    if a[n - 2] == b'\\' {
+        return false;
+    }
+    if b[m - 2] == b'\\' {
+        return false;
+    }
+    if !is_plain(x) {
+        return false;
+    }
+    is_plain(y)
+}
+
+fn wide(b: u8) -> u32
+    ensures { λ r. ⌜ r ≡ b ⌝ }
+{
+    b as u32
+}
+
+// Four bytes as one number.
+fn word(s: &[u8], i: usize) -> u32
+    requires { ⌜ i + 4 ≤ length (now s) ⌝ }
+    ensures { λ r. ⌜ WordAt (now (s .entry)) i r ⌝ }
+{
+    let lower = wide(s[i]) + wide(s[i + 1]) * 256;
+    let upper = wide(s[i + 2]) + wide(s[i + 3]) * 256;
+    lower + upper * 65536
+}
+
+fn shorter(n: usize, m: usize) -> usize
+    ensures { λ r. ⌜ (r ≤ n) × (r ≤ m) ⌝ }
+{
+    if n < m { n } else { m }
+}
+
+// From how many places on four bytes follow, in names of so many bytes.
+fn words_in(n: usize) -> usize
+    ensures { λ r. ⌜ (r ≤ n) × ((i : ℕ) → i < r → i + 4 ≤ n) ⌝ }
+{
+    if n < 4 {
+        return 0;
+    }
+    n - 3
+}
+
+// A length of the front that two names have in common; four bytes a turn.
+fn common_words(a: &[u8], b: &[u8]) -> usize
+    ensures { λ r. ⌜ Common (now (a .entry)) (now (b .entry)) r ⌝ }
+{
+    let n = words_in(shorter(a.len(), b.len()));
+    let mut i = 0;
+    while i < n {
+        if word(a, i) != word(b, i) {
+            return i;
+        }
+        i += 4;
+    }
+    i
+}
+
+// The whole length of that front.
+fn common(a: &[u8], b: &[u8]) -> usize
+    ensures { λ r. ⌜ Common (now (a .entry)) (now (b .entry)) r ⌝ }
+{
+    let n = shorter(a.len(), b.len());
+    let mut i = common_words(a, b);
+    while i < n {
+        if a[i] != b[i] {
+            return i;
+        }
+        i += 1;
+    }
+    i
+}
+
+// Whether no blank stands at a place and no byte that goes on with a character.
+fn opens(s: &[u8], i: usize) -> bool
+    ensures { λ r. ⌜ (r ≡ true → Opens (drop i (now (s .entry)))) ⌝ }
+{
+    if s.len() <= i {
+        return true;
+    }
+    let c = s[i];
+    if c == 32 {
+        return false;
+    }
+    if c < 0x80 {
+        return true;
+    }
+    0xbf < c
+}
+
+// Whether the names can be cut at a place, the bytes before it being the same: no escape goes over it, and both rests open.
+fn is_seam(a: &[u8], b: &[u8], i: usize) -> bool
+    requires { ⌜ (0 < i) × Common (now a) (now b) i ⌝ }
+    ensures { λ r. ⌜ (r ≡ true → Seam (now (a .entry)) (now (b .entry)) i) ⌝ }
+{
+    if a[i - 1] == b'\\' {
+        return false;
+    }
+    if !opens(a, i) {
+        return false;
+    }
+    opens(b, i)
+}
+
+// A length of the common front that leaves two names with the same answer.
+pub(crate) fn seam(a: &[u8], b: &[u8]) -> usize
+    ensures { λ r. ⌜ Seam (now (a .entry)) (now (b .entry)) r ⌝ }
+{
+    let mut i = common(a, b);
+    while 0 < i {
+        if is_seam(a, b, i) {
+            return i;
+        }
+        i -= 1;
+    }
+    0
+}
+
+// The last place where no byte stands that goes on with a character; without one 0.
+pub(crate) fn last_start(s: &[u8]) -> usize
+    requires { ⌜ 0 < length (now s) ⌝ }
+    ensures { λ r. ⌜ LastStart (now (s .entry)) r ⌝ }
+{
+    let mut i = s.len() - 1;
+    while 0 < i {
+        if s[i] < 0x80 {
+            return i;
+        }
+        if 0xbf < s[i] {
+            return i;
+        }
+        i -= 1;
+    }
+    0
+}
