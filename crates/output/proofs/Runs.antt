@@ -72,6 +72,9 @@ run-more {f} {at} {i} e p l h q =
       is = rw (k, take-add (i - at) (e - i) (drop at f), drop-drop (i - at) at f, t, escape-append (take (i - at) (drop at f)) (take (e - i) (drop i f)), p .is, q);
     }
 
+pub run-join : {f : List ℕ} {at i e : ℕ} → PlainTo f at i → PlainTo f i e → PlainTo f at e
+run-join {f} {at} {i} {e} p q = run-more e p (q .from) (q .upto) (q .is)
+
 pub run-piece : {f : List ℕ} {at i : ℕ} {r : Bool} (e : ℕ) → PlainTo f at i → i ≤ e → e ≤ length f → r ≡ allPlain (take (e - i) (drop i f)) → not r ≡ false
     → PlainTo f at e
 run-piece {f} {at} {i} {r} e p l h q y = run-more e p l h (plain-all (take (e - i) (drop i f)) (sym q ∙ not-false r y))

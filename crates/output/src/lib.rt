@@ -2,7 +2,7 @@
 // buffer's length, where nothing is written, so writers follow one another with no test between.
 ghost use mathlib.Core.Path.{_≡_};
 ghost use mathlib.Core.List.{[], _∷_};
-ghost use Prim.Native.Nat.{_+_, _≤_};
+ghost use Prim.Native.Nat.{_+_, _≤_, _<_};
 ghost use lib.Dec.{leb};
 ghost use lib.ListN.{length};
 ghost use Rattle.rules.specs.Basic.{decimal};
@@ -135,14 +135,14 @@ fn all_plain(f: &[u8]) -> bool
     plain
 }
 
-// Where pieces of 16 bytes from a place on end that need no escape.
-fn plain_pieces(f: &[u8], at: usize) -> usize
-    requires { ⌜ at ≤ length (now f) ⌝ }
+// Where pieces of so many bytes from a place on end that need no escape.
+fn plain_pieces(f: &[u8], at: usize, size: usize) -> usize
+    requires { ⌜ (at ≤ length (now f)) × (0 < size) ⌝ }
     ensures { λ r. ⌜ PlainTo (now (f .entry)) at r ⌝ }
 {
     let mut i = at;
-    while 16 <= f.len() - i {
-        let e = i + 16;
+    while size <= f.len() - i {
+        let e = i + size;
         if !all_plain(&f[i..e]) {
             return i;
         }
@@ -156,7 +156,8 @@ fn plain_end(f: &[u8], at: usize) -> usize
     requires { ⌜ at ≤ length (now f) ⌝ }
     ensures { λ r. ⌜ PlainTo (now (f .entry)) at r ⌝ }
 {
-    let mut i = plain_pieces(f, at);
+    let a = plain_pieces(f, at, 16);
+    let mut i = plain_pieces(f, a, 4);
     while i < f.len() {
         if !is_plain(f[i]) {
             return i;

@@ -11,14 +11,14 @@ use Rattle.output.proofs.plain_pieces.Lts as lts
 use Rattle.output.proofs.all_plain.Reads as all-plain-reads
 
 abbrev Inv-loop : tie.InvT-loop
-Inv-loop f at i₀ i = PlainTo f at i
+Inv-loop f at size i₀ i = PlainTo f at i
 
 abbrev μ-loop : tie.MeasureT-loop
-μ-loop f at i₀ i = length f - i
+μ-loop f at size i₀ i = length f - i
 
 -- src/lib.rt:143:5
 loop-holds : tie.Need-loop-holds Inv-loop μ-loop
-loop-holds c = run-none _ _ (c .before .pre)
+loop-holds c = run-none _ _ (c .before .pre .0)
 
 -- src/lib.rt:143:17
 sub-loop : tie.Need-sub-loop Inv-loop μ-loop
