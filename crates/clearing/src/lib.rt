@@ -1,4 +1,5 @@
-// Lent memory set to zero, in pieces of at most 2 KB: the C library clears those by vector stores, and longer ones byte by byte.
+// Lent memory set to zero, in pieces of at most 2 KB: those the C library clears by vector stores, and longer ones by a string
+// instruction, which a count of instructions takes for one a byte.
 ghost use mathlib.Core.Path.{_≡_};
 ghost use mathlib.Core.List.{_++_};
 ghost use Prim.Native.Nat.{_-_, _≤_, _<_};

@@ -2,7 +2,7 @@
 use Prim.Native.Nat.{ℕ, _+_, _-_, _≤_, _<_}
 use mathlib.Core.Path.{_≡_, refl, ap, sym, _∙_}
 use mathlib.Core.Bool.{Bool, true, false, not, _&&_}
-use mathlib.Core.List.{List, [], _∷_, _++_, append-nil, append-assoc}
+use mathlib.Core.List.{List, [], _∷_, _++_, append-nil}
 use native.Mathlib.Numerals.{add-one}
 use native.Mathlib.Omega.{arith}
 use borrow.Author.Tests.{ltb-true, eqb-false, not-true, not-false, le-leb, lt-leb}
@@ -10,10 +10,10 @@ use lib.Dec.{eqb, leb, ltb}
 use lib.ListN.{length, getD, take, drop, set, take-append-drop, drop-of-length-le, length-set}
 use lib.Seq.{drop-cons, drop-drop, take-add, take-suc, take-all}
 use Rattle.rules.specs.Sheet.{escapeChar, escape}
-use Rattle.rules.proofs.Basics.{and-left, and-right, by-order}
+use Rattle.rules.proofs.Basics.{and-left, and-right, and-both, by-order}
 use Rattle.output.specs.Put.{Put}
 use Rattle.output.specs.Runs.{isPlain, allPlain, PlainTo}
-use Rattle.output.proofs.Puts.{put-seq, one-in, put-none, keeps}
+use Rattle.output.proofs.Puts.{put-seq, one-in, put-none}
 use Rattle.output.proofs.Texts.{char-plain}
 
 -- ---- all bytes asked
@@ -42,25 +42,26 @@ plain-char c e =
     let n : c ≡ 92 → ⊥ = eqb-false c 92 (not-true (eqb c 92) (and-right (ltb 10 c) (not (eqb c 92)) e)) in
     char-plain c n (λ q. omega arith) (λ q. omega arith)
 
-plain-all : (f : List ℕ) → allPlain f ≡ true → escape f ≡ f
+plain-front : (xs t : List ℕ) → allPlain xs ≡ true → escape (xs ++ t) ≡ xs ++ escape t
 unfolding allPlain escape
-plain-all [] e = refl
-plain-all (c ∷ f) e =
-    rw (plain-char c (and-left (isPlain c) (allPlain f) e), plain-all f (and-right (isPlain c) (allPlain f) e))
+plain-front [] t e = refl
+plain-front (c ∷ xs) t e =
+    rw (plain-char c (and-left (isPlain c) (allPlain xs) e), plain-front xs t (and-right (isPlain c) (allPlain xs) e))
 
-escape-append : (xs ys : List ℕ) → escape (xs ++ ys) ≡ escape xs ++ escape ys
-unfolding escape
-escape-append [] ys = refl
-escape-append (x ∷ xs) ys = rw (escape-append xs ys, append-assoc)
+all-join : (xs ys : List ℕ) → allPlain xs ≡ true → allPlain ys ≡ true → allPlain (xs ++ ys) ≡ true
+unfolding allPlain
+all-join [] ys p q = q
+all-join (c ∷ xs) ys p q =
+    and-both (isPlain c) (allPlain (xs ++ ys)) (and-left (isPlain c) (allPlain xs) p) (all-join xs ys (and-right (isPlain c) (allPlain xs) p) q)
 
 -- ---- a run grows
 pub run-none : (f : List ℕ) (at : ℕ) → at ≤ length f → PlainTo f at at
-unfolding escape
+unfolding allPlain
 run-none f at h =
     let k : at - at ≡ 0 = omega arith in
     record { from = omega arith; upto = h; is = rw k }
 
-run-more : {f : List ℕ} {at i : ℕ} (e : ℕ) → PlainTo f at i → i ≤ e → e ≤ length f → escape (take (e - i) (drop i f)) ≡ take (e - i) (drop i f)
+run-more : {f : List ℕ} {at i : ℕ} (e : ℕ) → PlainTo f at i → i ≤ e → e ≤ length f → allPlain (take (e - i) (drop i f)) ≡ true
     → PlainTo f at e
 run-more {f} {at} {i} e p l h q =
     let a : at ≤ i = p .from in
@@ -69,7 +70,7 @@ run-more {f} {at} {i} e p l h q =
     record {
       from = omega arith;
       upto = h;
-      is = rw (k, take-add (i - at) (e - i) (drop at f), drop-drop (i - at) at f, t, escape-append (take (i - at) (drop at f)) (take (e - i) (drop i f)), p .is, q);
+      is = rw (k, take-add (i - at) (e - i) (drop at f), drop-drop (i - at) at f, t) (all-join (take (i - at) (drop at f)) (take (e - i) (drop i f)) (p .is) q);
     }
 
 pub run-join : {f : List ℕ} {at i e : ℕ} → PlainTo f at i → PlainTo f i e → PlainTo f at e
@@ -77,14 +78,14 @@ run-join {f} {at} {i} {e} p q = run-more e p (q .from) (q .upto) (q .is)
 
 pub run-piece : {f : List ℕ} {at i : ℕ} {r : Bool} (e : ℕ) → PlainTo f at i → i ≤ e → e ≤ length f → r ≡ allPlain (take (e - i) (drop i f)) → not r ≡ false
     → PlainTo f at e
-run-piece {f} {at} {i} {r} e p l h q y = run-more e p l h (plain-all (take (e - i) (drop i f)) (sym q ∙ not-false r y))
+run-piece {f} {at} {i} {r} e p l h q y = run-more e p l h (sym q ∙ not-false r y)
 
 pub run-byte : {f : List ℕ} {at i : ℕ} {r : Bool} → PlainTo f at i → i < length f → r ≡ isPlain (getD f i 0) → not r ≡ false → PlainTo f at (i + 1)
-unfolding escape
+unfolding allPlain
 run-byte {f} {at} {i} {r} p h q y =
     let k : i + 1 - i ≡ 1 = omega arith in
     let b : take (i + 1 - i) (drop i f) ≡ getD f i 0 ∷ [] = rw (k, drop-cons f i 0 h) in
-    run-more (i + 1) p (omega arith) (omega arith) (rw (b, plain-char (getD f i 0) (sym q ∙ not-false r y)))
+    run-more (i + 1) p (omega arith) (omega arith) (rw b (and-both (isPlain (getD f i 0)) true (sym q ∙ not-false r y) refl))
 
 -- ---- a field from i on is a run and the rest
 module _ {f : List ℕ} {i e : ℕ} where
@@ -92,7 +93,7 @@ module _ {f : List ℕ} {i e : ℕ} where
   run-cut p =
       let l : i ≤ e = p .from in
       let t : i + (e - i) ≡ e = omega arith in
-      ap escape (sym (take-append-drop (e - i) (drop i f))) ∙ rw (escape-append (take (e - i) (drop i f)) (drop (e - i) (drop i f)), drop-drop (e - i) i f, t, p .is)
+      ap escape (sym (take-append-drop (e - i) (drop i f))) ∙ plain-front (take (e - i) (drop i f)) (drop (e - i) (drop i f)) (p .is) ∙ rw (drop-drop (e - i) i f, t)
 
   pub run-last : PlainTo f i e → length f ≤ e → escape (drop i f) ≡ take (e - i) (drop i f)
   unfolding escape

@@ -5,7 +5,6 @@ use mathlib.Core.Bool.{Bool, true, not, _&&_}
 use mathlib.Core.List.{List, [], _∷_}
 use lib.Dec.{eqb, ltb}
 use lib.ListN.{length, take, drop}
-use Rattle.rules.specs.Sheet.{escape}
 
 -- past the LF and no backslash: such a byte stands for itself
 unfoldable pub isPlain : ℕ → Bool
@@ -19,4 +18,4 @@ allPlain (c ∷ f) = isPlain c && allPlain f
 pub record PlainTo (f : List ℕ) (at r : ℕ) : Type 0 where
   pub from : at ≤ r
   pub upto : r ≤ length f
-  pub is : escape (take (r - at) (drop at f)) ≡ take (r - at) (drop at f)
+  pub is : allPlain (take (r - at) (drop at f)) ≡ true
