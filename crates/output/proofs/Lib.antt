@@ -1,3 +1,4 @@
 pub mod Over
 pub mod Puts
 pub mod Texts
+pub mod Runs

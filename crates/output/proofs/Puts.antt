@@ -108,6 +108,15 @@ module _ {w o₀ : List ℕ} {at : ℕ} {o : List ℕ} {n : ℕ} where
   pub ends-out : Leads w o₀ at [] o n → length o < n → Put w o₀ at o (length o + 1)
   ends-out i h = ends i (let k : length o < n + 0 = omega arith in sym (after-out n 0 (length o) k))
 
+  -- the rest of the text, written at once
+  pub ends-put : {rest o′ : List ℕ} {r : ℕ} → Leads w o₀ at rest o n → Put rest o n o′ r → Put w o₀ at o′ r
+  ends-put i p = record { bytes = p .bytes ∙ i .bytes; next = p .next ∙ i .next }
+
+-- nothing
+pub put-none : (o : List ℕ) (at : ℕ) → at + 0 ≤ length o → Put [] o at o (at + 0)
+unfolding overAt over
+put-none o at h = record { bytes = sym (take-append-drop at o); next = sym (after-in at 0 (length o) h) }
+
 -- one byte
 pub one-in : (o : List ℕ) (at b : ℕ) → at < length o → Put (b ∷ []) o at (set o at b) (at + 1)
 unfolding overAt over
