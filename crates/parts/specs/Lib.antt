@@ -1,2 +1,3 @@
 pub mod Views
 pub mod Got
+pub mod Near

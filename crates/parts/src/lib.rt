@@ -2,10 +2,13 @@
 // `Ill` says that the part is ill-formed.
 ghost use mathlib.Core.Path.{_≡_};
 ghost use mathlib.Core.List.{[], _∷_};
-ghost use Prim.Native.Nat.{_<_};
-ghost use Rattle.rules.specs.Basic.{isEmpty, eqList};
+ghost use Prim.Native.Nat.{_+_, _≤_, _<_};
+ghost use lib.ListN.{length};
+ghost use Rattle.rules.specs.Basic.{tab, backslash, isEmpty, eqList};
 ghost use Rattle.sheet.specs.Lines.{fieldAt};
+ghost use Rattle.sheet.specs.Runs.{Lacking};
 ghost use Rattle.parts.specs.Views.{partOf};
+ghost use Rattle.parts.specs.Near.{figureOf, endOf, NearRead};
 ghost use Rattle.parts.specs.Got.{DashAt, NumberRead, SpanRead, ContentRead, TextRead, OptTextRead, KindRead, LockRead, QuantityRead, OptQuantityRead};
 
 pub struct Span {
@@ -120,7 +123,8 @@ pub enum GotNumber {
     Ill,
 }
 
-pub fn read_number(line: &[u8], at: usize) -> GotNumber
+// A number, digit by digit.
+fn far_number(line: &[u8], at: usize) -> GotNumber
     ensures { λ r. ⌜ NumberRead (now (line .entry)) at r ⌝ }
 {
     if line.len() <= at {
@@ -161,26 +165,134 @@ pub fn read_number(line: &[u8], at: usize) -> GotNumber
     GotNumber::Got(n, i + 1)
 }
 
+// The value of a digit; of any other byte a number above 9, and of a tab 4294967257.
+fn figure(c: u8) -> u32
+    ensures { λ r. ⌜ r ≡ figureOf c ⌝ }
+{
+    std::num::wrapping_sub_u32(c as u32, 48)
+}
+
+// The number n where its digits end, before a byte with the figure y; the next field would start at `next`.
+fn number_end(y: u32, n: u32, next: usize) -> GotNumber
+    ensures { λ r. ⌜ r ≡ endOf y n next ⌝ }
+{
+    if y == 4294967257 {
+        return GotNumber::Got(n, next);
+    }
+    GotNumber::Ill
+}
+
+// A number at which six bytes are left.
+fn near_number(line: &[u8], at: usize) -> GotNumber
+    requires { ⌜ at + 5 < length (now line) ⌝ }
+    ensures { λ r. ⌜ NearRead (now (line .entry)) at r ⌝ }
+{
+    let n = figure(line[at]);
+    let i = at + 1;
+    let b = figure(line[i]);
+    if n == 0 {
+        return number_end(b, 0, i + 1);
+    }
+    if 9 < n {
+        return GotNumber::Ill;
+    }
+    if 9 < b {
+        return number_end(b, n, i + 1);
+    }
+    let m = n * 10 + b;
+    let j = i + 1;
+    let c = figure(line[j]);
+    if 9 < c {
+        return number_end(c, m, j + 1);
+    }
+    let o = m * 10 + c;
+    let k = j + 1;
+    let d = figure(line[k]);
+    if 9 < d {
+        return number_end(d, o, k + 1);
+    }
+    let p = o * 10 + d;
+    let l = k + 1;
+    let e = figure(line[l]);
+    if 9 < e {
+        return number_end(e, p, l + 1);
+    }
+    let q = p * 10 + e;
+    if 65535 < q {
+        return GotNumber::Ill;
+    }
+    let x = l + 1;
+    let y = figure(line[x]);
+    number_end(y, q, x + 1)
+}
+
+pub fn read_number(line: &[u8], at: usize) -> GotNumber
+    ensures { λ r. ⌜ NumberRead (now (line .entry)) at r ⌝ }
+{
+    if at < line.len() {
+        if 5 < line.len() - at {
+            return near_number(line, at);
+        }
+    }
+    far_number(line, at)
+}
+
 pub enum GotSpan {
     Got(Span, usize),
     Ill,
 }
 
-pub fn read_span(line: &[u8], at: usize) -> GotSpan
+// A span, digit by digit.
+fn far_span(line: &[u8], at: usize) -> GotSpan
     ensures { λ r. ⌜ SpanRead (now (line .entry)) at r ⌝ }
 {
-    let GotNumber::Got(start, a1) = read_number(line, at) else {
+    let GotNumber::Got(start, a1) = far_number(line, at) else {
         return GotSpan::Ill;
     };
-    let GotNumber::Got(end, a2) = read_number(line, a1) else {
+    let GotNumber::Got(end, a2) = far_number(line, a1) else {
         return GotSpan::Ill;
     };
     GotSpan::Got(Span { start, end }, a2)
 }
 
+pub fn read_span(line: &[u8], at: usize) -> GotSpan
+    ensures { λ r. ⌜ SpanRead (now (line .entry)) at r ⌝ }
+{
+    if at < line.len() {
+        if 11 < line.len() - at {
+            let GotNumber::Got(start, a1) = near_number(line, at) else {
+                return GotSpan::Ill;
+            };
+            let GotNumber::Got(end, a2) = near_number(line, a1) else {
+                return GotSpan::Ill;
+            };
+            return GotSpan::Got(Span { start, end }, a2);
+        }
+    }
+    far_span(line, at)
+}
+
 pub enum GotContent {
     Got(Part, usize),
     Ill,
+}
+
+// A place that no tab and no backslash stands before, from `at` on, by eight bytes a turn.
+fn past_plain(line: &[u8], at: usize) -> usize
+    requires { ⌜ at ≤ length (now line) ⌝ }
+    ensures { λ r. ⌜ Lacking tab (now (line .entry)) at r × Lacking backslash (now (line .entry)) at r ⌝ }
+{
+    let mut i = at;
+    while 8 <= line.len() - i {
+        if !sheet::eight_lack(line, i, b'\t') {
+            return i;
+        }
+        if !sheet::eight_lack(line, i, b'\\') {
+            return i;
+        }
+        i += 8;
+    }
+    i
 }
 
 pub fn read_content(line: &[u8], at: usize) -> GotContent
@@ -189,7 +301,7 @@ pub fn read_content(line: &[u8], at: usize) -> GotContent
     if line.len() < at {
         return GotContent::Ill;
     }
-    let mut i = at;
+    let mut i = past_plain(line, at);
     while i < line.len() {
         let c = line[i];
         if c == b'\t' {

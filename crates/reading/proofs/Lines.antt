@@ -4,9 +4,11 @@ use mathlib.Core.Path.{_≡_, refl, ap, sym, _∙_}
 use mathlib.Core.List.{List, [], _∷_}
 use mathlib.Core.Option.{Option, none, some}
 use native.Mathlib.Omega.{arith}
-use borrow.Author.Tests.{le-leb}
+use borrow.Author.Tests.{le-leb, lt-leb, leb-true, leb-false}
+use lib.Dec.{leb}
 use lib.ListN.{length}
-use Rattle.rules.specs.Basic.{isSome, wordIn}
+use Rattle.rules.specs.Basic.{pick, isSome, wordIn}
+use Rattle.rules.proofs.Basics.{pick-either}
 use Rattle.rules.specs.Utf8.{isUtf8, firstFault}
 use Rattle.rules.specs.Sheet.{fieldsOf}
 use Rattle.rules.specs.Words as words
@@ -20,7 +22,7 @@ use Rattle.sheet.specs.Lines.{fieldsFrom, fieldAt}
 use Rattle.utf8.specs.declared.Checked.{Checked}
 use Rattle.utf8.specs.declared.Checked.the-variants.{Valid, Fault}
 use Rattle.utf8.specs.Checking.{checkedOf}
-use Rattle.parts.specs.Got.{Among, among-past, ReadAt}
+use Rattle.parts.specs.Got.{Among, among-past}
 use Rattle.parts.proofs.Sequence.{fails, step, stop, good-of, whole-of}
 use Rattle.parts.proofs.Leaves.{no-fields, field-here}
 use Rattle.events.specs.declared.GotEvent.{GotEvent}
@@ -30,7 +32,7 @@ use Rattle.reading.specs.declared.ReadEvent.{ReadEvent}
 use Rattle.reading.specs.declared.ReadEvent.the-variants as answer
 use Rattle.events.specs.Views.{eventIn, EventWithin, rawEvent}
 use Rattle.events.specs.Got.{EventRead, eventGot}
-use Rattle.reading.specs.Answers.{wordOf, afterWord, readWord, eventAs, IfEvent, IfWhole, EventOf, LineOf}
+use Rattle.reading.specs.Answers.{wordOf, afterWord, readWord, endedAs, eventAs, IfEvent, IfWhole, EventOf, LineOf}
 
 -- ---- the first word
 word-is : (o : Option EventWord) → wordOf (wordAs o) ≡ o
@@ -46,9 +48,6 @@ word-is (some words.cookwareWord) = refl
 word-is (some words.timerWord) = refl
 word-is (some words.errorWord) = refl
 word-is (some words.warningWord) = refl
-
-pub after-is : {w k : Word} {line : List ℕ} {at : ℕ} {o : Option (EventView × ℕ)} → w ≡ k → ReadAt (eventIn line) (EventWithin line) (rawEvent line) (readWord k) line at o → ReadAt (eventIn line) (EventWithin line) (rawEvent line) (readWord w) line at o
-after-is q p = rw q p
 
 pub after-unknown : {line : List ℕ} {at : ℕ} → EventRead (readWord first.Unknown) line at event.Ill
 unfolding readWord wordOf afterWord
@@ -101,6 +100,33 @@ module _ (line : List ℕ) {f : List ℕ} (e : f ≡ fieldAt line 0) {w : Word} 
       pub in-got : length line < m → EventOf line (answer.Event v)
       unfolding eventAs IfEvent IfWhole firstRead
       in-got h = record { is = sym (ap firstRead (split ∙ step p (ap eventGot k) _ (end-is (eventIn line v) (no-fields line m h)))); within = good-of p (ap eventGot k); whole = in-whole h }
+
+-- the same of what `ended` makes of it
+module _ (line : List ℕ) {f : List ℕ} (e : f ≡ fieldAt line 0) {w k : Word} (q : w ≡ wordAs (wordIn f eventWords)) (t : w ≡ k) where
+  got-ended : (g : GotEvent) → EventRead (readWord w) line (length f + 1) g → EventOf line (endedAs (length line) g)
+  unfolding endedAs
+  got-ended (event.Got v m) p =
+      pick-either (EventOf line) (leb m (length line)) _ _ (λ h. in-more line e q p refl (leb-true _ _ h)) (λ h. in-got line e q p refl (leb-false _ _ h))
+  got-ended event.Ill p = in-ill line e q p refl
+
+  pub in-ended : (g : GotEvent) {r : ReadEvent} → EventRead (readWord k) line (length f + 1) g → r ≡ endedAs (length line) g → EventOf line r
+  in-ended g p n = rw n (got-ended g (rw t p))
+
+  pub in-unknown : k ≡ first.Unknown → EventOf line answer.Ill
+  in-unknown u = in-ill line e q (rw (t ∙ u) after-unknown) refl
+
+pub ended-ill : (l : ℕ) {g : GotEvent} → g ≡ event.Ill → answer.Ill ≡ endedAs l g
+unfolding endedAs
+ended-ill l q = rw q
+
+module _ (l : ℕ) {g : GotEvent} {v : EventView} {m : ℕ} (q : g ≡ event.Got v m) where
+  pub ended-more : m ≤ l → answer.Ill ≡ endedAs l g
+  unfolding endedAs
+  ended-more h = rw (q, le-leb m l h)
+
+  pub ended-got : l < m → answer.Event v ≡ endedAs l g
+  unfolding endedAs
+  ended-got h = rw (q, lt-leb m l h)
 
 -- ---- UTF-8
 valid-none : (o : Option ℕ) → Valid ≡ checkedOf o → o ≡ none

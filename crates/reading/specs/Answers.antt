@@ -3,7 +3,9 @@ use Prim.Native.Nat.{ℕ}
 use mathlib.Core.Path.{_≡_}
 use mathlib.Core.List.{List, []}
 use mathlib.Core.Option.{Option, none, some}
+use lib.Dec.{leb}
 use lib.ListN.{length}
+use Rattle.rules.specs.Basic.{pick}
 use Rattle.rules.specs.Sheet.{fieldsOf}
 use Rattle.rules.specs.Words as words
 use Rattle.rules.specs.Event.{Event}
@@ -11,6 +13,8 @@ use Rattle.rules.specs.Read.{Reader, readAfter, readEvent, firstRead, parseLine
 use Rattle.sheet.specs.declared.Word.{Word}
 use Rattle.sheet.specs.declared.Word.the-variants as told
 use Rattle.parts.specs.Got.{Among}
+use Rattle.events.specs.declared.GotEvent.{GotEvent}
+use Rattle.events.specs.declared.GotEvent.the-variants as event
 use Rattle.events.specs.Views.{eventIn, EventWithin, rawEvent}
 use Rattle.rules.specs.Answer.{Reading, events, unread, readLine, readSheet}
 use Rattle.reading.specs.declared.ReadEvent.{ReadEvent}
@@ -55,6 +59,11 @@ IfEvent line answer.Ill = Unit
 unfoldable pub IfWhole : List ℕ → ReadEvent → Type 0
 IfWhole line (answer.Event v) = Among (rawEvent line v) (fieldsOf line) []
 IfWhole line answer.Ill = Unit
+
+-- what a reader of events got, in a line of so many bytes, if the line ends there
+unfoldable pub endedAs : ℕ → GotEvent → ReadEvent
+endedAs l (event.Got v m) = pick (leb m l) answer.Ill (answer.Event v)
+endedAs l event.Ill = answer.Ill
 
 -- what `event_in` and `event_at` answer
 pub record EventOf (line : List ℕ) (r : ReadEvent) : Type 0 where

@@ -1,45 +1,69 @@
 // The event sheet, line by line. All functions take any bytes.
-ghost use Rattle.events.specs.Got.{EventRead};
-ghost use Rattle.reading.specs.Answers.{readWord, EventOf, LineOf, LineChecked, SheetChecked};
-
-// The event after a line's first word.
-pub fn read_after(line: &[u8], at: usize, w: sheet::Word) -> events::GotEvent
-    ensures { λ r. ⌜ EventRead (readWord w) (now (line .entry)) at r ⌝ }
-{
-    match w {
-        sheet::Word::Meta => events::read_meta(line, at),
-        sheet::Word::Section => events::read_section(line, at),
-        sheet::Word::Start => events::read_start(line, at),
-        sheet::Word::End => events::read_end(line, at),
-        sheet::Word::Text => events::read_text_line(line, at),
-        sheet::Word::Ingredient => events::read_ingredient(line, at),
-        sheet::Word::Cookware => events::read_cookware(line, at),
-        sheet::Word::Timer => events::read_timer(line, at),
-        sheet::Word::Error => events::read_finding(line, at, events::Severity::Severe),
-        sheet::Word::Warning => events::read_finding(line, at, events::Severity::Mild),
-        sheet::Word::Unknown => events::GotEvent::Ill,
-    }
-}
+ghost use mathlib.Core.Path.{_≡_};
+ghost use lib.ListN.{length};
+ghost use Rattle.reading.specs.Answers.{endedAs, EventOf, LineOf, LineChecked, SheetChecked};
 
 pub enum ReadEvent {
     Event(events::EventView),
     Ill,
 }
 
-// The event of a line's fields.
-pub fn event_in(line: &[u8]) -> ReadEvent
-    ensures { λ r. ⌜ EventOf (now (line .entry)) r ⌝ }
+// The event that was read, if the line ends with it.
+fn ended(line: &[u8], g: events::GotEvent) -> ReadEvent
+    ensures { λ r. ⌜ r ≡ endedAs (length (now (line .entry))) g ⌝ }
 {
-    let f = sheet::field(line, 0);
-    let n = f.len() + 1;
-    let w = sheet::event_word(f);
-    let events::GotEvent::Got(v, m) = read_after(line, n, w) else {
+    let events::GotEvent::Got(v, m) = g else {
         return ReadEvent::Ill;
     };
     if m <= line.len() {
         return ReadEvent::Ill;
     }
     ReadEvent::Event(v)
+}
+
+// The event of a line's fields. Each word has an exit of its own, so that no view is copied that is larger than its own.
+pub fn event_in(line: &[u8]) -> ReadEvent
+    ensures { λ r. ⌜ EventOf (now (line .entry)) r ⌝ }
+{
+    let f = sheet::field(line, 0);
+    let n = f.len() + 1;
+    let w = sheet::event_word(f);
+    match w {
+        sheet::Word::Meta => {
+            return ended(line, events::read_meta(line, n));
+        }
+        sheet::Word::Section => {
+            return ended(line, events::read_section(line, n));
+        }
+        sheet::Word::Start => {
+            return ended(line, events::read_start(line, n));
+        }
+        sheet::Word::End => {
+            return ended(line, events::read_end(line, n));
+        }
+        sheet::Word::Text => {
+            return ended(line, events::read_text_line(line, n));
+        }
+        sheet::Word::Ingredient => {
+            return ended(line, events::read_ingredient(line, n));
+        }
+        sheet::Word::Cookware => {
+            return ended(line, events::read_cookware(line, n));
+        }
+        sheet::Word::Timer => {
+            return ended(line, events::read_timer(line, n));
+        }
+        sheet::Word::Error => {
+            return ended(
+                line,
+                events::read_finding(line, n, events::Severity::Severe),
+            );
+        }
+        sheet::Word::Warning => {
+            return ended(line, events::read_finding(line, n, events::Severity::Mild));
+        }
+        sheet::Word::Unknown => ReadEvent::Ill,
+    }
 }
 
 // The event of a line without its LF; an ill-formed line has none.

@@ -1,4 +1,5 @@
 pub mod Scans
+pub mod Runs
 pub mod Tests
 pub mod Digits
 pub mod Texts

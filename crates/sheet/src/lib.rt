@@ -1,10 +1,13 @@
 // Readers of the event sheet: lines, fields, words, numbers, escapes. All of them take any bytes.
 ghost use mathlib.Core.Path.{_≡_};
-ghost use Rattle.rules.specs.Basic.{eqList, isSome, wordIn};
+ghost use Prim.Native.Nat.{_+_, _≤_};
+ghost use lib.ListN.{length};
+ghost use Rattle.rules.specs.Basic.{lf, eqList, isSome, wordIn};
 ghost use Rattle.rules.specs.Words.{eventWords, blockKinds, valueKinds, configKeys, defineWords, duplicateWords};
 ghost use Rattle.rules.specs.Utf8.{chars};
 ghost use Rattle.rules.specs.Sheet.{escaped, unescape, numberUpTo, numberOf, signedOf};
 ghost use Rattle.sheet.specs.Lines.{LineAt, fieldAt};
+ghost use Rattle.sheet.specs.Runs.{lacks, Lacking};
 ghost use Rattle.sheet.specs.Words.{wordAs, blockAs, valueAs, keyAs, defineAs, duplicateAs};
 ghost use Rattle.sheet.specs.Numbers.{numberAs, signedNumberAs};
 ghost use Rattle.sheet.specs.Escapes.{orZero, lengthAs, Unescapes};
@@ -17,33 +20,49 @@ pub enum LineEnd {
     Nothing,
 }
 
+// Whether the eight bytes at a place lack the byte b. All of them are looked at, which the compiler makes one comparison.
+pub fn eight_lack(s: &[u8], at: usize, b: u8) -> bool
+    requires { ⌜ at + 8 ≤ length (now s) ⌝ }
+    ensures { λ r. ⌜ r ≡ lacks b (now (s .entry)) at 8 ⌝ }
+{
+    let mut all = true;
+    let mut j = 0;
+    while j < 8 {
+        if s[at + j] == b {
+            all = false;
+        }
+        j += 1;
+    }
+    all
+}
+
+// A place that no LF stands before, from `at` on, by eight bytes a turn.
+fn past_no_end(s: &[u8], at: usize) -> usize
+    ensures { λ r. ⌜ Lacking lf (now (s .entry)) at r ⌝ }
+{
+    if s.len() < at {
+        return at;
+    }
+    let mut i = at;
+    while 8 <= s.len() - i {
+        if !eight_lack(s, i, b'\n') {
+            return i;
+        }
+        i += 8;
+    }
+    i
+}
+
 // The first LF at or after `at`.
 pub fn line_end(s: &[u8], at: usize) -> LineEnd
     ensures { λ r. ⌜ LineAt (now (s .entry)) at r ⌝ }
 {
-    let mut i = at;
+    let mut i = past_no_end(s, at);
     while i < s.len() {
         if s[i] == b'\n' {
             return LineEnd::At(i);
         }
-        // four bytes a turn while there are so many
-        if 4 <= s.len() - i {
-            let j = i + 1;
-            if s[j] == b'\n' {
-                return LineEnd::At(j);
-            }
-            let k = j + 1;
-            if s[k] == b'\n' {
-                return LineEnd::At(k);
-            }
-            let l = k + 1;
-            if s[l] == b'\n' {
-                return LineEnd::At(l);
-            }
-            i = l + 1;
-        } else {
-            i += 1;
-        }
+        i += 1;
     }
     LineEnd::Nothing
 }

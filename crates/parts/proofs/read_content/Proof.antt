@@ -5,7 +5,8 @@ use lib.ListN.{length}
 use Rattle.rules.specs.Read.{readContent, contentOf}
 use Rattle.parts.proofs.Leaves.{leaf-past}
 use Rattle.parts.proofs.Bytes.{at-tab, at-end}
-use Rattle.parts.proofs.Escapes.{ContentFrom, content-starts, content-ends, content-plain, content-cut, content-wrong, content-escaped}
+use Rattle.parts.proofs.Escapes.{ContentFrom, content-ends, content-plain, content-cut, content-wrong, content-escaped}
+use Rattle.parts.proofs.Near.{content-past}
 use Rattle.parts.proofs.read_content.Statement.{statement}
 use Rattle.parts.proofs.read_content.Tie as tie
 use Rattle.parts.proofs.read_content.Reads as reads
@@ -23,9 +24,12 @@ returns : tie.Need-returns Inv-loop μ-loop
 unfolding readContent
 returns c = leaf-past contentOf (c .if1 .taken)
 
+past-plain-requires : tie.Need-past-plain-requires Inv-loop μ-loop
+past-plain-requires c κs = search needs
+
 -- src/lib.rt:193:5
 loop-holds : tie.Need-loop-holds Inv-loop μ-loop
-loop-holds c = content-starts _ _ (c .if1 .left)
+loop-holds c = content-past (c .before .if1 .left) (c .past-plain .ensures .0) (c .past-plain .ensures .1)
 
 -- src/lib.rt:194:17
 shared-slice-read-c : tie.Need-shared-slice-read-c Inv-loop μ-loop
@@ -98,6 +102,7 @@ read-content-spec =
     Inv-loop
     μ-loop
     returns
+    past-plain-requires
     loop-holds
     shared-slice-read-c
     add-t13
