@@ -32,7 +32,8 @@ use Rattle.reading.specs.declared.ReadEvent.{ReadEvent}
 use Rattle.reading.specs.declared.ReadEvent.the-variants as answer
 use Rattle.events.specs.Views.{eventIn, EventWithin, rawEvent}
 use Rattle.events.specs.Got.{EventRead, eventGot}
-use Rattle.reading.specs.Answers.{wordOf, afterWord, readWord, endedAs, eventAs, IfEvent, IfWhole, EventOf, LineOf}
+use Rattle.reading.specs.declared.FirstWord.{FirstWord}
+use Rattle.reading.specs.Answers.{WordRead, wordOf, afterWord, readWord, endedAs, eventAs, IfEvent, IfWhole, EventOf, LineOf}
 
 -- ---- the first word
 word-is : (o : Option EventWord) → wordOf (wordAs o) ≡ o
@@ -102,18 +103,21 @@ module _ (line : List ℕ) {f : List ℕ} (e : f ≡ fieldAt line 0) {w : Word} 
       in-got h = record { is = sym (ap firstRead (split ∙ step p (ap eventGot k) _ (end-is (eventIn line v) (no-fields line m h)))); within = good-of p (ap eventGot k); whole = in-whole h }
 
 -- the same of what `ended` makes of it
-module _ (line : List ℕ) {f : List ℕ} (e : f ≡ fieldAt line 0) {w k : Word} (q : w ≡ wordAs (wordIn f eventWords)) (t : w ≡ k) where
-  got-ended : (g : GotEvent) → EventRead (readWord w) line (length f + 1) g → EventOf line (endedAs (length line) g)
+module _ {line : List ℕ} {u : FirstWord} (o : WordRead line u) {k : Word} (t : u .word ≡ k) where
+  told : k ≡ wordAs (wordIn (fieldAt line 0) eventWords)
+  told = sym t ∙ o .word
+
+  got-ended : (g : GotEvent) → EventRead (readWord k) line (length (fieldAt line 0) + 1) g → EventOf line (endedAs (length line) g)
   unfolding endedAs
   got-ended (event.Got v m) p =
-      pick-either (EventOf line) (leb m (length line)) _ _ (λ h. in-more line e q p refl (leb-true _ _ h)) (λ h. in-got line e q p refl (leb-false _ _ h))
-  got-ended event.Ill p = in-ill line e q p refl
+      pick-either (EventOf line) (leb m (length line)) _ _ (λ h. in-more line refl told p refl (leb-true _ _ h)) (λ h. in-got line refl told p refl (leb-false _ _ h))
+  got-ended event.Ill p = in-ill line refl told p refl
 
-  pub in-ended : (g : GotEvent) {r : ReadEvent} → EventRead (readWord k) line (length f + 1) g → r ≡ endedAs (length line) g → EventOf line r
-  in-ended g p n = rw n (got-ended g (rw t p))
+  pub in-ended : (g : GotEvent) {r : ReadEvent} → EventRead (readWord k) line (u .next) g → r ≡ endedAs (length line) g → EventOf line r
+  in-ended g p n = rw n (got-ended g (rw (o .next) at p))
 
   pub in-unknown : k ≡ first.Unknown → EventOf line answer.Ill
-  in-unknown u = in-ill line e q (rw (t ∙ u) after-unknown) refl
+  in-unknown q = in-ill line refl told (rw q after-unknown) refl
 
 pub ended-ill : (l : ℕ) {g : GotEvent} → g ≡ event.Ill → answer.Ill ≡ endedAs l g
 unfolding endedAs

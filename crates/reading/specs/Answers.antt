@@ -1,15 +1,18 @@
 -- What the readers of whole lines answer: the rules' reading.
-use Prim.Native.Nat.{ℕ}
+use Prim.Native.Nat.{ℕ, _+_}
+use mathlib.Core.Bool.{Bool, false}
 use mathlib.Core.Path.{_≡_}
-use mathlib.Core.List.{List, []}
+use mathlib.Core.List.{List, [], _∷_}
 use mathlib.Core.Option.{Option, none, some}
-use lib.Dec.{leb}
+use lib.Dec.{eqb, leb}
 use lib.ListN.{length}
-use Rattle.rules.specs.Basic.{pick}
+use Rattle.rules.specs.Basic.{tab, pick, wordIn}
 use Rattle.rules.specs.Sheet.{fieldsOf}
 use Rattle.rules.specs.Words as words
 use Rattle.rules.specs.Event.{Event}
 use Rattle.rules.specs.Read.{Reader, readAfter, readEvent, firstRead, parseLine}
+use Rattle.sheet.specs.Lines.{fieldAt}
+use Rattle.sheet.specs.Words.{wordAs}
 use Rattle.sheet.specs.declared.Word.{Word}
 use Rattle.sheet.specs.declared.Word.the-variants as told
 use Rattle.parts.specs.Got.{Among}
@@ -17,6 +20,7 @@ use Rattle.events.specs.declared.GotEvent.{GotEvent}
 use Rattle.events.specs.declared.GotEvent.the-variants as event
 use Rattle.events.specs.Views.{eventIn, EventWithin, rawEvent}
 use Rattle.rules.specs.Answer.{Reading, events, unread, readLine, readSheet}
+use Rattle.reading.specs.declared.FirstWord.{FirstWord}
 use Rattle.reading.specs.declared.ReadEvent.{ReadEvent}
 use Rattle.reading.specs.declared.ReadEvent.the-variants as answer
 use Rattle.reading.specs.declared.LineFault.{LineFault}
@@ -45,6 +49,18 @@ afterWord (some w) fs = readAfter w fs
 -- the reader of what follows a word; after an unknown one nothing is well formed
 unfoldable pub readWord : Word → Reader Event
 readWord w = afterWord (wordOf w)
+
+-- s starts with the word and a tab
+unfoldable pub leadsWith : List ℕ → List ℕ → Bool
+leadsWith [] [] = false
+leadsWith [] (c ∷ s) = eqb c tab
+leadsWith (x ∷ w) [] = false
+leadsWith (x ∷ w) (c ∷ s) = pick (eqb c x) (leadsWith w s) false
+
+-- a line's first word, and where the field after it starts
+pub record WordRead (line : List ℕ) (r : FirstWord) : Type 0 where
+  pub word : r .word ≡ wordAs (wordIn (fieldAt line 0) words.eventWords)
+  pub next : r .next ≡ length (fieldAt line 0) + 1
 
 -- the event that was read, if one was
 unfoldable pub eventAs : List ℕ → ReadEvent → Option Event

@@ -1,7 +1,7 @@
 // The event sheet, line by line. All functions take any bytes.
 ghost use mathlib.Core.Path.{_≡_};
 ghost use lib.ListN.{length};
-ghost use Rattle.reading.specs.Answers.{endedAs, EventOf, LineOf, LineChecked, SheetChecked};
+ghost use Rattle.reading.specs.Answers.{leadsWith, WordRead, endedAs, EventOf, LineOf, LineChecked, SheetChecked};
 
 pub enum ReadEvent {
     Event(events::EventView),
@@ -21,13 +21,72 @@ fn ended(line: &[u8], g: events::GotEvent) -> ReadEvent
     ReadEvent::Event(v)
 }
 
+// Whether the line starts with a word and a tab.
+fn leads(line: &[u8], word: &[u8]) -> bool
+    ensures { λ r. ⌜ r ≡ leadsWith (now (word .entry)) (now (line .entry)) ⌝ }
+{
+    if line.len() <= word.len() {
+        return false;
+    }
+    let mut i = 0;
+    while i < word.len() {
+        if line[i] != word[i] {
+            return false;
+        }
+        i += 1;
+    }
+    line[i] == b'\t'
+}
+
+// A line's first word, and where its next field starts.
+struct FirstWord {
+    word: sheet::Word,
+    next: usize,
+}
+
+// The frequent words first, without a search for the field's end.
+fn first_word(line: &[u8]) -> FirstWord
+    ensures { λ r. ⌜ WordRead (now (line .entry)) r ⌝ }
+{
+    if leads(line, b"text") {
+        return FirstWord {
+            word: sheet::Word::Text,
+            next: 5,
+        };
+    }
+    if leads(line, b"ingredient") {
+        return FirstWord {
+            word: sheet::Word::Ingredient,
+            next: 11,
+        };
+    }
+    if leads(line, b"start") {
+        return FirstWord {
+            word: sheet::Word::Start,
+            next: 6,
+        };
+    }
+    if leads(line, b"end") {
+        return FirstWord {
+            word: sheet::Word::End,
+            next: 4,
+        };
+    }
+    let f = sheet::field(line, 0);
+    let word = sheet::event_word(f);
+    FirstWord {
+        word,
+        next: f.len() + 1,
+    }
+}
+
 // The event of a line's fields. Each word has an exit of its own, so that no view is copied that is larger than its own.
 pub fn event_in(line: &[u8]) -> ReadEvent
     ensures { λ r. ⌜ EventOf (now (line .entry)) r ⌝ }
 {
-    let f = sheet::field(line, 0);
-    let n = f.len() + 1;
-    let w = sheet::event_word(f);
+    let first = first_word(line);
+    let n = first.next;
+    let w = first.word;
     match w {
         sheet::Word::Meta => {
             return ended(line, events::read_meta(line, n));
