@@ -9,10 +9,11 @@ use parts::ValueKind;
 ghost use mathlib.Core.Path.{_≡_};
 ghost use mathlib.Core.Bool.{true, not};
 ghost use mathlib.Core.List.{[], _∷_};
-ghost use Prim.Native.Nat.{_+_, _<_, _≤_};
-ghost use Rattle.rules.specs.Basic.{isSome, when};
+ghost use Prim.Native.Nat.{_+_, _<_};
+ghost use Rattle.rules.specs.Basic.{when};
 ghost use Rattle.rules.specs.Units.{readUnits};
 ghost use Rattle.rules.specs.Answer.{unitsOr};
+ghost use Rattle.unit_index.specs.Index.{Indexed};
 ghost use Rattle.rules.specs.Finding.{foundTwo};
 ghost use Rattle.rules.specs.Model.{isTextual};
 ghost use Rattle.rules.specs.Checks.{textCheck, widened};
@@ -179,6 +180,7 @@ fn unit_place(q: QuantityView) -> Span
 pub fn unit_pair(
     t: &[u32],
     units: &[u8],
+    index: &[u32],
     words: &mut [u32],
     h: Held,
     f: &[u8],
@@ -186,7 +188,7 @@ pub fn unit_pair(
     g: &[u8],
     b: OptQuantity,
 ) -> Held
-    requires { ⌜ (now t ≡ unicodeTables) × (isSome (readUnits (now units)) ≡ true) × OptQuantityWithin (now f) a × OptQuantityWithin (now g) b × Sound (now words) h × (h .counts .findings < 1544) ⌝ }
+    requires { ⌜ (now t ≡ unicodeTables) × Indexed (now units) (now index) × OptQuantityWithin (now f) a × OptQuantityWithin (now g) b × Sound (now words) h × (h .counts .findings < 1544) ⌝ }
     ensures { λ r. ⌜ UnitsChecked (unitsOr (readUnits (now (units .entry)))) (now (f .entry)) a (now (g .entry)) b (now (words .entry)) h (now (words .exit)) r ⌝ }
 {
     match a {
@@ -196,7 +198,7 @@ pub fn unit_pair(
             OptQuantity::Present(y) => {
                 let u = x.unit;
                 let v = y.unit;
-                let code = compatible::compatible_unit(t, units, g, v, f, u);
+                let code = compatible::compatible_unit(t, units, index, g, v, f, u);
                 if code == 0 {
                     return h;
                 }

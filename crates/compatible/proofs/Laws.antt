@@ -35,34 +35,6 @@ use Rattle.parts.specs.Views.{partOf, contentIn, textIn, optTextIn, TextWithin,
 use Rattle.parts.proofs.Contents.{content-of}
 use Rattle.compatible.specs.Fitting.{codeOf, knownOf, unitIn}
 
--- ---- a walk over the list for a content n
-
-pub record Seeking (s n : List ℕ) (at : ℕ) : Type 0 where
-  pub left : isListFrom s at ≡ true
-  pub is : findUnit n (unitsFrom s at) ≡ findUnit n (unitsFrom s 0)
-
-module _ {s n : List ℕ} {at : ℕ} (i : Seeking s n at) where
-  seek-none : unitsFrom s at ≡ [] → Unknown ≡ physicalAs (findUnit n (unitsFrom s 0))
-  unfolding physicalAs findUnit
-  seek-none e = rw (← i .is, e)
-
-  pub seek-end : length s ≤ at → Unknown ≡ physicalAs (findUnit n (unitsFrom s 0))
-  seek-end h = seek-none (units-end s at h)
-
-  pub seek-out : {r : UnitAt} → UnitHere s at r → r ≡ End → Unknown ≡ physicalAs (findUnit n (unitsFrom s 0))
-  seek-out h e = seek-none (h .none-left e)
-
-  module _ {e k : ℕ} {p : Physical} {b : Bool} (t : UnitTurn s at e k p) (q : b ≡ eqList n (chars (part s at e))) where
-    turn-finds : findUnit n (unitsFrom s 0) ≡ pick b (some (t .quantity)) (findUnit n (unitsFrom s k))
-    unfolding findUnit namedAs
-    turn-finds = rw (← i .is, t .is, ← q)
-
-    pub seek-hit : b ≡ true → p ≡ physicalAs (findUnit n (unitsFrom s 0))
-    seek-hit h = t .said ∙ ap physicalAs (sym (turn-finds ∙ rw h))
-
-    pub seek-on : b ≡ false → Seeking s n k
-    seek-on h = record { left = t .rest; is = sym (turn-finds ∙ rw h) }
-
 -- ---- numbers of physical quantities
 
 code-some : (p : PhysicalQuantity) → codeOf (physicalAs (some p)) ≡ physicalNumber p

@@ -3,45 +3,16 @@ use parts::OptText;
 use parts::TextView;
 use units::Physical;
 ghost use mathlib.Core.Path.{_≡_};
-ghost use mathlib.Core.Bool.{true};
-ghost use Rattle.rules.specs.Basic.{isSome};
-ghost use Rattle.rules.specs.Units.{readUnits, findUnit};
+ghost use Rattle.rules.specs.Units.{readUnits};
 ghost use Rattle.rules.specs.Answer.{unitsOr};
 ghost use Rattle.rules.specs.Checks.{compatibleUnit};
 ghost use Rattle.unicode.specs.Tables.{unicodeTables};
 ghost use Rattle.content.specs.Contents.{keptIn};
 ghost use Rattle.text.specs.Trims.{TrimmedTo};
-ghost use Rattle.units.specs.Quantities.{physicalAs};
-ghost use Rattle.units.specs.Lists.{isListFrom, unitsFrom};
+ghost use Rattle.unit_index.specs.Index.{Indexed};
+ghost use Rattle.units.specs.Lists.{unitsFrom};
 ghost use Rattle.parts.specs.Views.{partOf, OptTextWithin, TextWithin};
 ghost use Rattle.compatible.specs.Fitting.{codeOf, knownOf, unitIn};
-
-// What the content of a field, its blanks collapsed, stands for in a well-formed unit list.
-pub fn find_part(units: &[u8], name: &[u8]) -> Physical
-    requires { ⌜ isListFrom (now units) 0 ≡ true ⌝ }
-    ensures { λ r. ⌜ r ≡ physicalAs (findUnit (keptIn (now (name .entry))) (unitsFrom (now (units .entry)) 0)) ⌝ }
-{
-    let mut at = 0;
-    while at < units.len() {
-        let u = units::unit_at(units, at);
-        match u {
-            units::UnitAt::End => {
-                return Physical::Unknown;
-            }
-            units::UnitAt::Unit {
-                name_end,
-                next,
-                physical,
-            } => {
-                if content::same_content(name, &units[at..name_end]) {
-                    return physical;
-                }
-                at = next;
-            }
-        }
-    }
-    Physical::Unknown
-}
 
 fn physical_code(p: Physical) -> u32
     ensures { λ r. ⌜ r ≡ codeOf p ⌝ }
@@ -57,19 +28,19 @@ fn physical_code(p: Physical) -> u32
 }
 
 // The code for two units, or 0 where they fit. The same unit fits, known or not.
-pub fn known_units(units: &[u8], a: &[u8], b: &[u8]) -> u32
-    requires { ⌜ isListFrom (now units) 0 ≡ true ⌝ }
+pub fn known_units(units: &[u8], index: &[u32], a: &[u8], b: &[u8]) -> u32
+    requires { ⌜ Indexed (now units) (now index) ⌝ }
     ensures { λ r. ⌜ r ≡ knownOf (unitsFrom (now (units .entry)) 0) (keptIn (now (a .entry))) (keptIn (now (b .entry))) ⌝ }
 {
     if content::same_parts(a, b) {
         return 0;
     }
-    let p = find_part(units, a);
+    let p = unit_index::find_named(units, index, a);
     let m = physical_code(p);
     if m == 5 {
         return 17;
     }
-    let q = find_part(units, b);
+    let q = unit_index::find_named(units, index, b);
     let n = physical_code(q);
     if n == 5 {
         return 17;
@@ -90,8 +61,16 @@ pub fn text_part<'a>(t: &[u32], line: &'a [u8], v: TextView) -> &'a [u8]
 }
 
 // The code for the units of two quantities, each of its line: 15, 16, 17, or 0 where they fit.
-pub fn compatible_unit(t: &[u32], units: &[u8], f: &[u8], a: OptText, g: &[u8], b: OptText) -> u32
-    requires { ⌜ (now t ≡ unicodeTables) × (isSome (readUnits (now units)) ≡ true) × OptTextWithin (now f) a × OptTextWithin (now g) b ⌝ }
+pub fn compatible_unit(
+    t: &[u32],
+    units: &[u8],
+    index: &[u32],
+    f: &[u8],
+    a: OptText,
+    g: &[u8],
+    b: OptText,
+) -> u32
+    requires { ⌜ (now t ≡ unicodeTables) × Indexed (now units) (now index) × OptTextWithin (now f) a × OptTextWithin (now g) b ⌝ }
     ensures { λ r. ⌜ r ≡ compatibleUnit (unitsOr (readUnits (now (units .entry)))) (unitIn (now (f .entry)) a) (unitIn (now (g .entry)) b) ⌝ }
 {
     match a {
@@ -104,7 +83,7 @@ pub fn compatible_unit(t: &[u32], units: &[u8], f: &[u8], a: OptText, g: &[u8], 
             OptText::Present(v) => {
                 let x = text_part(t, f, u);
                 let y = text_part(t, g, v);
-                known_units(units, x, y)
+                known_units(units, index, x, y)
             }
         },
     }

@@ -1,13 +1,13 @@
 // `ingredient` and `cookware` lines in a step: what a component refers to, what is found at it, and its row in work memory.
 ghost use mathlib.Core.Path.{_≡_};
 ghost use mathlib.Core.Bool.{true};
-ghost use Prim.Native.Nat.{_+_, _≤_, _<_};
+ghost use Prim.Native.Nat.{_+_, _≤_};
 ghost use lib.ListN.{length};
 ghost use lib.Seq.{slice};
-ghost use Rattle.rules.specs.Basic.{isSome};
 ghost use Rattle.rules.specs.Event.{inside, componentEvent};
 ghost use Rattle.rules.specs.Units.{readUnits};
 ghost use Rattle.rules.specs.Answer.{unitsOr};
+ghost use Rattle.unit_index.specs.Index.{Indexed};
 ghost use Rattle.rules.specs.Model.{ingredient};
 ghost use Rattle.unicode.specs.Tables.{unicodeTables};
 ghost use Rattle.components.specs.Views.{modifiersIn};
@@ -241,6 +241,7 @@ fn intermediate_line(
 fn named_reports(
     t: &[u32],
     units: &[u8],
+    index: &[u32],
     flags: u32,
     sheet: &[u8],
     at: usize,
@@ -252,7 +253,7 @@ fn named_reports(
     words: &mut [u32],
     h: Held,
 ) -> Held
-    requires { ⌜ (now t ≡ unicodeTables) × (isSome (readUnits (now units)) ≡ true) × ComponentHere (kindOf «is_ingredient») (now sheet) at end v × SameBelow (kindOf «is_ingredient») h to × Sound (now words) h × AllFit (now sheet) (now words) h × Roomy h × (h .counts .findings ≤ 1024) ⌝ }
+    requires { ⌜ (now t ≡ unicodeTables) × Indexed (now units) (now index) × ComponentHere (kindOf «is_ingredient») (now sheet) at end v × SameBelow (kindOf «is_ingredient») h to × Sound (now words) h × AllFit (now sheet) (now words) h × Roomy h × (h .counts .findings ≤ 1024) ⌝ }
     ensures { λ r. ⌜ NamedReported (unitsOr (readUnits (now (units .entry)))) flags (kindOf «is_ingredient») (now (sheet .entry)) (slice at end (now (sheet .entry))) v old to (now (words .entry)) h (now (words .exit)) r ⌝ }
 {
     let m = v.modifiers;
@@ -270,6 +271,7 @@ fn named_reports(
     unit_checks::checks_after(
         t,
         units,
+        index,
         flags,
         words,
         k2,
@@ -285,6 +287,7 @@ fn named_reports(
 fn named_line(
     t: &[u32],
     units: &[u8],
+    index: &[u32],
     flags: u32,
     sheet: &[u8],
     at: usize,
@@ -294,7 +297,7 @@ fn named_line(
     words: &mut [u32],
     h: Held,
 ) -> Held
-    requires { ⌜ (now t ≡ unicodeTables) × (isSome (readUnits (now units)) ≡ true) × ComponentHere (kindOf «is_ingredient») (now sheet) at end v × Sound (now words) h × AllFit (now sheet) (now words) h × Roomy h × (h .counts .findings ≤ 1024) ⌝ }
+    requires { ⌜ (now t ≡ unicodeTables) × Indexed (now units) (now index) × ComponentHere (kindOf «is_ingredient») (now sheet) at end v × Sound (now words) h × AllFit (now sheet) (now words) h × Roomy h × (h .counts .findings ≤ 1024) ⌝ }
     ensures { λ r. ⌜ NamedDone (unitsOr (readUnits (now (units .entry)))) flags (kindOf «is_ingredient») (now (sheet .entry)) (slice at end (now (sheet .entry))) v (now (words .entry)) h (now (words .exit)) r ⌝ }
 {
     let m = v.modifiers;
@@ -310,6 +313,7 @@ fn named_line(
     let k = named_reports(
         t,
         units,
+        index,
         flags,
         sheet,
         at,
@@ -329,6 +333,7 @@ fn named_line(
 pub fn on_ingredient(
     t: &[u32],
     units: &[u8],
+    index: &[u32],
     flags: u32,
     sheet: &[u8],
     at: usize,
@@ -338,7 +343,7 @@ pub fn on_ingredient(
     words: &mut [u32],
     h: Held,
 ) -> Passed
-    requires { ⌜ (now t ≡ unicodeTables) × (isSome (readUnits (now units)) ≡ true) × LineHere (now sheet) at end (inside (componentEvent (componentEventIn (slice at end (now sheet)) (event.Ingredient v i)))) × ComponentEventWithin (slice at end (now sheet)) (event.Ingredient v i) × ComponentEventFields (slice at end (now sheet)) (event.Ingredient v i) × Kept (now sheet) (now words) h ⌝ }
+    requires { ⌜ (now t ≡ unicodeTables) × Indexed (now units) (now index) × LineHere (now sheet) at end (inside (componentEvent (componentEventIn (slice at end (now sheet)) (event.Ingredient v i)))) × ComponentEventWithin (slice at end (now sheet)) (event.Ingredient v i) × ComponentEventFields (slice at end (now sheet)) (event.Ingredient v i) × Kept (now sheet) (now words) h ⌝ }
     ensures { λ r. ⌜ ComponentDone (unitsOr (readUnits (now (units .entry)))) flags (now (sheet .entry)) (slice at end (now (sheet .entry))) (event.Ingredient v i) (now (words .entry)) h (now (words .exit)) r ⌝ }
 {
     let m = v.modifiers;
@@ -348,7 +353,7 @@ pub fn on_ingredient(
     }
     match i {
         OptIntermediate::Absent => {
-            let k = named_line(t, units, flags, sheet, at, end, v, true, words, h);
+            let k = named_line(t, units, index, flags, sheet, at, end, v, true, words, h);
             Passed::Next(k)
         }
         OptIntermediate::Present(x) => {
@@ -361,6 +366,7 @@ pub fn on_ingredient(
 pub fn on_cookware(
     t: &[u32],
     units: &[u8],
+    index: &[u32],
     flags: u32,
     sheet: &[u8],
     at: usize,
@@ -369,9 +375,9 @@ pub fn on_cookware(
     words: &mut [u32],
     h: Held,
 ) -> Passed
-    requires { ⌜ (now t ≡ unicodeTables) × (isSome (readUnits (now units)) ≡ true) × LineHere (now sheet) at end (inside (componentEvent (componentEventIn (slice at end (now sheet)) (event.Cookware v)))) × ComponentEventWithin (slice at end (now sheet)) (event.Cookware v) × ComponentEventFields (slice at end (now sheet)) (event.Cookware v) × Kept (now sheet) (now words) h ⌝ }
+    requires { ⌜ (now t ≡ unicodeTables) × Indexed (now units) (now index) × LineHere (now sheet) at end (inside (componentEvent (componentEventIn (slice at end (now sheet)) (event.Cookware v)))) × ComponentEventWithin (slice at end (now sheet)) (event.Cookware v) × ComponentEventFields (slice at end (now sheet)) (event.Cookware v) × Kept (now sheet) (now words) h ⌝ }
     ensures { λ r. ⌜ ComponentDone (unitsOr (readUnits (now (units .entry)))) flags (now (sheet .entry)) (slice at end (now (sheet .entry))) (event.Cookware v) (now (words .entry)) h (now (words .exit)) r ⌝ }
 {
-    let k = named_line(t, units, flags, sheet, at, end, v, false, words, h);
+    let k = named_line(t, units, index, flags, sheet, at, end, v, false, words, h);
     Passed::Next(k)
 }

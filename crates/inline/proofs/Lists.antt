@@ -1,53 +1,45 @@
--- The search for a name in the unit list.
-use Prim.Native.Nat.{ℕ, _≤_}
-use mathlib.Core.Path.{_≡_, refl, sym, ap, _∙_}
+-- The search for a name along a chain of the unit list.
+use Prim.Native.Nat.{ℕ, _-_, _≤_, _<_}
+use mathlib.Core.Path.{_≡_, refl, ap, sym, _∙_}
 use mathlib.Core.Bool.{Bool, true, false}
 use mathlib.Core.List.{List}
-use mathlib.Core.Option.{some}
+use native.Mathlib.Omega.{arith}
 use lib.ListN.{length}
 use Rattle.rules.specs.Basic.{eqList, isSome}
-use Rattle.rules.specs.Utf8.{chars}
-use Rattle.rules.proofs.SameChars.{same-chars}
-use Rattle.content.specs.Contents.{plainOf, contentIn}
-use Rattle.content.specs.Parts.{Field}
-use Rattle.content.proofs.Spells.{plain-utf8}
-use Rattle.rules.specs.Units.{readUnits, findUnit}
+use Rattle.content.specs.Contents.{contentIn}
+use Rattle.rules.specs.Units.{NamedUnit, readUnits, findUnit}
 use Rattle.rules.specs.Answer.{unitsOr}
-use Rattle.units.specs.declared.Physical.{Physical}
-use Rattle.units.specs.declared.Physical.the-variants.{Unknown}
-use Rattle.units.specs.declared.UnitAt.{UnitAt}
-use Rattle.units.specs.declared.UnitAt.the-variants.{End}
-use Rattle.units.specs.Quantities.{physicalAs, isKnown}
-use Rattle.units.specs.Lists.{unitsFrom, part, UnitTurn, UnitHere}
-use Rattle.units.proofs.Parts.{known-some}
-use Rattle.units.proofs.Walks.{list-starts, units-start, Finding, finding-end, finding-out, finding-hit, finding-on}
+use Rattle.units.specs.Lists.{unitsFrom}
+use Rattle.units.proofs.Walks.{units-start}
+use Rattle.chains.proofs.Seeks.{Seeking}
+use Rattle.unit_index.specs.Index.{head, next, bucket, names, Indexed, Linked}
+use Rattle.unit_index.proofs.Searches.{seek-first, seek-less, seek-next, content-linked, content-none, content-has}
 
-unknown : isKnown Unknown ≡ false
-unknown = unfold isKnown in refl
+-- the lines that are left of the chain of a name
+pub record Along (units index name : List ℕ) (p : ℕ) : Type 0 where
+  pub seeks : Seeking bucket (names units) (length (unitsFrom units 0)) (contentIn name) p
 
--- the name stands escaped; the list is searched for the bytes that it stands for
-module _ (units name : List ℕ) (ok : isSome (readUnits units) ≡ true) where
-  said : {p : Physical} → p ≡ physicalAs (findUnit (chars (plainOf name)) (unitsFrom units 0)) → isSome (findUnit (contentIn name) (unitsOr (readUnits units))) ≡ isKnown p
-  unfolding contentIn
-  said e = rw (← units-start units ok) (sym (known-some (findUnit (chars (plainOf name)) (unitsFrom units 0))) ∙ ap isKnown (sym e))
+module _ (name : List ℕ) {units index : List ℕ} (x : Indexed units index) where
+  pub along-first : {p : ℕ} → p ≡ head index (bucket (contentIn name)) → Along units index name p
+  along-first e = record { seeks = seek-first (x .filled) e refl }
 
-  module _ {at : ℕ} (i : Finding units (plainOf name) 0 at) where
-    pub list-end : length units ≤ at → isSome (findUnit (contentIn name) (unitsOr (readUnits units))) ≡ false
-    list-end h = said (finding-end i h) ∙ unknown
+  module _ {p : ℕ} (v : Along units index name p) where
+    pub along-end : p ≡ 0 → isSome (findUnit (contentIn name) (unitsOr (readUnits units))) ≡ false
+    along-end q = ap (λ (us : List NamedUnit). isSome (findUnit (contentIn name) us)) (sym (units-start units (x .list))) ∙ content-none x (v .seeks) q
 
-    pub list-out : {r : UnitAt} → UnitHere units at r → r ≡ End → isSome (findUnit (contentIn name) (unitsOr (readUnits units))) ≡ false
-    list-out h e = said (finding-out i h e) ∙ unknown
+    module _ (t : p ≡ 0 → ⊥) where
+      pub along-linked : Linked units p
+      along-linked = content-linked x (v .seeks) t
 
-    module _ {e k : ℕ} {p : Physical} {b : Bool} (u : Field name) (t : UnitTurn units at e k p) (q : b ≡ eqList (contentIn name) (chars (part units at e))) where
-      bytes : b ≡ eqList (plainOf name) (part units at e)
-      unfolding contentIn
-      bytes = q ∙ same-chars (plainOf name) (part units at e) (plain-utf8 u) (t .utf8)
+      pub along-few : (0 < p) × (p ≤ 1024)
+      along-few = (along-linked .some, omega (arith, along-linked .most, x .filled .most))
 
-      pub list-hit : b ≡ true → isSome (findUnit (contentIn name) (unitsOr (readUnits units))) ≡ true
-      list-hit h = said (finding-hit i (plain-utf8 u) t bytes h) ∙ ap isKnown (t .said) ∙ known-some (some (t .quantity)) ∙ unfold isSome in refl
+      pub along-less : {q : ℕ} → q ≡ next index (p - 1) → q < p
+      along-less g = seek-less (x .filled) (v .seeks) t g
 
-      pub list-on : b ≡ false → Finding units (plainOf name) 0 k
-      list-on h = finding-on i (plain-utf8 u) t bytes h
+      module _ {r : Bool} (s : r ≡ eqList (contentIn name) (names units (p - 1))) where
+        pub along-hit : r ≡ true → isSome (findUnit (contentIn name) (unitsOr (readUnits units))) ≡ true
+        along-hit h = ap (λ (us : List NamedUnit). isSome (findUnit (contentIn name) us)) (sym (units-start units (x .list))) ∙ content-has x (v .seeks) t s h
 
-  pub list-start : Finding units (plainOf name) 0 0
-  list-start = record { left = list-starts units ok; is = refl }
+        pub along-on : {q : ℕ} → r ≡ false → q ≡ next index (p - 1) → Along units index name q
+        along-on h g = record { seeks = seek-next (x .filled) (v .seeks) t s h g }

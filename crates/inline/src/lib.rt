@@ -1,19 +1,18 @@
 // Quantities inside a text. A text is the content of a field or of a part of one, which stands escaped; places are those
 // of the field's bytes. The Unicode tables are lent.
 ghost use mathlib.Core.Path.{_≡_};
-ghost use mathlib.Core.Bool.{true};
 ghost use Prim.Native.Nat.{_≤_, _<_};
 ghost use lib.ListN.{length, drop};
-ghost use Rattle.rules.specs.Basic.{eqList, isDigit, isSome};
+ghost use Rattle.rules.specs.Basic.{isDigit};
 ghost use Rattle.rules.specs.Units.{readUnits};
 ghost use Rattle.rules.specs.Answer.{unitsOr};
 ghost use Rattle.rules.specs.Unicode.{isWhiteSpace};
-ghost use Rattle.rules.specs.Utf8.{chars};
 ghost use Rattle.content.specs.Contents.{contentIn};
 ghost use Rattle.content.specs.Parts.{Field};
 ghost use Rattle.rules.specs.Text.{isNotAlphabetic};
 ghost use Rattle.rules.specs.Inline.{isNoDigit, isDigitOrPoint, points as pointsIn};
 ghost use Rattle.unicode.specs.Tables.{unicodeTables};
+ghost use Rattle.unit_index.specs.Index.{Indexed};
 ghost use Rattle.inline.specs.Scans.{isNotWhite, leadSize, part, Front, SignAt, UnitPart};
 ghost use Rattle.inline.specs.Found.{InlineAt};
 ghost use Rattle.inline.specs.Items.{CountsOf, textItems};
@@ -186,14 +185,6 @@ fn unit_part(t: &[u32], s: &[u8], from: usize, to: usize) -> Span
     }
 }
 
-// Whether the name from a place of the unit list to another is the content of a field's part.
-fn is_unit(units: &[u8], at: usize, end: usize, name: &[u8]) -> bool
-    requires { ⌜ (at ≤ end) × (end ≤ length (now units)) ⌝ }
-    ensures { λ r. ⌜ r ≡ eqList (contentIn (now (name .entry))) (chars (part at end (now (units .entry)))) ⌝ }
-{
-    content::same_chars(name, &units[at..end])
-}
-
 // The first quantity of a text whose unit is known.
 pub enum Inline {
     // Where its number starts, with its sign, and ends; where its unit's name starts and ends; where the search goes on.
@@ -208,8 +199,8 @@ pub enum Inline {
 }
 
 // The first quantity of the text from a place on.
-pub fn find_inline_quantity(t: &[u32], units: &[u8], s: &[u8], from: usize) -> Inline
-    requires { ⌜ (now t ≡ unicodeTables) × (isSome (readUnits (now units)) ≡ true) × (from ≤ length (now s)) × (Field (drop from (now s))) ⌝ }
+pub fn find_inline_quantity(t: &[u32], units: &[u8], index: &[u32], s: &[u8], from: usize) -> Inline
+    requires { ⌜ (now t ≡ unicodeTables) × Indexed (now units) (now index) × (from ≤ length (now s)) × (Field (drop from (now s))) ⌝ }
     ensures { λ r. ⌜ InlineAt (unitsOr (readUnits (now (units .entry)))) (now (s .entry)) from r ⌝ }
 {
     let mut i = from;
@@ -225,21 +216,14 @@ pub fn find_inline_quantity(t: &[u32], units: &[u8], s: &[u8], from: usize) -> I
             break Inline::Nothing;
         }
         let after = word_end(t, s, word);
-        let name = unit_part(t, s, word, after);
-        let unit_from = name.from;
-        let unit_to = name.to;
+        let span = unit_part(t, s, word, after);
+        let unit_from = span.from;
+        let unit_to = span.to;
         if points(&s[digit..number_to]) <= 1 {
-            let mut at = 0;
-            while at < units.len() {
-                let units::UnitAt::Unit {
-                    name_end,
-                    next,
-                    physical: _,
-                } = units::unit_at(units, at)
-                else {
-                    break;
-                };
-                if is_unit(units, at, name_end, &s[unit_from..unit_to]) {
+            let name = &s[unit_from..unit_to];
+            let mut p = unit_index::first_of(index, name);
+            while p != 0 {
+                if unit_index::is_named(units, index, p, name) {
                     break 'numbers Inline::Found {
                         number_from,
                         number_to,
@@ -248,7 +232,7 @@ pub fn find_inline_quantity(t: &[u32], units: &[u8], s: &[u8], from: usize) -> I
                         after,
                     };
                 }
-                at = next;
+                p = unit_index::next_of(index, p);
             }
         }
         i = after;
@@ -271,15 +255,15 @@ fn text_items(from: usize, to: usize) -> usize
     0
 }
 
-pub fn count_items(t: &[u32], units: &[u8], s: &[u8]) -> Counts
-    requires { ⌜ (now t ≡ unicodeTables) × (isSome (readUnits (now units)) ≡ true) × (Field (now s)) ⌝ }
+pub fn count_items(t: &[u32], units: &[u8], index: &[u32], s: &[u8]) -> Counts
+    requires { ⌜ (now t ≡ unicodeTables) × Indexed (now units) (now index) × (Field (now s)) ⌝ }
     ensures { λ r. ⌜ CountsOf (unitsOr (readUnits (now (units .entry)))) (now (s .entry)) r ⌝ }
 {
     let mut items = 0;
     let mut quantities = 0;
     let mut at = 0;
     loop {
-        let f = find_inline_quantity(t, units, s, at);
+        let f = find_inline_quantity(t, units, index, s, at);
         match f {
             Inline::Nothing => {
                 return Counts {

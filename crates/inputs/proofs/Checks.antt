@@ -4,6 +4,7 @@ use mathlib.Core.Path.{_≡_, refl, ap, sym, _∙_}
 use mathlib.Core.Bool.{Bool, true, false, _||_}
 use mathlib.Core.List.{List}
 use mathlib.Core.Option.{Option, none, some}
+use native.Mathlib.Omega.{arith}
 use borrow.Author.Tests.{lt-ltb, le-ltb}
 use lib.ListN.{length}
 use Rattle.rules.specs.Utf8.{isUtf8, firstFault}
@@ -16,13 +17,14 @@ use Rattle.utf8.proofs.Steps.{valid-utf8, fault-utf8}
 use Rattle.units.specs.declared.UnitsChecked.{UnitsChecked}
 use Rattle.units.specs.declared.UnitsChecked.the-variants as list
 use Rattle.units.specs.Lists.{unitsCheckedOf}
+use Rattle.unit_index.specs.Index.{UnitsIndexed}
 use Rattle.units.proofs.Answers.{Read, ill-units, twice-units, good-units}
 use Rattle.reading.specs.declared.SheetRead.{SheetRead}
 use Rattle.reading.specs.declared.SheetRead.the-variants as read
 use Rattle.reading.specs.Answers.{faultOf, readAs, SheetChecked}
 use Rattle.inputs.specs.declared.Inputs.{Inputs}
 use Rattle.inputs.specs.declared.Inputs.the-variants.{Good, Refused}
-use Rattle.inputs.specs.Inputs.{inputsAs, refused, sheetFault, unitsFault, contentsFault, inputsFault, SheetFlagsChecked, ContentsChecked, InputsChecked}
+use Rattle.inputs.specs.Inputs.{inputsAs, refused, sheetFault, unitsFault, contentsFault, inputsFault, SheetFlagsChecked, ContentsChecked, InputsChecked, UnitsReady}
 
 -- ---- 7, then 8 to 10
 module _ {sheet text : List ℕ} {flags : ℕ} where
@@ -65,6 +67,14 @@ module _ {sheet text units : List ℕ} {flags : ℕ} {a : Checked} (p : a ≡ ch
     units-good e s =
         let t = good-units (readUnits units) (sym q ∙ e) in
         record { is = rw (valid-utf8 text (sym p ∙ v), t .is, t .twice) (s .is) }
+
+-- ---- the index
+
+pub refused-ready : {units index : List ℕ} {n l : ℕ} → length index ≡ 2304 → UnitsReady units index (Refused n l)
+refused-ready h = record { long = h; indexed = λ q. absurd (let z : _≡_ {A = ℕ} 0 1 = cc in omega arith) }
+
+pub good-ready : {units index : List ℕ} {b : UnitsChecked} {r : Inputs} → UnitsIndexed units index b → b ≡ list.Good → UnitsReady units index r
+good-ready x e = record { long = x .long; indexed = λ _. x .indexed e }
 
 -- ---- 1 to 3
 module _ {sheet text units : List ℕ} {flags words bytes : ℕ} where

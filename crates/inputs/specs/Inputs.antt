@@ -12,6 +12,7 @@ use Rattle.rules.specs.Event.{Event}
 use Rattle.rules.specs.Units.{NamedUnit, readUnits, nameTwice}
 use Rattle.rules.specs.Pass.{parseEvents}
 use Rattle.rules.specs.Answer.{Lent, wordsNeeded, bytesNeeded, isShort, Reading, events, readSheet, eventsOr, unitsOr, collection}
+use Rattle.unit_index.specs.Index.{Indexed}
 use Rattle.reading.specs.Answers.{faultOf}
 use Rattle.inputs.specs.declared.Inputs.{Inputs}
 use Rattle.inputs.specs.declared.Inputs.the-variants.{Good, Refused}
@@ -60,6 +61,11 @@ pub record ContentsChecked (sheet text units : List ℕ) (flags : ℕ) (r : Inpu
 
 pub record InputsChecked (sheet text units : List ℕ) (flags words bytes : ℕ) (r : Inputs) : Type 0 where
   pub is : inputsAs r ≡ inputsFault sheet text units flags words bytes
+
+-- where nothing is refused, the unit list has its index
+pub record UnitsReady (units index : List ℕ) (r : Inputs) : Type 0 where
+  pub long : length index ≡ 2304
+  pub indexed : r ≡ Good → Indexed units index
 
 -- what the pass may count on: none of 1 to 10 arises
 pub record GoodInputs (sheet text units : List ℕ) (flags words bytes : ℕ) : Type 0 where

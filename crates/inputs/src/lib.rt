@@ -1,7 +1,9 @@
 // Everything that is refused before the pass, in the order of document 01's table. All functions take any bytes.
 ghost use mathlib.Core.Path.{_≡_};
+ghost use Prim.Native.Nat.{_≤_};
+ghost use lib.ListN.{length};
 ghost use Rattle.rules.specs.Answer.{flagsOf};
-ghost use Rattle.inputs.specs.Inputs.{InputsChecked, ContentsChecked, SheetFlagsChecked};
+ghost use Rattle.inputs.specs.Inputs.{InputsChecked, ContentsChecked, SheetFlagsChecked, UnitsReady};
 
 // How much work memory has to be lent (docs/MEMORY.md).
 pub const WORDS: usize = 45661;
@@ -27,30 +29,33 @@ fn check_sheet(sheet: &[u8], text: &[u8], flags: u32) -> Inputs
     }
 }
 
-// 4, then 5 and 6, then the rest.
-fn check_contents(sheet: &[u8], text: &[u8], units: &[u8], flags: u32) -> Inputs
-    ensures { λ r. ⌜ ContentsChecked (now (sheet .entry)) (now (text .entry)) (now (units .entry)) flags r ⌝ }
+// 4, then 5 and 6, then the rest; the unit list gets its index.
+fn check_contents(sheet: &[u8], text: &[u8], units: &[u8], index: &mut [u32], flags: u32) -> Inputs
+    requires { ⌜ (length (now units) ≤ 16384) × (length (now index) ≡ 2304) ⌝ }
+    ensures { λ r. ⌜ ContentsChecked (now (sheet .entry)) (now (text .entry)) (now (units .entry)) flags r × UnitsReady (now (units .entry)) (now (index .exit)) r ⌝ }
 {
     let utf8::Checked::Valid = utf8::first_fault(text) else {
         return Inputs::Refused(4, 0);
     };
-    match units::check_units(units) {
+    match unit_index::index_units(units, index) {
         units::UnitsChecked::Ill => Inputs::Refused(5, 0),
         units::UnitsChecked::Twice => Inputs::Refused(6, 0),
         units::UnitsChecked::Good => check_sheet(sheet, text, flags),
     }
 }
 
-// The three files, the flags, and how many words and bytes of work memory are lent.
+// The three files, words for the index of the units, the flags, and how many words and bytes of work memory are lent.
 pub fn check_inputs(
     sheet: &[u8],
     text: &[u8],
     units: &[u8],
+    index: &mut [u32],
     flags: u32,
     words: usize,
     bytes: usize,
 ) -> Inputs
-    ensures { λ r. ⌜ InputsChecked (now (sheet .entry)) (now (text .entry)) (now (units .entry)) flags words bytes r ⌝ }
+    requires { ⌜ length (now index) ≡ 2304 ⌝ }
+    ensures { λ r. ⌜ InputsChecked (now (sheet .entry)) (now (text .entry)) (now (units .entry)) flags words bytes r × UnitsReady (now (units .entry)) (now (index .exit)) r ⌝ }
 {
     if words < WORDS {
         return Inputs::Refused(1, 0);
@@ -67,7 +72,7 @@ pub fn check_inputs(
     if 16384 < units.len() {
         return Inputs::Refused(3, 0);
     }
-    check_contents(sheet, text, units, flags)
+    check_contents(sheet, text, units, index, flags)
 }
 
 fn wide(b: u8) -> u32

@@ -8,24 +8,26 @@ use lib.ListN.{length}
 use Rattle.rules.specs.Basic.{eqList}
 use Rattle.content.specs.Contents.{keptIn}
 use Rattle.meta_map.specs.declared.KeyRow.the-variants.{At, Nothing}
-use Rattle.meta_map.specs.Index.{cell, head, partAt, keyAt, headIn, RowIn, Indexed, Hashed, rowAs, RowFound}
-use Rattle.meta_map.proofs.Chains.{Seeking, seek-starts, seek-most, seek-gone, seek-hit, seek-on, next-less}
+use Rattle.meta_map.specs.Index.{cell, head, partAt, keyAt, RowIn, Indexed, rowAs, RowFound}
+use Rattle.chains.specs.Hashes.{hashOf, Hashed}
+use Rattle.chains.specs.Rows.{headIn}
+use Rattle.chains.proofs.Seeks.{Seeking, seek-starts, seek-most, seek-gone, seek-hit, seek-on, next-less}
 
 nonzero : (p : ℕ) → (p ≡ 0 → ⊥) → p ≡ suc (p - 1)
 nonzero zero n = absurd (n refl)
 nonzero (suc k) n = omega arith
 
 module _ {sheet m : List ℕ} {n p : ℕ} (key : List ℕ) (z : Indexed sheet m n) where
-  pub find-starts : {b : ℕ} → Hashed key b → p ≡ head m b → Seeking (keyAt sheet m) n (keptIn key) p
-  find-starts {b} h e = seek-starts (keyAt sheet m) (e ∙ (z .heads b (h .small) ∙ ap (λ (d : ℕ). headIn (keyAt sheet m) d n) (h .is)))
+  pub find-starts : {b : ℕ} → Hashed (keptIn key) b → p ≡ head m b → Seeking hashOf (keyAt sheet m) n (keptIn key) p
+  find-starts {b} h e = seek-starts hashOf (keyAt sheet m) (e ∙ (z .heads b (h .small) ∙ ap (λ (d : ℕ). headIn hashOf (keyAt sheet m) d n) (h .is)))
 
-  module _ (v : Seeking (keyAt sheet m) n (keptIn key) p) where
+  module _ (v : Seeking hashOf (keyAt sheet m) n (keptIn key) p) where
     pub find-ends : p ≡ 0 → RowFound sheet m n key Nothing
-    find-ends q = record { is = unfold rowAs in seek-gone (keyAt sheet m) v q }
+    find-ends q = record { is = unfold rowAs in seek-gone hashOf (keyAt sheet m) v q }
 
     module _ (t : p ≡ 0 → ⊥) where
       row-below : p - 1 < n
-      row-below = omega (arith, seek-most (keyAt sheet m) v, nonzero p t)
+      row-below = omega (arith, seek-most hashOf (keyAt sheet m) v, nonzero p t)
 
       pub row-few : p - 1 < 4096
       row-few = omega (arith, row-below, z .few)
@@ -43,13 +45,13 @@ module _ {sheet m : List ℕ} {n p : ℕ} (key : List ℕ) (z : Indexed sheet m 
           same = e ∙ ap (eqList (keptIn key)) row-key
 
           pub row-hit : r ≡ true → RowFound sheet m n key (At (p - 1))
-          row-hit q = record { is = unfold rowAs in seek-hit (keyAt sheet m) v (nonzero p t) (sym same ∙ q) }
+          row-hit q = record { is = unfold rowAs in seek-hit hashOf (keyAt sheet m) v (nonzero p t) (sym same ∙ q) }
 
-          pub row-on : {next : ℕ} → r ≡ false → next ≡ cell m (p - 1) 4 → Seeking (keyAt sheet m) n (keptIn key) next
-          row-on q g = seek-on (keyAt sheet m) v (nonzero p t) (sym same ∙ q) (g ∙ z .nexts (p - 1) row-below)
+          pub row-on : {next : ℕ} → r ≡ false → next ≡ cell m (p - 1) 4 → Seeking hashOf (keyAt sheet m) n (keptIn key) next
+          row-on q g = seek-on hashOf (keyAt sheet m) v (nonzero p t) (sym same ∙ q) (g ∙ z .nexts (p - 1) row-below)
 
       pub row-less : {next : ℕ} → next ≡ cell m (p - 1) 4 → next < p
-      row-less g = next-less (keyAt sheet m) v (nonzero p t) (g ∙ z .nexts (p - 1) row-below)
+      row-less g = next-less hashOf (keyAt sheet m) v (nonzero p t) (g ∙ z .nexts (p - 1) row-below)
 
 -- ---- a row that is printed
 

@@ -1,5 +1,5 @@
 -- One key more in the index, or another value for a key that is there: the rules' `insertMeta`.
-use Prim.Native.Nat.{ℕ, zero, suc, _+_, _-_, _*_, _≤_, _<_}
+use Prim.Native.Nat.{ℕ, zero, suc, _+_, _*_, _≤_, _<_}
 use mathlib.Core.Path.{_≡_, refl, ap, sym, _∙_}
 use mathlib.Core.Bool.{Bool, true, false, _||_}
 use mathlib.Core.List.{List, [], _∷_}
@@ -19,8 +19,10 @@ use Rattle.model.proofs.Stores.{getD-sets-other, getD-mid, mid-stored}
 use Rattle.content.specs.Contents.{contentIn, keptIn}
 use Rattle.meta_map.specs.declared.KeyRow.{KeyRow}
 use Rattle.meta_map.specs.declared.KeyRow.the-variants.{At, Nothing}
-use Rattle.meta_map.specs.Index.{cell, head, partAt, keyAt, valueAt, mapIn, hashOf, findIn, headIn, RowIn, Indexed, Hashed, rowAs, RowFound, ValueSet, KeyPushed, Inserted, Cleared}
-use Rattle.meta_map.proofs.Chains.{find-below, find-same, head-same}
+use Rattle.meta_map.specs.Index.{cell, head, partAt, keyAt, valueAt, mapIn, RowIn, Indexed, rowAs, RowFound, ValueSet, KeyPushed, Inserted, Cleared}
+use Rattle.chains.specs.Hashes.{hashOf, Hashed}
+use Rattle.chains.specs.Rows.{findIn, headIn}
+use Rattle.chains.proofs.Seeks.{find-below, find-same, head-same}
 
 -- ---- a map and the search for a key
 
@@ -156,9 +158,9 @@ module _ {sheet m : List ℕ} {n : ℕ} (x : Indexed sheet m n) {ka ke va ve : �
                 long = length-sets m (i * 5 + 2) (va ∷ ve ∷ []) ∙ x .long;
                 few = x .few;
                 row = λ j l. by-order i j (λ a. by-order j i (λ b. let z : j ≡ i = omega arith in own-row room j z (x .row j l)) (λ b. other-row j (λ y. omega arith) (x .row j l))) (λ a. other-row j (λ y. omega arith) (x .row j l));
-                heads = λ b l. head-cell m i va ve b (omega (arith, below, x .few)) ∙ x .heads b l ∙ head-same (keyAt sheet m) (keyAt sheet (withNew m i va ve)) b n (λ j g. keys-same j);
-                nexts = λ j l. next-cell m i va ve j ∙ x .nexts j l ∙ head-same (keyAt sheet m) (keyAt sheet (withNew m i va ve)) (hashOf (keyAt sheet m j)) j (λ y g. keys-same y)
-                    ∙ ap (λ (k : List ℕ). headIn (keyAt sheet (withNew m i va ve)) (hashOf k) j) (keys-same j);
+                heads = λ b l. head-cell m i va ve b (omega (arith, below, x .few)) ∙ x .heads b l ∙ head-same hashOf (keyAt sheet m) (keyAt sheet (withNew m i va ve)) b n (λ j g. keys-same j);
+                nexts = λ j l. next-cell m i va ve j ∙ x .nexts j l ∙ head-same hashOf (keyAt sheet m) (keyAt sheet (withNew m i va ve)) (hashOf (keyAt sheet m j)) j (λ y g. keys-same y)
+                    ∙ ap (λ (k : List ℕ). headIn hashOf (keyAt sheet (withNew m i va ve)) (hashOf k) j) (keys-same j);
                 once = λ j l. sym (find-same (keyAt sheet m) (keyAt sheet (withNew m i va ve)) (keyAt sheet (withNew m i va ve) j) j (λ y g. keys-same y))
                     ∙ ap (λ (k : List ℕ). findIn (keyAt sheet m) k j) (same-key m i va ve sheet j) ∙ x .once j l;
               };
@@ -232,26 +234,26 @@ module _ (m : List ℕ) (n b ka ke va ve x : ℕ) (few : n < 4096) (long : lengt
     abbrev now : ℕ → List ℕ
     now = keyAt sheet withKey
 
-    heads-now : (d : ℕ) → d < 1024 → head withKey d ≡ headIn now d (suc n)
+    heads-now : (d : ℕ) → d < 1024 → head withKey d ≡ headIn hashOf now d (suc n)
     unfolding headIn
     heads-now d l = go (eqb (hashOf (now n)) d) refl
       where
-        go : (t : Bool) → eqb (hashOf (now n)) d ≡ t → head withKey d ≡ pick (eqb (hashOf (now n)) d) (suc n) (headIn now d n)
+        go : (t : Bool) → eqb (hashOf (now n)) d ≡ t → head withKey d ≡ pick (eqb (hashOf (now n)) d) (suc n) (headIn hashOf now d n)
         go true q =
             let h : d ≡ b = sym (eqb-true (hashOf (now n)) d q) ∙ ap hashOf (own-key sheet) ∙ sym hash in
             rw (q, h) (own-head small ∙ e)
         go false q =
-            rw q (other-head d (λ h. eqb-false (hashOf (now n)) d q (ap hashOf (own-key sheet) ∙ sym hash ∙ sym h)) ∙ z .heads d l ∙ head-same keys now d n (old-key sheet))
+            rw q (other-head d (λ h. eqb-false (hashOf (now n)) d q (ap hashOf (own-key sheet) ∙ sym hash ∙ sym h)) ∙ z .heads d l ∙ head-same hashOf keys now d n (old-key sheet))
 
-    next-old : (i : ℕ) → i < n → cell withKey i 4 ≡ headIn now (hashOf (now i)) i
+    next-old : (i : ℕ) → i < n → cell withKey i 4 ≡ headIn hashOf now (hashOf (now i)) i
     next-old i l =
-        old-cell i 4 l (omega arith) ∙ z .nexts i l ∙ head-same keys now (hashOf (keys i)) i (λ j g. old-key sheet j (omega arith))
-        ∙ ap (λ (k : List ℕ). headIn now (hashOf k) i) (old-key sheet i l)
+        old-cell i 4 l (omega arith) ∙ z .nexts i l ∙ head-same hashOf keys now (hashOf (keys i)) i (λ j g. old-key sheet j (omega arith))
+        ∙ ap (λ (k : List ℕ). headIn hashOf now (hashOf k) i) (old-key sheet i l)
 
-    next-new : cell withKey n 4 ≡ headIn now (hashOf (now n)) n
+    next-new : cell withKey n 4 ≡ headIn hashOf now (hashOf (now n)) n
     next-new =
-        new-cell 4 (omega arith) ∙ z .heads b small ∙ head-same keys now b n (old-key sheet)
-        ∙ ap (λ (d : ℕ). headIn now d n) (hash ∙ ap hashOf (sym (own-key sheet)))
+        new-cell 4 (omega arith) ∙ z .heads b small ∙ head-same hashOf keys now b n (old-key sheet)
+        ∙ ap (λ (d : ℕ). headIn hashOf now d n) (hash ∙ ap hashOf (sym (own-key sheet)))
 
     once-old : (i : ℕ) → i < n → findIn now (now i) i ≡ none
     once-old i l = sym (find-same keys now (now i) i (λ j g. old-key sheet j (omega arith))) ∙ ap (λ (k : List ℕ). findIn keys k i) (sym (old-key sheet i l)) ∙ z .once i l
@@ -290,7 +292,7 @@ module _ {sheet m₀ : List ℕ} {n ka ke va ve : ℕ} (z : Indexed sheet m₀ n
   unfolding rowAs
   found-below {i} e = omega (arith, find-below (keyAt sheet m₀) (keptIn (partAt sheet ka ke)) n i (sym (p .is) ∙ ap rowAs e), z .few)
 
-  pub inserted-key : {m : List ℕ} {b : ℕ} → n < 4096 → Hashed (partAt sheet ka ke) b → f ≡ Nothing → KeyPushed m₀ n b ka ke va ve m → Inserted sheet m₀ n ka ke va ve m (n + 1)
+  pub inserted-key : {m : List ℕ} {b : ℕ} → n < 4096 → Hashed (keptIn (partAt sheet ka ke)) b → f ≡ Nothing → KeyPushed m₀ n b ka ke va ve m → Inserted sheet m₀ n ka ke va ve m (n + 1)
   unfolding rowAs
   inserted-key {m} {b} l h e s =
       let k : Inserted sheet m₀ n ka ke va ve (withKey m₀ n b ka ke va ve (n + 1) l (z .long)) (suc n) = key-inserted m₀ n b ka ke va ve (n + 1) l (z .long) z row (h .small) (h .is) (add-one n) (sym (p .is) ∙ ap rowAs e) in

@@ -1,18 +1,18 @@
 -- The index of metadata in work memory: a row for each key, chained by the hash of the key, and what the rows stand for.
-use Prim.Native.Nat.{ℕ, zero, suc, _+_, _-_, _*_, _%_, _≤_, _<_}
+use Prim.Native.Nat.{ℕ, zero, suc, _+_, _-_, _*_, _≤_, _<_}
 use mathlib.Core.Path.{_≡_}
 use mathlib.Core.List.{List, [], _∷_}
 use mathlib.Core.Option.{Option, none, some}
-use lib.Dec.{eqb}
 use lib.ListN.{length, getD, take, drop, set}
 use lib.Seq.{sets}
-use Rattle.rules.specs.Basic.{pick, eqList}
 use Rattle.rules.specs.Model.{MetaEntry}
 use Rattle.rules.specs.Metadata.{insertMeta}
 use Rattle.rules.specs.Page.{tableLines, metaLine}
 use Rattle.output.specs.Put.{Put}
 use Rattle.content.specs.Contents.{contentIn, keptIn}
 use Rattle.content.specs.Parts.{Field}
+use Rattle.chains.specs.Hashes.{hashOf}
+use Rattle.chains.specs.Rows.{findIn, headIn}
 use Rattle.meta_map.specs.declared.KeyRow.{KeyRow}
 use Rattle.meta_map.specs.declared.KeyRow.the-variants.{At, Nothing}
 
@@ -41,27 +41,6 @@ module _ (sheet m : List ℕ) where
   mapIn zero = []
   mapIn (suc i) = record { key = keyAt i; value = valueAt i } ∷ mapIn i
 
--- ---- chains
-
--- the hash of a key, below 1,024
-unfoldable pub hashFrom : ℕ → List ℕ → ℕ
-hashFrom h [] = h
-hashFrom h (c ∷ cs) = hashFrom ((h * 31 + c) % 1024) cs
-
-abbrev pub hashOf : List ℕ → ℕ
-hashOf k = hashFrom 0 k
-
-module _ (keys : ℕ → List ℕ) where
-  -- the row of a key among the first
-  unfoldable pub findIn : List ℕ → ℕ → Option ℕ
-  findIn k zero = none
-  findIn k (suc i) = pick (eqList k (keys i)) (some i) (findIn k i)
-
-  -- one more than the newest of the first rows whose key has a hash, or 0
-  unfoldable pub headIn : ℕ → ℕ → ℕ
-  headIn b zero = 0
-  headIn b (suc i) = pick (eqb (hashOf (keys i)) b) (suc i) (headIn b i)
-
 -- ---- the index of the first n rows
 
 -- a key and a value in the sheet
@@ -78,15 +57,11 @@ pub record Indexed (sheet m : List ℕ) (n : ℕ) : Type 0 where
   pub long : length m ≡ 21504
   pub few : n ≤ 4096
   pub row : (i : ℕ) → i < n → RowIn sheet (cell m i 0) (cell m i 1) (cell m i 2) (cell m i 3)
-  pub heads : (b : ℕ) → b < 1024 → head m b ≡ headIn (keyAt sheet m) b n
-  pub nexts : (i : ℕ) → i < n → cell m i 4 ≡ headIn (keyAt sheet m) (hashOf (keyAt sheet m i)) i
+  pub heads : (b : ℕ) → b < 1024 → head m b ≡ headIn hashOf (keyAt sheet m) b n
+  pub nexts : (i : ℕ) → i < n → cell m i 4 ≡ headIn hashOf (keyAt sheet m) (hashOf (keyAt sheet m i)) i
   pub once : (i : ℕ) → i < n → findIn (keyAt sheet m) (keyAt sheet m i) i ≡ none
 
 -- ---- what the functions leave
-
-pub record Hashed (f : List ℕ) (r : ℕ) : Type 0 where
-  pub is : r ≡ hashOf (keptIn f)
-  pub small : r < 1024
 
 unfoldable pub rowAs : KeyRow → Option ℕ
 rowAs (At i) = some i

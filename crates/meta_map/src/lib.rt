@@ -1,7 +1,7 @@
 // The map of metadata: one row for each key, at its first arrival's place and with its last value. The rows stand in a window
 // of work memory, with the heads of their chains behind them (docs/MEMORY.md).
 ghost use mathlib.Core.Path.{_≡_};
-ghost use Prim.Native.Nat.{_+_, _*_, _%_, _≤_, _<_};
+ghost use Prim.Native.Nat.{_≤_, _<_};
 ghost use lib.ListN.{length};
 ghost use mathlib.Core.Bool.{true};
 ghost use Rattle.rules.specs.Basic.{lf, isSome};
@@ -13,7 +13,8 @@ ghost use Rattle.unicode.specs.Tables.{unicodeTables};
 ghost use Rattle.parts.specs.Views.{TextWithin};
 ghost use Rattle.known_events.specs.Fields.{TextField};
 ghost use Rattle.known_events.specs.Known.{KnownEvent};
-ghost use Rattle.meta_map.specs.Index.{cell, head, RowIn, Indexed, Hashed, RowFound, ValueSet, KeyPushed, Inserted, Cleared, MetaPut, MetasPut, partAt};
+ghost use Rattle.chains.specs.Hashes.{Hashed};
+ghost use Rattle.meta_map.specs.Index.{cell, head, RowIn, Indexed, RowFound, ValueSet, KeyPushed, Inserted, Cleared, MetaPut, MetasPut, partAt};
 ghost use Rattle.meta_map.specs.Maps.{TrimmedPart, MetaIndexed, EventIndexed, LineIndexed, SheetIndexed, indexOf, WordsIndexed};
 use events::Between;
 use events::EventView;
@@ -50,30 +51,9 @@ fn head_at(m: &[u32], b: usize) -> usize
     wide(m[at])
 }
 
-fn mixed(h: usize, c: u32) -> usize
-    requires { ⌜ h < 1024 ⌝ }
-    ensures { λ r. ⌜ (r ≡ (h * 31 + c) % 1024) × (r < 1024) ⌝ }
-{
-    (h * 31 + wide(c)) % 1024
-}
-
-// The hash of a key: equal keys, their blanks collapsed, have equal hashes.
-pub fn hash_of(f: &[u8]) -> usize
-    ensures { λ r. ⌜ Hashed (now (f .entry)) r ⌝ }
-{
-    let mut h = 0;
-    let mut i = 0;
-    while i < f.len() {
-        let c = content::kept_char(f, i);
-        h = mixed(h, c.code);
-        i += c.size;
-    }
-    h
-}
-
 // The row of a key with the hash b among the first n rows: the chain of b from its head on.
 pub fn find_row(sheet: &[u8], m: &[u32], n: usize, key: &[u8], b: usize) -> KeyRow
-    requires { ⌜ Indexed (now sheet) (now m) n × Hashed (now key) b ⌝ }
+    requires { ⌜ Indexed (now sheet) (now m) n × Hashed (keptIn (now key)) b ⌝ }
     ensures { λ r. ⌜ RowFound (now (sheet .entry)) (now (m .entry)) n (now (key .entry)) r ⌝ }
 {
     let mut p = head_at(m, b);
@@ -125,7 +105,7 @@ pub fn insert_meta(
     ensures { λ r. ⌜ Inserted (now (sheet .entry)) (now (m .entry)) n ka ke va ve (now (m .exit)) r ⌝ }
 {
     let k = &sheet[ka..ke];
-    let b = hash_of(k);
+    let b = chains::hash_kept(k);
     match find_row(sheet, m, n, k, b) {
         KeyRow::At(i) => {
             set_value(m, i, va as u32, ve as u32);

@@ -58,7 +58,7 @@ recipe-inj e = cc
 going-inj : {a b : State} → going a ≡ going b → a ≡ b
 going-inj e = cc
 
-module _ {t sheet text units : List ℕ} {flags : ℕ} {w : List ℕ} {h : Held} (g : RecipeGiven t sheet text units flags w h) where
+module _ {t sheet text units index : List ℕ} {flags : ℕ} {w : List ℕ} {h : Held} (g : RecipeGiven t sheet text units index flags w h) where
   pub index-given : (t ≡ unicodeTables) × (length sheet ≤ 65536) × (45661 ≤ length w) × (readSheet text sheet ≡ events (eventsOr (readSheet text sheet)))
   unfolding wordsNeeded
   index-given = (g .tables, g .inputs .sheet-short, omega (arith, g .inputs .words-enough), g .inputs .sheet-read)
@@ -66,12 +66,12 @@ module _ {t sheet text units : List ℕ} {flags : ℕ} {w : List ℕ} {h : Held}
   pub entries-given : (t ≡ unicodeTables) × Sound w h × AllFit sheet w h
   entries-given = (g .tables, g .ran .kept .sound, g .ran .kept .fit)
 
-  pub draw-given : (t ≡ unicodeTables) × PassInputs sheet text units flags
+  pub draw-given : (t ≡ unicodeTables) × PassInputs sheet text units index flags
   draw-given = (
     g .tables,
     record {
       text-utf8 = g .inputs .text-utf8;
-      units-some = g .inputs .units-some;
+      indexed = g .indexed;
       sheet-short = g .inputs .sheet-short;
       sheet-read = g .inputs .sheet-read;
       final = g .ran .state;
@@ -125,7 +125,7 @@ module _ {n : ℕ} {sheet text units : List ℕ} {flags : ℕ} {o₀ o : List �
 
 -- ---- the page
 
-module _ {t sheet text units : List ℕ} {flags : ℕ} {w₀ w : List ℕ} {h : Held} {n : ℕ} (g : RecipeGiven t sheet text units flags w₀ h) (x : WordsIndexed flags text sheet w₀ w n) where
+module _ {t sheet text units index : List ℕ} {flags : ℕ} {w₀ w : List ℕ} {h : Held} {n : ℕ} (g : RecipeGiven t sheet text units index flags w₀ h) (x : WordsIndexed flags text sheet w₀ w n) where
   pub metas-given : (45661 ≤ length w) × Indexed sheet (indexOf w) n
   metas-given = (let k = index-given g .2 in omega (arith, x .long), x .index .indexed)
 

@@ -11,14 +11,16 @@ use Rattle.rules.specs.Page.{recipePage, failedPage}
 use Rattle.rules.specs.Answer.{bytesNeeded, readSheet, eventsOr, unitsOr}
 use Rattle.unicode.specs.Tables.{unicodeTables}
 use Rattle.output.specs.Put.{Put}
+use Rattle.unit_index.specs.Index.{Indexed}
 use Rattle.inputs.specs.Inputs.{GoodInputs}
 use Rattle.model.specs.declared.Held.{Held}
 use Rattle.pass.specs.Walks.{RanRecipe}
 
--- the tables, inputs that nothing refuses, and work memory as the pass over them leaves it where there is a recipe
-pub record RecipeGiven (t sheet text units : List ℕ) (flags : ℕ) (w : List ℕ) (h : Held) : Type 0 where
+-- the tables, inputs that nothing refuses, the index of the units, and work memory as the pass over them leaves it where there is a recipe
+pub record RecipeGiven (t sheet text units index : List ℕ) (flags : ℕ) (w : List ℕ) (h : Held) : Type 0 where
   pub tables : t ≡ unicodeTables
   pub inputs : GoodInputs sheet text units flags (length w) bytesNeeded
+  pub indexed : Indexed units index
   pub ran : RanRecipe text (unitsOr (readUnits units)) flags sheet (eventsOr (readSheet text sheet)) w h
 
 -- the page of the recipe that the inputs make, at the front of the output

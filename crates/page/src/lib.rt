@@ -31,17 +31,18 @@ fn put_drawn(
     sheet: &[u8],
     text: &[u8],
     units: &[u8],
+    index: &[u32],
     flags: u32,
     out: &mut [u8],
     at: usize,
 ) -> usize
-    requires { ⌜ (now t ≡ unicodeTables) × PassInputs (now sheet) (now text) (now units) flags ⌝ }
+    requires { ⌜ (now t ≡ unicodeTables) × PassInputs (now sheet) (now text) (now units) (now index) flags ⌝ }
     ensures { λ r. ⌜ DrawnPut p n (now (sheet .entry)) (now (text .entry)) (now (units .entry)) flags (now (out .entry)) at (now (out .exit)) r ⌝ }
 {
     if n == 0 {
         return finding_lines::begin(out, at);
     }
-    page_walk::draw_part(p, t, sheet, text, units, flags, out, at)
+    page_walk::draw_part(p, t, sheet, text, units, index, flags, out, at)
 }
 
 // The lines of ingredients, cookware, timers and inline quantities.
@@ -50,21 +51,22 @@ fn put_tables(
     sheet: &[u8],
     text: &[u8],
     units: &[u8],
+    index: &[u32],
     flags: u32,
     words: &[u32],
     h: Held,
     out: &mut [u8],
     at: usize,
 ) -> usize
-    requires { ⌜ RecipeGiven (now t) (now sheet) (now text) (now units) flags (now words) h ⌝ }
+    requires { ⌜ RecipeGiven (now t) (now sheet) (now text) (now units) (now index) flags (now words) h ⌝ }
     ensures { λ r. ⌜ PartPut tablesOf (now (sheet .entry)) (now (text .entry)) (now (units .entry)) flags (now (out .entry)) at (now (out .exit)) r ⌝ }
 {
-    let timers = h.counts.timers;
-    let inline = h.counts.inline;
+    let n = h.counts.timers;
+    let m = h.counts.inline;
     let a = entry_lines::ingredient_lines(t, sheet, words, h, out, at);
     let b = entry_lines::cookware_lines(t, sheet, words, h, out, a);
-    let c = put_drawn(Part::Timers, timers, t, sheet, text, units, flags, out, b);
-    put_drawn(Part::Inline, inline, t, sheet, text, units, flags, out, c)
+    let c = put_drawn(Part::Timers, n, t, sheet, text, units, index, flags, out, b);
+    put_drawn(Part::Inline, m, t, sheet, text, units, index, flags, out, c)
 }
 
 // ---- findings
@@ -94,18 +96,19 @@ fn put_old(
     sheet: &[u8],
     text: &[u8],
     units: &[u8],
+    index: &[u32],
     flags: u32,
     out: &mut [u8],
     at: usize,
 ) -> usize
-    requires { ⌜ (now t ≡ unicodeTables) × PassInputs (now sheet) (now text) (now units) flags ⌝ }
+    requires { ⌜ (now t ≡ unicodeTables) × PassInputs (now sheet) (now text) (now units) (now index) flags ⌝ }
     ensures { λ r. ⌜ OldPut n (now (sheet .entry)) (now (text .entry)) (now (units .entry)) flags (now (out .entry)) at (now (out .exit)) r ⌝ }
 {
     if n == 0 {
         return finding_lines::begin(out, at);
     }
     let a = put_old_open(out, at);
-    let b = page_walk::draw_part(Part::Old, t, sheet, text, units, flags, out, a);
+    let b = page_walk::draw_part(Part::Old, t, sheet, text, units, index, flags, out, a);
     put_old_close(out, b)
 }
 
@@ -115,18 +118,19 @@ fn put_findings(
     sheet: &[u8],
     text: &[u8],
     units: &[u8],
+    index: &[u32],
     flags: u32,
     words: &[u32],
     h: Held,
     out: &mut [u8],
     at: usize,
 ) -> usize
-    requires { ⌜ RecipeGiven (now t) (now sheet) (now text) (now units) flags (now words) h ⌝ }
+    requires { ⌜ RecipeGiven (now t) (now sheet) (now text) (now units) (now index) flags (now words) h ⌝ }
     ensures { λ r. ⌜ PartPut findingsOf (now (sheet .entry)) (now (text .entry)) (now (units .entry)) flags (now (out .entry)) at (now (out .exit)) r ⌝ }
 {
     let old = h.counts.old;
     let a = finding_lines::finding_lines(words, h, out, at);
-    put_old(old, t, sheet, text, units, flags, out, a)
+    put_old(old, t, sheet, text, units, index, flags, out, a)
 }
 
 // ---- pages
@@ -137,20 +141,21 @@ pub fn recipe_page(
     sheet: &[u8],
     text: &[u8],
     units: &[u8],
+    index: &[u32],
     flags: u32,
     words: &mut [u32],
     h: Held,
     out: &mut [u8],
 ) -> usize
-    requires { ⌜ RecipeGiven (now t) (now sheet) (now text) (now units) flags (now words) h ⌝ }
+    requires { ⌜ RecipeGiven (now t) (now sheet) (now text) (now units) (now index) flags (now words) h ⌝ }
     ensures { λ r. ⌜ RecipePut (now (sheet .entry)) (now (text .entry)) (now (units .entry)) flags (now (out .entry)) (now (out .exit)) r ⌝ }
 {
     let n = meta_map::index_metadata(t, flags, sheet, text, words);
     let a = head_line(out, true);
     let b = meta_map::meta_lines(sheet, words, n, out, a);
-    let c = page_walk::draw_part(Part::Sections, t, sheet, text, units, flags, out, b);
-    let d = put_tables(t, sheet, text, units, flags, words, h, out, c);
-    put_findings(t, sheet, text, units, flags, words, h, out, d)
+    let c = page_walk::draw_part(Part::Sections, t, sheet, text, units, index, flags, out, b);
+    let d = put_tables(t, sheet, text, units, index, flags, words, h, out, c);
+    put_findings(t, sheet, text, units, index, flags, words, h, out, d)
 }
 
 // `recipe`, `no`, and the lines of the parser's findings.

@@ -13,6 +13,7 @@ ghost use Rattle.rules.specs.Answer.{unitsOr, isGoodSpan};
 ghost use Rattle.rules.specs.Model.{trimmedText};
 ghost use Rattle.unicode.specs.Tables.{unicodeTables};
 ghost use Rattle.output.specs.Put.{Put};
+ghost use Rattle.unit_index.specs.Index.{Indexed};
 ghost use Rattle.parts.specs.Views.{optTextIn};
 ghost use Rattle.events.specs.Views.{componentEventIn, insideIn, eventIn};
 ghost use Rattle.known_events.specs.Fields.{TextField, OptTextField, BetweenFields, InsideFields, EventFields};
@@ -134,13 +135,14 @@ pub fn component_line(rest: &mut [u8], text: &[u8], c: ComponentEvent, f: Follow
 pub fn text_line(
     t: &[u32],
     units: &[u8],
+    index: &[u32],
     flags: u32,
     rest: &mut [u8],
     line: &[u8],
     body: TextView,
     f: Follow,
 ) -> TextItems
-    requires { ⌜ (now t ≡ unicodeTables) × (isSome (readUnits (now units)) ≡ true) × TextField (now line) body × (f .inline + length (now line) < 2 ^ 32) ⌝ }
+    requires { ⌜ (now t ≡ unicodeTables) × Indexed (now units) (now index) × TextField (now line) body × (f .inline + length (now line) < 2 ^ 32) ⌝ }
     ensures { λ r. ⌜ TextDrawn (unitsOr (readUnits (now (units .entry)))) flags (now (line .entry)) body f (now (rest .entry)) (now (rest .exit)) r ⌝ }
 {
     let b = f.block;
@@ -158,7 +160,7 @@ pub fn text_line(
                 };
             }
             let first = f.inline;
-            step_lines::text_items(t, units, flags, rest, line, body, first)
+            step_lines::text_items(t, units, index, flags, rest, line, body, first)
         }
         Open::Text => {
             let count = step_lines::text_piece(rest, line, body);
@@ -190,13 +192,14 @@ fn inside_line(
     t: &[u32],
     text: &[u8],
     units: &[u8],
+    index: &[u32],
     flags: u32,
     rest: &mut [u8],
     line: &[u8],
     i: Inside,
     f: Follow,
 ) -> TextItems
-    requires { ⌜ (now t ≡ unicodeTables) × (isUtf8 (now text) ≡ true) × (isSome (readUnits (now units)) ≡ true) × InsideFields (now line) i × (all (isGoodSpan (now text) (length (now text))) (spansOf (inside (insideIn (now line) i))) ≡ true) × (f .inline + length (now line) < 2 ^ 32) ⌝ }
+    requires { ⌜ (now t ≡ unicodeTables) × (isUtf8 (now text) ≡ true) × Indexed (now units) (now index) × InsideFields (now line) i × (all (isGoodSpan (now text) (length (now text))) (spansOf (inside (insideIn (now line) i))) ≡ true) × (f .inline + length (now line) < 2 ^ 32) ⌝ }
     ensures { λ r. ⌜ InsideDrawn (now (text .entry)) (unitsOr (readUnits (now (units .entry)))) flags (now (line .entry)) i f (now (rest .entry)) (now (rest .exit)) r ⌝ }
 {
     match i {
@@ -205,7 +208,7 @@ fn inside_line(
             let count = end_line(rest, b);
             TextItems { count, inline: 0 }
         }
-        Inside::Text(body) => text_line(t, units, flags, rest, line, body, f),
+        Inside::Text(body) => text_line(t, units, index, flags, rest, line, body, f),
         Inside::Component(c) => {
             let count = component_line(rest, text, c, f);
             TextItems { count, inline: 0 }
@@ -218,13 +221,14 @@ pub fn sections_line(
     t: &[u32],
     text: &[u8],
     units: &[u8],
+    index: &[u32],
     flags: u32,
     rest: &mut [u8],
     line: &[u8],
     e: EventView,
     f: Follow,
 ) -> TextItems
-    requires { ⌜ (now t ≡ unicodeTables) × (isUtf8 (now text) ≡ true) × (isSome (readUnits (now units)) ≡ true) × EventFields (now line) e × (all (isGoodSpan (now text) (length (now text))) (spansOf (eventIn (now line) e)) ≡ true) × (f .inline + length (now line) < 2 ^ 32) ⌝ }
+    requires { ⌜ (now t ≡ unicodeTables) × (isUtf8 (now text) ≡ true) × Indexed (now units) (now index) × EventFields (now line) e × (all (isGoodSpan (now text) (length (now text))) (spansOf (eventIn (now line) e)) ≡ true) × (f .inline + length (now line) < 2 ^ 32) ⌝ }
     ensures { λ r. ⌜ SectionsDrawn (now (text .entry)) (unitsOr (readUnits (now (units .entry)))) flags (now (line .entry)) e f (now (rest .entry)) (now (rest .exit)) r ⌝ }
 {
     match e {
@@ -232,7 +236,7 @@ pub fn sections_line(
             let count = between_line(t, rest, line, b, f);
             TextItems { count, inline: 0 }
         }
-        EventView::Inside(i) => inside_line(t, text, units, flags, rest, line, i, f),
+        EventView::Inside(i) => inside_line(t, text, units, index, flags, rest, line, i, f),
         EventView::Finding(s, n) => TextItems {
             count: 0,
             inline: 0,

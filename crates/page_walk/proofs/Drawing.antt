@@ -166,7 +166,7 @@ pub record Walked (sheet text units : List ℕ) (flags : ℕ) (p : Part) (o₀ :
   pub same : length o ≡ length o₀
   pub by : (final : State) → walk text (unitsOr (readUnits units)) flags 1 (going firstState) (eventsOr (readSheet text sheet)) ≡ going final → Drawing text (unitsOr (readUnits units)) flags sheet p final o₀ at₀ at f o n
 
-module _ {sheet text units : List ℕ} {flags : ℕ} (i : PassInputs sheet text units flags) where
+module _ {sheet text units index : List ℕ} {flags : ℕ} (i : PassInputs sheet text units index flags) where
   abbrev us : List NamedUnit
   us = unitsOr (readUnits units)
 

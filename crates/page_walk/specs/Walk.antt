@@ -16,6 +16,7 @@ use Rattle.rules.specs.Pass.{walk}
 use Rattle.rules.specs.Answer.{events, eventsOr, unitsOr, isGoodSpan, readSheet}
 use Rattle.rules.proofs.Fields.{Without}
 use Rattle.output.specs.Put.{Put}
+use Rattle.unit_index.specs.Index.{Indexed}
 use Rattle.following.specs.Drawn.{quantitiesAdded, added, drawn}
 use Rattle.following.specs.Follow.{nextFollow, withInline, Room}
 use Rattle.following.specs.declared.Follow.{Follow}
@@ -76,10 +77,10 @@ pub record TurnTaken (text : List ℕ) (units : List NamedUnit) (flags : ℕ) (p
 
 -- ---- the whole part
 
--- inputs that are good, and a pass over them that goes to the end
-pub record PassInputs (sheet text units : List ℕ) (flags : ℕ) : Type 0 where
+-- inputs that are good, with the index of the units, and a pass over them that goes to the end
+pub record PassInputs (sheet text units index : List ℕ) (flags : ℕ) : Type 0 where
   pub text-utf8 : isUtf8 text ≡ true
-  pub units-some : isSome (readUnits units) ≡ true
+  pub indexed : Indexed units index
   pub sheet-short : length sheet ≤ 65536
   pub sheet-read : readSheet text sheet ≡ events (eventsOr (readSheet text sheet))
   pub final : State

@@ -2,11 +2,11 @@
 ghost use mathlib.Core.Path.{_≡_};
 ghost use mathlib.Core.Bool.{true, not};
 ghost use lib.Dec.{eqb};
-ghost use Rattle.rules.specs.Basic.{isSome};
 ghost use Rattle.rules.specs.Utf8.{isUtf8};
 ghost use Rattle.rules.specs.Units.{readUnits};
 ghost use Rattle.rules.specs.Answer.{unitsOr};
 ghost use Rattle.unicode.specs.Tables.{unicodeTables};
+ghost use Rattle.unit_index.specs.Index.{Indexed};
 ghost use Rattle.page_walk.specs.Walk.{LineReady, LineTaken, isAside, isIdle, TurnTaken, PassInputs, PartDrawn};
 use following::Follow;
 use following::Part;
@@ -23,16 +23,17 @@ fn part_line(
     t: &[u32],
     text: &[u8],
     units: &[u8],
+    index: &[u32],
     flags: u32,
     rest: &mut [u8],
     line: &[u8],
     f: Follow,
 ) -> Turn
-    requires { ⌜ (now t ≡ unicodeTables) × (isUtf8 (now text) ≡ true) × (isSome (readUnits (now units)) ≡ true) × LineReady (now text) (unitsOr (readUnits (now units))) flags p (now line) f ⌝ }
+    requires { ⌜ (now t ≡ unicodeTables) × (isUtf8 (now text) ≡ true) × Indexed (now units) (now index) × LineReady (now text) (unitsOr (readUnits (now units))) flags p (now line) f ⌝ }
     ensures { λ r. ⌜ LineTaken (now (text .entry)) (unitsOr (readUnits (now (units .entry)))) flags p (now (line .entry)) f (now (rest .entry)) (now (rest .exit)) r ⌝ }
 {
     let e = known_events::event_of(line);
-    let r = part_lines::draw_line(p, t, text, units, flags, rest, line, e, f);
+    let r = part_lines::draw_line(p, t, text, units, index, flags, rest, line, e, f);
     let count = r.count;
     let inline = r.inline;
     let follow = following::follow_event(t, flags, line, e, f, inline);
@@ -91,12 +92,13 @@ fn line_turn(
     t: &[u32],
     text: &[u8],
     units: &[u8],
+    index: &[u32],
     flags: u32,
     rest: &mut [u8],
     line: &[u8],
     f: Follow,
 ) -> Turn
-    requires { ⌜ (now t ≡ unicodeTables) × (isUtf8 (now text) ≡ true) × (isSome (readUnits (now units)) ≡ true) × LineReady (now text) (unitsOr (readUnits (now units))) flags p (now line) f ⌝ }
+    requires { ⌜ (now t ≡ unicodeTables) × (isUtf8 (now text) ≡ true) × Indexed (now units) (now index) × LineReady (now text) (unitsOr (readUnits (now units))) flags p (now line) f ⌝ }
     ensures { λ r. ⌜ TurnTaken (now (text .entry)) (unitsOr (readUnits (now (units .entry)))) flags p (now (line .entry)) f (now (rest .entry)) (now (rest .exit)) r ⌝ }
 {
     if is_idle(p, line) {
@@ -105,7 +107,7 @@ fn line_turn(
             follow: f,
         };
     }
-    part_line(p, t, text, units, flags, rest, line, f)
+    part_line(p, t, text, units, index, flags, rest, line, f)
 }
 
 // The part p of the page, written at a position of the output.
@@ -115,11 +117,12 @@ pub fn draw_part(
     sheet: &[u8],
     text: &[u8],
     units: &[u8],
+    index: &[u32],
     flags: u32,
     out: &mut [u8],
     at: usize,
 ) -> usize
-    requires { ⌜ (now t ≡ unicodeTables) × PassInputs (now sheet) (now text) (now units) flags ⌝ }
+    requires { ⌜ (now t ≡ unicodeTables) × PassInputs (now sheet) (now text) (now units) (now index) flags ⌝ }
     ensures { λ r. ⌜ PartDrawn (now (sheet .entry)) (now (text .entry)) (now (units .entry)) flags p (now (out .entry)) at (now (out .exit)) r ⌝ }
 {
     let mut n = finding_lines::begin(out, at);
@@ -137,6 +140,7 @@ pub fn draw_part(
             t,
             text,
             units,
+            index,
             flags,
             &mut out[n..],
             &sheet[from..end],

@@ -4,12 +4,13 @@ ghost use mathlib.Core.Path.{_≡_};
 ghost use mathlib.Core.Bool.{true};
 ghost use Prim.Native.Nat.{_+_, _^_, _<_};
 ghost use lib.ListN.{length};
-ghost use Rattle.rules.specs.Basic.{all, isSome};
+ghost use Rattle.rules.specs.Basic.{all};
 ghost use Rattle.rules.specs.Utf8.{isUtf8};
 ghost use Rattle.rules.specs.Event.{spansOf};
 ghost use Rattle.rules.specs.Units.{readUnits};
 ghost use Rattle.rules.specs.Answer.{unitsOr, isGoodSpan};
 ghost use Rattle.unicode.specs.Tables.{unicodeTables};
+ghost use Rattle.unit_index.specs.Index.{Indexed};
 ghost use Rattle.parts.specs.Views.{TextWithin};
 ghost use Rattle.events.specs.Views.{eventIn, EventWithin};
 ghost use Rattle.known_events.specs.Fields.{TextField, ComponentEventFields, EventFields};
@@ -68,13 +69,14 @@ pub fn timers_line(t: &[u32], rest: &mut [u8], line: &[u8], e: EventView, f: Fol
 fn quantities_of(
     t: &[u32],
     units: &[u8],
+    index: &[u32],
     flags: u32,
     rest: &mut [u8],
     line: &[u8],
     body: TextView,
     f: Follow,
 ) -> TextItems
-    requires { ⌜ (now t ≡ unicodeTables) × (isSome (readUnits (now units)) ≡ true) × TextField (now line) body × (f .inline + length (now line) < 2 ^ 32) ⌝ }
+    requires { ⌜ (now t ≡ unicodeTables) × Indexed (now units) (now index) × TextField (now line) body × (f .inline + length (now line) < 2 ^ 32) ⌝ }
     ensures { λ r. ⌜ QuantitiesDrawn (unitsOr (readUnits (now (units .entry)))) flags (now (line .entry)) body f (now (rest .entry)) (now (rest .exit)) r ⌝ }
 {
     let b = f.block;
@@ -92,7 +94,7 @@ fn quantities_of(
                 };
             }
             let first = f.inline;
-            step_lines::inline_lines(t, units, flags, rest, line, body, first)
+            step_lines::inline_lines(t, units, index, flags, rest, line, body, first)
         }
         Open::Text => TextItems {
             count: 0,
@@ -109,13 +111,14 @@ fn quantities_of(
 pub fn inline_line(
     t: &[u32],
     units: &[u8],
+    index: &[u32],
     flags: u32,
     rest: &mut [u8],
     line: &[u8],
     e: EventView,
     f: Follow,
 ) -> TextItems
-    requires { ⌜ (now t ≡ unicodeTables) × (isSome (readUnits (now units)) ≡ true) × EventFields (now line) e × (f .inline + length (now line) < 2 ^ 32) ⌝ }
+    requires { ⌜ (now t ≡ unicodeTables) × Indexed (now units) (now index) × EventFields (now line) e × (f .inline + length (now line) < 2 ^ 32) ⌝ }
     ensures { λ r. ⌜ InlineDrawn (unitsOr (readUnits (now (units .entry)))) flags (now (line .entry)) e f (now (rest .entry)) (now (rest .exit)) r ⌝ }
 {
     match e {
@@ -128,7 +131,7 @@ pub fn inline_line(
                 count: 0,
                 inline: 0,
             },
-            Inside::Text(body) => quantities_of(t, units, flags, rest, line, body, f),
+            Inside::Text(body) => quantities_of(t, units, index, flags, rest, line, body, f),
             Inside::Component(c) => TextItems {
                 count: 0,
                 inline: 0,
@@ -201,22 +204,23 @@ pub fn draw_line(
     t: &[u32],
     text: &[u8],
     units: &[u8],
+    index: &[u32],
     flags: u32,
     rest: &mut [u8],
     line: &[u8],
     e: EventView,
     f: Follow,
 ) -> TextItems
-    requires { ⌜ (now t ≡ unicodeTables) × (isUtf8 (now text) ≡ true) × (isSome (readUnits (now units)) ≡ true) × KnownEvent (now line) e × (all (isGoodSpan (now text) (length (now text))) (spansOf (eventIn (now line) e)) ≡ true) × (f .inline + length (now line) < 2 ^ 32) ⌝ }
+    requires { ⌜ (now t ≡ unicodeTables) × (isUtf8 (now text) ≡ true) × Indexed (now units) (now index) × KnownEvent (now line) e × (all (isGoodSpan (now text) (length (now text))) (spansOf (eventIn (now line) e)) ≡ true) × (f .inline + length (now line) < 2 ^ 32) ⌝ }
     ensures { λ r. ⌜ LineDrawn (now (text .entry)) (unitsOr (readUnits (now (units .entry)))) flags p (now (line .entry)) e f (now (rest .entry)) (now (rest .exit)) r ⌝ }
 {
     match p {
-        Part::Sections => page_parts::sections_line(t, text, units, flags, rest, line, e, f),
+        Part::Sections => page_parts::sections_line(t, text, units, index, flags, rest, line, e, f),
         Part::Timers => {
             let count = timers_line(t, rest, line, e, f);
             TextItems { count, inline: 0 }
         }
-        Part::Inline => inline_line(t, units, flags, rest, line, e, f),
+        Part::Inline => inline_line(t, units, index, flags, rest, line, e, f),
         Part::Old => {
             let count = old_line(t, flags, rest, line, e, f);
             TextItems { count, inline: 0 }

@@ -7,9 +7,9 @@ use mathlib.Core.Option.{Option}
 use native.Mathlib.Omega.{arith}
 use lib.ListN.{length}
 use lib.Seq.{slice}
-use Rattle.rules.specs.Basic.{pick, isSome}
+use Rattle.rules.specs.Basic.{pick}
 use Rattle.rules.specs.Event as rules
-use Rattle.rules.specs.Units.{NamedUnit, readUnits}
+use Rattle.rules.specs.Units.{NamedUnit}
 use Rattle.rules.specs.Finding.{parsed}
 use Rattle.rules.specs.State as state
 use Rattle.rules.specs.State.{State, setPlace, setBlock, setKept, report, Step, next}
@@ -49,6 +49,7 @@ use Rattle.timers.specs.Timed.{TimerDone}
 use Rattle.step_texts.specs.Texts.{TextDone}
 use Rattle.metadata.specs.Metas.{MetaDone}
 use Rattle.component_lines.specs.Lines.{LineHere, Kept, ComponentDone}
+use Rattle.unit_index.specs.Index.{Indexed}
 use Rattle.pass.specs.Walks.{Lent, EventHere, Running, LineDone, InStep, insideNow, InsideDone, BetweenDone, EventDone, ErrorView}
 use Rattle.pass.proofs.Rooms.{line-short, room}
 
@@ -61,9 +62,9 @@ here-as {sheet} {line} {at} {end} u e z = subst (λ (x : EventView). EventHere s
 
 -- ---- components
 
-module _ {t list sheet line w : List ℕ} {at end : ℕ} {h : Held} {c : ComponentEvent} (l : Lent t list) (z : EventHere sheet line at end (event.Inside (inside.Component c))) (r : Running sheet w h at) where
+module _ {t list index sheet line w : List ℕ} {at end : ℕ} {h : Held} {c : ComponentEvent} (l : Lent t list index) (z : EventHere sheet line at end (event.Inside (inside.Component c))) (r : Running sheet w h at) where
   pub component-ready : (d : ComponentEvent) → c ≡ d
-      → (t ≡ unicodeTables) × (isSome (readUnits list) ≡ true) × LineHere sheet at end (rules.inside (rules.componentEvent (componentEventIn (slice at end sheet) d))) × ComponentEventWithin (slice at end sheet) d × ComponentEventFields (slice at end sheet) d × Kept sheet w h
+      → (t ≡ unicodeTables) × Indexed list index × LineHere sheet at end (rules.inside (rules.componentEvent (componentEventIn (slice at end sheet) d))) × ComponentEventWithin (slice at end sheet) d × ComponentEventFields (slice at end sheet) d × Kept sheet w h
   unfolding eventIn insideIn EventWithin InsideWithin EventFields InsideFields
   component-ready d e = (
     l .tables,
@@ -75,7 +76,7 @@ module _ {t list sheet line w : List ℕ} {at end : ℕ} {h : Held} {c : Compone
   )
 
   pub timer-ready : (s : Span) (n : OptText) (q : OptQuantity) → c ≡ component.Timer s n q
-      → (t ≡ unicodeTables) × (isSome (readUnits list) ≡ true) × OptQuantityWithin line q × Sound w h × (h .counts .findings + 2 < 1544) × (h .counts .timers < 100000) × (h .counts .items < 100000)
+      → (t ≡ unicodeTables) × Indexed list index × OptQuantityWithin line q × Sound w h × (h .counts .findings + 2 < 1544) × (h .counts .timers < 100000) × (h .counts .items < 100000)
   unfolding EventWithin InsideWithin ComponentEventWithin
   timer-ready s n q e =
       let b = room z r in
@@ -104,16 +105,16 @@ module _ {us : List NamedUnit} {flags : ℕ} {sheet line w₀ w : List ℕ} {e :
   unfolding insideIn inStepBlock
   step-component c q p = rw q record { done = record { is = p .is; sound = p .sound; fit = p .fit } }
 
-pub text-ready : {t list sheet line w : List ℕ} {at end : ℕ} {h : Held} {e : Inside} (v : TextView) → e ≡ inside.Text v → Lent t list → EventHere sheet line at end (event.Inside e) → Running sheet w h at
-    → (t ≡ unicodeTables) × (isSome (readUnits list) ≡ true) × TextWithin line v × Field (partOf line (v .content)) × Sound w h × (h .counts .findings < 1544) × (h .counts .items + length line < 100000) × (h .counts .inline + length line < 100000)
+pub text-ready : {t list index sheet line w : List ℕ} {at end : ℕ} {h : Held} {e : Inside} (v : TextView) → e ≡ inside.Text v → Lent t list index → EventHere sheet line at end (event.Inside e) → Running sheet w h at
+    → (t ≡ unicodeTables) × Indexed list index × TextWithin line v × Field (partOf line (v .content)) × Sound w h × (h .counts .findings < 1544) × (h .counts .items + length line < 100000) × (h .counts .inline + length line < 100000)
 unfolding EventWithin InsideWithin EventFields InsideFields TextField
 text-ready v q l z r =
     let b = room z r in
     let m = line-short z in
     (l .tables, l .units, rw q at (z .within), rw q at (z .fields), r .kept .sound, omega (arith, b .findings), omega (arith, b .items, m), omega (arith, b .inline, m))
 
-pub component-here : {t list sheet line w : List ℕ} {at end : ℕ} {h : Held} {e : Inside} (c : ComponentEvent) → e ≡ inside.Component c → Lent t list → EventHere sheet line at end (event.Inside e) → Running sheet w h at
-    → Lent t list × EventHere sheet line at end (event.Inside (inside.Component c)) × Running sheet w h at
+pub component-here : {t list index sheet line w : List ℕ} {at end : ℕ} {h : Held} {e : Inside} (c : ComponentEvent) → e ≡ inside.Component c → Lent t list index → EventHere sheet line at end (event.Inside e) → Running sheet w h at
+    → Lent t list index × EventHere sheet line at end (event.Inside (inside.Component c)) × Running sheet w h at
 component-here c q l z r = (l, here-as _ (ap event.Inside q) z, r)
 
 -- ---- lines in any block
@@ -194,7 +195,7 @@ meta-within k v q z = rw q at z
 
 -- ---- every line
 
-pub between-ready : {t list sheet line w : List ℕ} {at end : ℕ} {h : Held} {v : EventView} (b : Between) → v ≡ event.Between b → Lent t list → EventHere sheet line at end v → Running sheet w h at
+pub between-ready : {t list index sheet line w : List ℕ} {at end : ℕ} {h : Held} {v : EventView} (b : Between) → v ≡ event.Between b → Lent t list index → EventHere sheet line at end v → Running sheet w h at
     → (t ≡ unicodeTables) × BetweenWithin line b × Sound w h × (h .counts .findings < 1544) × (h .counts .old < 100000) × (h .counts .sections < 100000)
 unfolding EventWithin
 between-ready b q l z r =

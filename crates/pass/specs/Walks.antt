@@ -5,8 +5,7 @@ use mathlib.Core.Bool.{Bool, true}
 use mathlib.Core.List.{List, []}
 use lib.ListN.{length}
 use lib.Seq.{slice}
-use Rattle.rules.specs.Basic.{isSome}
-use Rattle.rules.specs.Units.{NamedUnit, readUnits}
+use Rattle.rules.specs.Units.{NamedUnit}
 use Rattle.rules.specs.Event.{Event}
 use Rattle.rules.specs.Finding.{Finding}
 use Rattle.rules.specs.State.{State, firstState, Step, going, refused, recipe, noRecipe, refusal}
@@ -23,6 +22,7 @@ use Rattle.model.specs.Memory.{stateIn}
 use Rattle.model.specs.declared.Held.{Held}
 use Rattle.blocks.specs.Lined.{stepIn, SoundStep, FitStep, Went}
 use Rattle.blocks.specs.declared.Passed.{Passed}
+use Rattle.unit_index.specs.Index.{Indexed}
 use Rattle.component_lines.specs.Lines.{LineHere, Kept}
 use Rattle.pass.specs.declared.Walked.{Walked}
 use Rattle.pass.specs.declared.Walked.the-variants as walked
@@ -31,10 +31,10 @@ use Rattle.pass.specs.declared.Ran.the-variants as ran
 
 -- ---- what every line is given
 
--- the tables, and a list of units that was read
-pub record Lent (t list : List ℕ) : Type 0 where
+-- the tables, and a list of units with its index
+pub record Lent (t list index : List ℕ) : Type 0 where
   pub tables : t ≡ unicodeTables
-  pub units : isSome (readUnits list) ≡ true
+  pub units : Indexed list index
 
 -- v is the view of a line of the sheet
 pub record EventHere (sheet line : List ℕ) (at end : ℕ) (v : EventView) : Type 0 where

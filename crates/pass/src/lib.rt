@@ -23,6 +23,7 @@ use model::Open;
 fn on_component(
     t: &[u32],
     units: &[u8],
+    index: &[u32],
     flags: u32,
     sheet: &[u8],
     line: &[u8],
@@ -32,13 +33,14 @@ fn on_component(
     words: &mut [u32],
     h: Held,
 ) -> Passed
-    requires { ⌜ Lent (now t) (now units) × EventHere (now sheet) (now line) at end (event.Inside (inside.Component c)) × Running (now sheet) (now words) h at ⌝ }
+    requires { ⌜ Lent (now t) (now units) (now index) × EventHere (now sheet) (now line) at end (event.Inside (inside.Component c)) × Running (now sheet) (now words) h at ⌝ }
     ensures { λ r. ⌜ ComponentDone (unitsOr (readUnits (now (units .entry)))) flags (now (sheet .entry)) (now (line .entry)) c (now (words .entry)) h (now (words .exit)) r ⌝ }
 {
     match c {
         ComponentEvent::Ingredient(v, i) => component_lines::on_ingredient(
             t,
             units,
+            index,
             flags,
             sheet,
             at,
@@ -51,6 +53,7 @@ fn on_component(
         ComponentEvent::Cookware(v) => component_lines::on_cookware(
             t,
             units,
+            index,
             flags,
             sheet,
             at,
@@ -60,7 +63,7 @@ fn on_component(
             h,
         ),
         ComponentEvent::Timer(s, n, q) => {
-            let k = timers::on_timer(t, units, flags, line, n, q, words, h);
+            let k = timers::on_timer(t, units, index, flags, line, n, q, words, h);
             Passed::Next(k)
         }
     }
@@ -70,6 +73,7 @@ fn on_component(
 fn in_step_block(
     t: &[u32],
     units: &[u8],
+    index: &[u32],
     flags: u32,
     sheet: &[u8],
     line: &[u8],
@@ -79,16 +83,28 @@ fn in_step_block(
     words: &mut [u32],
     h: Held,
 ) -> Passed
-    requires { ⌜ Lent (now t) (now units) × EventHere (now sheet) (now line) at end (event.Inside e) × Running (now sheet) (now words) h at ⌝ }
+    requires { ⌜ Lent (now t) (now units) (now index) × EventHere (now sheet) (now line) at end (event.Inside e) × Running (now sheet) (now words) h at ⌝ }
     ensures { λ r. ⌜ InStep (unitsOr (readUnits (now (units .entry)))) flags (now (sheet .entry)) (now (line .entry)) e (now (words .entry)) h (now (words .exit)) r ⌝ }
 {
     match e {
         Inside::End(kind) => blocks::end_step(words, h, kind),
         Inside::Text(v) => {
-            let k = step_texts::text_in_step(t, units, flags, line, v, words, h);
+            let k = step_texts::text_in_step(t, units, index, flags, line, v, words, h);
             Passed::Next(k)
         }
-        Inside::Component(c) => on_component(t, units, flags, sheet, line, at, end, c, words, h),
+        Inside::Component(c) => on_component(
+            t,
+            units,
+            index,
+            flags,
+            sheet,
+            line,
+            at,
+            end,
+            c,
+            words,
+            h,
+        ),
     }
 }
 
@@ -96,6 +112,7 @@ fn in_step_block(
 fn on_inside(
     t: &[u32],
     units: &[u8],
+    index: &[u32],
     flags: u32,
     sheet: &[u8],
     line: &[u8],
@@ -105,13 +122,13 @@ fn on_inside(
     words: &mut [u32],
     h: Held,
 ) -> Passed
-    requires { ⌜ Lent (now t) (now units) × EventHere (now sheet) (now line) at end (event.Inside e) × Running (now sheet) (now words) h at ⌝ }
+    requires { ⌜ Lent (now t) (now units) (now index) × EventHere (now sheet) (now line) at end (event.Inside e) × Running (now sheet) (now words) h at ⌝ }
     ensures { λ r. ⌜ InsideDone (unitsOr (readUnits (now (units .entry)))) flags (now (sheet .entry)) (now (line .entry)) e (now (words .entry)) h (now (words .exit)) r ⌝ }
 {
     let block = h.block;
     match block {
         Open::Nothing => Passed::Stop(12),
-        Open::Step => in_step_block(t, units, flags, sheet, line, at, end, e, words, h),
+        Open::Step => in_step_block(t, units, index, flags, sheet, line, at, end, e, words, h),
         Open::Text => blocks::in_text_block(words, h, e),
         Open::TextMode => blocks::in_text_mode(words, h, e),
     }
@@ -132,6 +149,7 @@ fn on_between(t: &[u32], flags: u32, line: &[u8], b: Between, words: &mut [u32],
 fn on_event(
     t: &[u32],
     units: &[u8],
+    index: &[u32],
     flags: u32,
     sheet: &[u8],
     line: &[u8],
@@ -141,7 +159,7 @@ fn on_event(
     words: &mut [u32],
     h: Held,
 ) -> Passed
-    requires { ⌜ Lent (now t) (now units) × EventHere (now sheet) (now line) at end v × Running (now sheet) (now words) h at ⌝ }
+    requires { ⌜ Lent (now t) (now units) (now index) × EventHere (now sheet) (now line) at end v × Running (now sheet) (now words) h at ⌝ }
     ensures { λ r. ⌜ EventDone (unitsOr (readUnits (now (units .entry)))) flags (now (sheet .entry)) (now (line .entry)) v (now (words .entry)) h (now (words .exit)) r ⌝ }
 {
     match v {
@@ -152,7 +170,19 @@ fn on_event(
             let k = on_between(t, flags, line, b, words, h);
             Passed::Next(k)
         }
-        EventView::Inside(e) => on_inside(t, units, flags, sheet, line, at, end, e, words, h),
+        EventView::Inside(e) => on_inside(
+            t,
+            units,
+            index,
+            flags,
+            sheet,
+            line,
+            at,
+            end,
+            e,
+            words,
+            h,
+        ),
         EventView::Finding(s, n) => {
             let k = blocks::on_finding(words, h, s, n);
             Passed::Next(k)
@@ -185,6 +215,7 @@ pub enum Walked {
 pub fn step(
     t: &[u32],
     units: &[u8],
+    index: &[u32],
     flags: u32,
     sheet: &[u8],
     line: &[u8],
@@ -194,13 +225,13 @@ pub fn step(
     words: &mut [u32],
     h: Held,
 ) -> Walked
-    requires { ⌜ Lent (now t) (now units) × EventHere (now sheet) (now line) at end v × Running (now sheet) (now words) h at ⌝ }
+    requires { ⌜ Lent (now t) (now units) (now index) × EventHere (now sheet) (now line) at end v × Running (now sheet) (now words) h at ⌝ }
     ensures { λ r. ⌜ StepDone (unitsOr (readUnits (now (units .entry)))) flags (now (sheet .entry)) (now (line .entry)) end v (now (words .entry)) h (now (words .exit)) r ⌝ }
 {
     if is_error(v) {
         return Walked::Failed;
     }
-    match on_event(t, units, flags, sheet, line, at, end, v, words, h) {
+    match on_event(t, units, index, flags, sheet, line, at, end, v, words, h) {
         Passed::Stop(n) => Walked::Refused(n),
         Passed::Next(k) => {
             if memory::over_limits(k) {
@@ -231,8 +262,16 @@ fn finish(h: Held) -> Ran
 }
 
 // The whole pass. What the words held before does not matter. From an `error` line on nothing more is refused.
-pub fn run(t: &[u32], sheet: &[u8], text: &[u8], units: &[u8], flags: u32, words: &mut [u32]) -> Ran
-    requires { ⌜ Lent (now t) (now units) × (length (now sheet) ≤ 65536) × (24157 ≤ length (now words)) × (readSheet (now text) (now sheet) ≡ events (eventsOr (readSheet (now text) (now sheet)))) ⌝ }
+pub fn run(
+    t: &[u32],
+    sheet: &[u8],
+    text: &[u8],
+    units: &[u8],
+    index: &[u32],
+    flags: u32,
+    words: &mut [u32],
+) -> Ran
+    requires { ⌜ Lent (now t) (now units) (now index) × (length (now sheet) ≤ 65536) × (24157 ≤ length (now words)) × (readSheet (now text) (now sheet) ≡ events (eventsOr (readSheet (now text) (now sheet)))) ⌝ }
     ensures { λ r. ⌜ RanAs (unitsOr (readUnits (now (units .entry)))) flags (now (sheet .entry)) (now (text .entry)) (eventsOr (readSheet (now (text .entry)) (now (sheet .entry)))) (now (words .entry)) (now (words .exit)) r ⌝ }
 {
     let mut h = memory::first_held();
@@ -244,7 +283,7 @@ pub fn run(t: &[u32], sheet: &[u8], text: &[u8], units: &[u8], flags: u32, words
         };
         let line = &sheet[at..end];
         let v = known_events::event_of(line);
-        match step(t, units, flags, sheet, line, at, end, v, words, h) {
+        match step(t, units, index, flags, sheet, line, at, end, v, words, h) {
             Walked::Failed => {
                 return Ran::Failed;
             }

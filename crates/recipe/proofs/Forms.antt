@@ -68,7 +68,7 @@ tells-gives text us flags sheet es w ran.Failed p = sym (ap gives17 (p .is))
 tells-gives text us flags sheet es w (ran.Refused n l) p = sym (ap gives17 p)
 
 -- ---- a form that is not too long
-module _ {t form text units : List ℕ} {flags : ℕ} {m : Lent} (g : Given t form text units flags m) {w₀ w : List ℕ} {a : Ran}
+module _ {t form text units index : List ℕ} {flags : ℕ} {m : Lent} (g : Given t form text units index flags m) {w₀ w : List ℕ} {a : Ran}
     (p : RanAs (unitsOr (readUnits units)) flags form text (eventsOr (readSheet text form)) w₀ w a) {b : Bool} (e : b ≡ tells17 a) where
   again : (ltb 65536 (length form) || gives17 (collection form text units flags)) ≡ b
   again = rw (le-ltb 65536 (length form) (g .inputs .sheet-short)) (ap gives17 (g .inputs .collects) ∙ sym (tells-gives text (unitsOr (readUnits units)) flags form (eventsOr (readSheet text form)) w a (p .is)) ∙ sym e)
@@ -85,7 +85,7 @@ module _ {t form text units : List ℕ} {flags : ℕ} {m : Lent} (g : Given t fo
       record { is = rw (again ∙ q) (h .is); fits = h .fits; long = h .long }
 
 -- ---- the form as it is written to work memory
-module _ {t sheet text units : List ℕ} {flags : ℕ} {w : List ℕ} {h : Held} (g : RecipeGiven t sheet text units flags w h) where
+module _ {t sheet text units index : List ℕ} {flags : ℕ} {w : List ℕ} {h : Held} (g : RecipeGiven t sheet text units index flags w h) where
   abbrev us : List NamedUnit
   us = unitsOr (readUnits units)
 
@@ -188,10 +188,10 @@ module _ {t sheet text units : List ℕ} {flags : ℕ} {w : List ℕ} {h : Held}
         pub form-within : (s : List ℕ) → n ≤ length (b ++ s)
         form-within s = omega (arith, length-append b s, keeps put)
 
-        pub form-given : (s o : List ℕ) → Given t (take (n - 0) (b ++ s)) text units flags (lengths w bytesNeeded o)
+        pub form-given : (s o : List ℕ) → Given t (take (n - 0) (b ++ s)) text units index flags (lengths w bytesNeeded o)
         form-given s o =
-            subst (λ (x : List ℕ). Given t x text units flags (lengths w bytesNeeded o)) (sym (part s))
-            (record { tables = g .tables; inputs = form-good (omega (arith, ends)) })
+            subst (λ (x : List ℕ). Given t x text units index flags (lengths w bytesNeeded o)) (sym (part s))
+            (record { tables = g .tables; inputs = form-good (omega (arith, ends)); indexed = g .indexed })
 
         pub form-told : (s : List ℕ) {room : ℕ} {o : List ℕ} {r : Answer} → Answered (formAnswer text units flags room (take (n - 0) (b ++ s))) room o r
             → Answered (formGiven sheet text units flags room) room o r
@@ -199,7 +199,7 @@ module _ {t sheet text units : List ℕ} {flags : ℕ} {w : List ℕ} {h : Held}
             record { is = d .is ∙ ap (formAnswer text units flags room) (part s) ∙ sym (no-fault room); fits = d .fits; long = d .long }
 
 -- ---- after the pass
-module _ {t sheet text units : List ℕ} {flags : ℕ} {m : Lent} (g : Given t sheet text units flags m) where
+module _ {t sheet text units index : List ℕ} {flags : ℕ} {m : Lent} (g : Given t sheet text units index flags m) where
   pub bytes-lent : 65536 ≤ m .bytes
   unfolding bytesNeeded
   bytes-lent = g .inputs .bytes-enough

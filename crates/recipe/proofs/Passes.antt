@@ -10,7 +10,7 @@ use Rattle.rules.specs.State.{Outcome, refusal}
 use Rattle.rules.specs.Pass.{parseEvents, ended}
 use Rattle.rules.specs.Answer.{Lent, wordsNeeded, bytesNeeded, isShort, handOut, written, collectAnswer, events, eventsOr, readSheet, unitsOr}
 use Rattle.unicode.specs.Tables.{unicodeTables}
-use Rattle.inputs.specs.Inputs.{InputsChecked, GoodInputs}
+use Rattle.inputs.specs.Inputs.{InputsChecked, GoodInputs, UnitsReady}
 use Rattle.inputs.specs.declared.Inputs.{Inputs}
 use Rattle.inputs.specs.declared.Inputs.the-variants as inputs
 use Rattle.inputs.proofs.Answers.{told-good, told-refused, refused-collect, good-collect}
@@ -30,15 +30,15 @@ module _ {sheet text units : List ℕ} {flags : ℕ} (m : Lent) {a : Inputs} (p 
   pub inputs-refused : {n l : ℕ} (o : List ℕ) → length o ≡ m .room → a ≡ inputs.Refused n l → Answered (collectAnswer sheet text units flags m) (m .room) o (Refused n l)
   inputs-refused o e q = refused-as o e (refused-collect sheet text units flags m (told-refused (rw q at p)))
 
-  pub inputs-good : {t : List ℕ} → t ≡ unicodeTables → a ≡ inputs.Good → Given t sheet text units flags m
-  inputs-good e q = record { tables = e; inputs = told-good (rw q at p) }
+  pub inputs-good : {t index : List ℕ} → t ≡ unicodeTables → UnitsReady units index a → a ≡ inputs.Good → Given t sheet text units index flags m
+  inputs-good e x q = record { tables = e; inputs = told-good (rw q at p); indexed = x .indexed q }
 
 -- ---- what the pass and the page are given
-module _ {t sheet text units : List ℕ} {flags : ℕ} {m : Lent} (g : Given t sheet text units flags m) where
-  pub run-given : walks.Lent t units × (length sheet ≤ 65536) × (24157 ≤ m .words) × (readSheet text sheet ≡ events (eventsOr (readSheet text sheet)))
+module _ {t sheet text units index : List ℕ} {flags : ℕ} {m : Lent} (g : Given t sheet text units index flags m) where
+  pub run-given : walks.Lent t units index × (length sheet ≤ 65536) × (24157 ≤ m .words) × (readSheet text sheet ≡ events (eventsOr (readSheet text sheet)))
   unfolding wordsNeeded
   run-given = (
-    record { tables = g .tables; units = g .inputs .units-some },
+    record { tables = g .tables; units = g .indexed },
     g .inputs .sheet-short,
     omega (arith, g .inputs .words-enough),
     g .inputs .sheet-read,
@@ -82,8 +82,8 @@ module _ {t sheet text units : List ℕ} {flags : ℕ} {m : Lent} (g : Given t s
     unfolding RanBy
     ran-recipe q = rw q at p .is
 
-    pub page-given : {h : Held} → length w₀ ≡ m .words → a ≡ ran.Recipe h → RecipeGiven t sheet text units flags w h
-    page-given e q = record { tables = g .tables; inputs = good-fewer (p .long ∙ e); ran = ran-recipe q }
+    pub page-given : {h : Held} → length w₀ ≡ m .words → a ≡ ran.Recipe h → RecipeGiven t sheet text units index flags w h
+    page-given e q = record { tables = g .tables; inputs = good-fewer (p .long ∙ e); indexed = g .indexed; ran = ran-recipe q }
 
     pub recipe-answered : {h : Held} {o₀ o : List ℕ} {n : ℕ} {r : Answer} → length o₀ ≡ m .room → a ≡ ran.Recipe h
         → RecipePut sheet text units flags o₀ o n → r ≡ pageOr20 n (length o) → Answered (collectAnswer sheet text units flags m) (m .room) o r

@@ -8,6 +8,7 @@ use Rattle.rules.specs.Basic.{pick}
 use Rattle.rules.specs.Answer as rules
 use Rattle.rules.specs.Answer.{answered, declined, Lent, collectAnswer, plainAnswer, outAfter, workAfter, printed}
 use Rattle.unicode.specs.Tables.{unicodeTables}
+use Rattle.unit_index.specs.Index.{Indexed}
 use Rattle.inputs.specs.Inputs.{GoodInputs}
 use Rattle.recipe.specs.declared.Answer.{Answer}
 use Rattle.recipe.specs.declared.Answer.the-variants.{Page, Refused}
@@ -57,9 +58,10 @@ unfoldable pub pageOr20 : ℕ → ℕ → Answer
 pageOr20 n room = pick (leb n room) (Page n) (Refused 20 0)
 
 -- what the pass and the page are given
-pub record Given (t sheet text units : List ℕ) (flags : ℕ) (m : Lent) : Type 0 where
+pub record Given (t sheet text units index : List ℕ) (flags : ℕ) (m : Lent) : Type 0 where
   pub tables : t ≡ unicodeTables
   pub inputs : GoodInputs sheet text units flags (m .words) (m .bytes)
+  pub indexed : Indexed units index
 
 -- the answer a of the rules, of an output that may hold anything past it
 pub record Answered (a : rules.Answer) (room : ℕ) (out : List ℕ) (r : Answer) : Type 0 where

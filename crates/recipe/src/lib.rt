@@ -36,17 +36,18 @@ fn pass_and_write(
     sheet: &[u8],
     text: &[u8],
     units: &[u8],
+    index: &[u32],
     flags: u32,
     words: &mut [u32],
     bytes: usize,
     out: &mut [u8],
 ) -> Answer
-    requires { ⌜ Given (now t) (now sheet) (now text) (now units) flags (lengths (now words) bytes (now out)) ⌝ }
+    requires { ⌜ Given (now t) (now sheet) (now text) (now units) (now index) flags (lengths (now words) bytes (now out)) ⌝ }
     ensures { λ r. ⌜ Answered (collectAnswer (now (sheet .entry)) (now (text .entry)) (now (units .entry)) flags (lengths (now (words .entry)) bytes (now (out .entry)))) (length (now (out .entry))) (now (out .exit)) r ⌝ }
 {
-    match pass::run(t, sheet, text, units, flags, words) {
+    match pass::run(t, sheet, text, units, index, flags, words) {
         Ran::Recipe(h) => {
-            let n = page::recipe_page(t, sheet, text, units, flags, words, h, out);
+            let n = page::recipe_page(t, sheet, text, units, index, flags, words, h, out);
             hand_out(n, out.len())
         }
         Ran::Failed => {
@@ -63,17 +64,18 @@ fn collected(
     sheet: &[u8],
     text: &[u8],
     units: &[u8],
+    index: &mut [u32],
     flags: u32,
     words: &mut [u32],
     bytes: usize,
     out: &mut [u8],
 ) -> Answer
-    requires { ⌜ now t ≡ unicodeTables ⌝ }
+    requires { ⌜ (now t ≡ unicodeTables) × (length (now index) ≡ 2304) ⌝ }
     ensures { λ r. ⌜ Answered (collectAnswer (now (sheet .entry)) (now (text .entry)) (now (units .entry)) flags (lengths (now (words .entry)) bytes (now (out .entry)))) (length (now (out .entry))) (now (out .exit)) r ⌝ }
 {
-    match inputs::check_inputs(sheet, text, units, flags, words.len(), bytes) {
+    match inputs::check_inputs(sheet, text, units, index, flags, words.len(), bytes) {
         Inputs::Refused(n, l) => Answer::Refused(n, l),
-        Inputs::Good => pass_and_write(t, sheet, text, units, flags, words, bytes, out),
+        Inputs::Good => pass_and_write(t, sheet, text, units, index, flags, words, bytes, out),
     }
 }
 
@@ -100,7 +102,8 @@ pub fn collect(
     ensures { λ r. ⌜ Collected (now (sheet .entry)) (now (text .entry)) (now (units .entry)) flags (lentOf (now (words .entry)) (now (bytes .entry)) (now (out .entry))) (now (words .exit)) (now (bytes .exit)) (now (out .exit)) r ⌝ }
 {
     let t = unicode::unicode_tables();
-    let r = collected(&t, sheet, text, units, flags, words, bytes.len(), out);
+    let mut index = [0u32; 2304];
+    let r = collected(&t, sheet, text, units, &mut index, flags, words, bytes.len(), out);
     clearing::clear_words(words);
     clearing::clear_from(bytes, 0);
     clearing::clear_from(out, used(r));
@@ -147,14 +150,15 @@ fn give_form(
     form: &[u8],
     text: &[u8],
     units: &[u8],
+    index: &[u32],
     flags: u32,
     words: &mut [u32],
     out: &mut [u8],
 ) -> Answer
-    requires { ⌜ Given (now t) (now form) (now text) (now units) flags (lengths (now words) bytesNeeded (now out)) ⌝ }
+    requires { ⌜ Given (now t) (now form) (now text) (now units) (now index) flags (lengths (now words) bytesNeeded (now out)) ⌝ }
     ensures { λ r. ⌜ Answered (formAnswer (now (text .entry)) (now (units .entry)) flags (length (now (out .entry))) (now (form .entry))) (length (now (out .entry))) (now (out .exit)) r ⌝ }
 {
-    if tells_17(pass::run(t, form, text, units, flags, words)) {
+    if tells_17(pass::run(t, form, text, units, index, flags, words)) {
         return Answer::Refused(24, 0);
     }
     let n = output::put_bytes(out, 0, form);
@@ -167,13 +171,14 @@ fn write_form(
     sheet: &[u8],
     text: &[u8],
     units: &[u8],
+    index: &[u32],
     flags: u32,
     words: &mut [u32],
     h: Held,
     bytes: &mut [u8],
     out: &mut [u8],
 ) -> Answer
-    requires { ⌜ RecipeGiven (now t) (now sheet) (now text) (now units) flags (now words) h × (65536 ≤ length (now bytes)) ⌝ }
+    requires { ⌜ RecipeGiven (now t) (now sheet) (now text) (now units) (now index) flags (now words) h × (65536 ≤ length (now bytes)) ⌝ }
     ensures { λ r. ⌜ Answered (formGiven (now (sheet .entry)) (now (text .entry)) (now (units .entry)) flags (length (now (out .entry)))) (length (now (out .entry))) (now (out .exit)) r ⌝ }
 {
     match plain_walk::plain_form_lines(
@@ -191,7 +196,7 @@ fn write_form(
             if 65536 < n {
                 return Answer::Refused(24u32, 0);
             }
-            give_form(t, &bytes[0..n], text, units, flags, words, out)
+            give_form(t, &bytes[0..n], text, units, index, flags, words, out)
         }
     }
 }
@@ -202,16 +207,17 @@ fn pass_and_form(
     sheet: &[u8],
     text: &[u8],
     units: &[u8],
+    index: &[u32],
     flags: u32,
     words: &mut [u32],
     bytes: &mut [u8],
     out: &mut [u8],
 ) -> Answer
-    requires { ⌜ Given (now t) (now sheet) (now text) (now units) flags (lentOf (now words) (now bytes) (now out)) ⌝ }
+    requires { ⌜ Given (now t) (now sheet) (now text) (now units) (now index) flags (lentOf (now words) (now bytes) (now out)) ⌝ }
     ensures { λ r. ⌜ Answered (plainAnswer (now (sheet .entry)) (now (text .entry)) (now (units .entry)) flags (lentOf (now (words .entry)) (now (bytes .entry)) (now (out .entry)))) (length (now (out .entry))) (now (out .exit)) r ⌝ }
 {
-    match pass::run(t, sheet, text, units, flags, words) {
-        Ran::Recipe(h) => write_form(t, sheet, text, units, flags, words, h, bytes, out),
+    match pass::run(t, sheet, text, units, index, flags, words) {
+        Ran::Recipe(h) => write_form(t, sheet, text, units, index, flags, words, h, bytes, out),
         Ran::Failed => Answer::Refused(21, error_line(sheet, text)),
         Ran::Refused(k, l) => Answer::Refused(k, l),
     }
@@ -223,17 +229,18 @@ fn formed(
     sheet: &[u8],
     text: &[u8],
     units: &[u8],
+    index: &mut [u32],
     flags: u32,
     words: &mut [u32],
     bytes: &mut [u8],
     out: &mut [u8],
 ) -> Answer
-    requires { ⌜ now t ≡ unicodeTables ⌝ }
+    requires { ⌜ (now t ≡ unicodeTables) × (length (now index) ≡ 2304) ⌝ }
     ensures { λ r. ⌜ Answered (plainAnswer (now (sheet .entry)) (now (text .entry)) (now (units .entry)) flags (lentOf (now (words .entry)) (now (bytes .entry)) (now (out .entry)))) (length (now (out .entry))) (now (out .exit)) r ⌝ }
 {
-    match inputs::check_inputs(sheet, text, units, flags, words.len(), bytes.len()) {
+    match inputs::check_inputs(sheet, text, units, index, flags, words.len(), bytes.len()) {
         Inputs::Refused(n, l) => Answer::Refused(n, l),
-        Inputs::Good => pass_and_form(t, sheet, text, units, flags, words, bytes, out),
+        Inputs::Good => pass_and_form(t, sheet, text, units, index, flags, words, bytes, out),
     }
 }
 
@@ -250,7 +257,8 @@ pub fn plain_form(
     ensures { λ r. ⌜ PlainFormed (now (sheet .entry)) (now (text .entry)) (now (units .entry)) flags (lentOf (now (words .entry)) (now (bytes .entry)) (now (out .entry))) (now (words .exit)) (now (bytes .exit)) (now (out .exit)) r ⌝ }
 {
     let t = unicode::unicode_tables();
-    let f = formed(&t, sheet, text, units, flags, words, bytes, out);
+    let mut index = [0u32; 2304];
+    let f = formed(&t, sheet, text, units, &mut index, flags, words, bytes, out);
     clearing::clear_words(words);
     clearing::clear_from(bytes, 0usize);
     clearing::clear_from(out, used(f));

@@ -6,30 +6,24 @@ use native.Mathlib.Omega.{arith}
 use lib.ListN.{length, take, drop}
 use Rattle.rules.specs.Event.{Event}
 use Rattle.rules.specs.Units.{NamedUnit}
-use Rattle.rules.specs.Answer.{wordsNeeded, events, eventsOr, readSheet}
 use Rattle.unicode.specs.Tables.{unicodeTables}
-use Rattle.inputs.specs.Inputs.{InputsChecked, GoodInputs}
+use Rattle.unit_index.specs.Index.{Indexed}
+use Rattle.inputs.specs.Inputs.{InputsChecked, GoodInputs, UnitsReady}
 use Rattle.inputs.specs.declared.Inputs.{Inputs}
 use Rattle.inputs.specs.declared.Inputs.the-variants.{Good}
 use Rattle.inputs.proofs.Answers.{told-good}
 use Rattle.model.specs.Memory.{Sound, windowsOf}
 use Rattle.model.specs.declared.Held.{Held}
 use Rattle.memory.proofs.Whole.{long-ingredients, long-cookware, long-ingredientPairs, long-cookwarePairs}
-use Rattle.pass.specs.Walks.{Lent, Running, RanRecipe, RanBy, RanAs}
+use Rattle.pass.specs.Walks.{Running, RanRecipe, RanBy, RanAs}
 use Rattle.pass.specs.declared.Ran.{Ran}
 use Rattle.pass.specs.declared.Ran.the-variants.{Recipe}
 use Rattle.pass.proofs.Rooms.{bounded}
 
 module _ {t sheet text units : List ℕ} {flags n : ℕ} (e : t ≡ unicodeTables) where
-  pub good-given : {a : Inputs} → InputsChecked sheet text units flags n 65536 a → a ≡ Good
-      → (t ≡ unicodeTables) × GoodInputs sheet text units flags n 65536
-  good-given p q = (e, told-good (rw q at p))
-
-  module _ (g : GoodInputs sheet text units flags n 65536) where
-    pub run-given : Lent t units × (length sheet ≤ 65536) × (24157 ≤ n) × (readSheet text sheet ≡ events (eventsOr (readSheet text sheet)))
-    unfolding wordsNeeded
-    run-given =
-        (record { tables = e; units = g .units-some }, g .sheet-short, omega (arith, g .words-enough), g .sheet-read)
+  pub good-given : {index : List ℕ} {a : Inputs} → InputsChecked sheet text units flags n 65536 a → UnitsReady units index a → a ≡ Good
+      → (t ≡ unicodeTables) × GoodInputs sheet text units flags n 65536 × Indexed units index
+  good-given p x q = (e, told-good (rw q at p), x .indexed q)
 
 module _ {us : List NamedUnit} {flags : ℕ} {sheet text : List ℕ} {es : List Event} {w₀ w : List ℕ} {a : Ran} (p : RanAs us flags sheet text es w₀ w a) {h : Held} (q : a ≡ Recipe h) where
   ran : RanRecipe text us flags sheet es w h

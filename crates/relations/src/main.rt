@@ -13,6 +13,7 @@ ghost use mathlib.Core.Path.{_≡_};
 ghost use Prim.Native.Nat.{_*_, _≤_};
 ghost use lib.ListN.{length};
 ghost use Rattle.unicode.specs.Tables.{unicodeTables};
+ghost use Rattle.unit_index.specs.Index.{Indexed};
 ghost use Rattle.inputs.specs.Inputs.{GoodInputs};
 ghost use Rattle.model.specs.Memory.{Sound};
 
@@ -108,10 +109,18 @@ fn show_refusal(number: u32, line: u32) {
 
 // ---- cases
 
-fn run(t: &[u32], sheet: &[u8], text: &[u8], units: &[u8], flags: u32, words: &mut [u32])
-    requires { ⌜ (now t ≡ unicodeTables) × GoodInputs (now sheet) (now text) (now units) flags (length (now words)) 65536 ⌝ }
+fn run(
+    t: &[u32],
+    sheet: &[u8],
+    text: &[u8],
+    units: &[u8],
+    index: &[u32],
+    flags: u32,
+    words: &mut [u32],
+)
+    requires { ⌜ (now t ≡ unicodeTables) × GoodInputs (now sheet) (now text) (now units) flags (length (now words)) 65536 × Indexed (now units) (now index) ⌝ }
 {
-    match pass::run(t, sheet, text, units, flags, words) {
+    match pass::run(t, sheet, text, units, index, flags, words) {
         Ran::Recipe(h) => {
             show_counts(h);
             show_both(words, h);
@@ -128,12 +137,21 @@ fn run(t: &[u32], sheet: &[u8], text: &[u8], units: &[u8], flags: u32, words: &m
 fn check_and_run(t: &[u32], sheet: &[u8], text: &[u8], units: &[u8], flags: u32, words: &mut [u32])
     requires { ⌜ now t ≡ unicodeTables ⌝ }
 {
-    match inputs::check_inputs(sheet, text, units, flags, words.len(), inputs::BYTES) {
+    let mut index = [0u32; 2304];
+    match inputs::check_inputs(
+        sheet,
+        text,
+        units,
+        &mut index,
+        flags,
+        words.len(),
+        inputs::BYTES,
+    ) {
         Inputs::Refused(n, l) => {
             show_refusal(n, l);
         }
         Inputs::Good => {
-            run(t, sheet, text, units, flags, words);
+            run(t, sheet, text, units, &index, flags, words);
         }
     }
 }

@@ -6,7 +6,7 @@ ghost use mathlib.Core.List.{[], _∷_, _++_};
 ghost use mathlib.Core.Option.{none};
 ghost use Prim.Native.Nat.{_+_, _^_, _<_};
 ghost use lib.ListN.{length};
-ghost use Rattle.rules.specs.Basic.{codes, tab, lf, decimal, isSome, onSome};
+ghost use Rattle.rules.specs.Basic.{codes, tab, lf, decimal, onSome};
 ghost use Rattle.rules.specs.Utf8.{isUtf8};
 ghost use Rattle.rules.specs.Sheet.{lineOf};
 ghost use Rattle.rules.specs.Units.{readUnits};
@@ -20,6 +20,7 @@ ghost use Rattle.unicode.specs.Tables.{unicodeTables};
 ghost use Rattle.output.specs.Put.{Put, tabbed};
 ghost use Rattle.content.specs.Contents.{contentIn, spell};
 ghost use Rattle.content.specs.Parts.{Field};
+ghost use Rattle.unit_index.specs.Index.{Indexed};
 ghost use Rattle.parts.specs.Views.{textIn, spanIn, optTextIn, optQuantityIn};
 ghost use Rattle.known_events.specs.Fields.{TextField, OptTextField, OptQuantityFields};
 ghost use Rattle.step_lines.specs.Lines.{kindWord, itemAs, PutItem, quantityAs, TextLines, itemText, inlineText, textText};
@@ -98,15 +99,22 @@ pub struct TextItems {
 }
 
 // The items of a field's text, which quantities split.
-fn split_items(t: &[u32], units: &[u8], rest: &mut [u8], s: &[u8], first: u32) -> TextItems
-    requires { ⌜ (now t ≡ unicodeTables) × (isSome (readUnits (now units)) ≡ true) × Field (now s) × (first + length (now s) < 2 ^ 32) ⌝ }
+fn split_items(
+    t: &[u32],
+    units: &[u8],
+    index: &[u32],
+    rest: &mut [u8],
+    s: &[u8],
+    first: u32,
+) -> TextItems
+    requires { ⌜ (now t ≡ unicodeTables) × Indexed (now units) (now index) × Field (now s) × (first + length (now s) < 2 ^ 32) ⌝ }
     ensures { λ r. ⌜ TextLines itemText (inlinePieces (unitsOr (readUnits (now (units .entry)))) (contentIn (now (s .entry)))) first (now (rest .entry)) (now (rest .exit)) r ⌝ }
 {
     let mut n = 0;
     let mut quantities = 0;
     let mut at = 0;
     loop {
-        let f = inline::find_inline_quantity(t, units, s, at);
+        let f = inline::find_inline_quantity(t, units, index, s, at);
         match f {
             inline::Inline::Nothing => {
                 let count = put_text(rest, n, &s[at..]);
@@ -135,19 +143,20 @@ fn split_items(t: &[u32], units: &[u8], rest: &mut [u8], s: &[u8], first: u32) -
 pub fn text_items(
     t: &[u32],
     units: &[u8],
+    index: &[u32],
     flags: u32,
     rest: &mut [u8],
     line: &[u8],
     body: TextView,
     first: u32,
 ) -> TextItems
-    requires { ⌜ (now t ≡ unicodeTables) × (isSome (readUnits (now units)) ≡ true) × TextField (now line) body × (first + length (now line) < 2 ^ 32) ⌝ }
+    requires { ⌜ (now t ≡ unicodeTables) × Indexed (now units) (now index) × TextField (now line) body × (first + length (now line) < 2 ^ 32) ⌝ }
     ensures { λ r. ⌜ TextLines itemText (pieces (unitsOr (readUnits (now (units .entry)))) flags (textIn (now (line .entry)) body .content)) first (now (rest .entry)) (now (rest .exit)) r ⌝ }
 {
     let s = parts::part_of(line, body.content);
     let bit = flags / 2 % 2;
     if bit == 1 {
-        return split_items(t, units, rest, s, first);
+        return split_items(t, units, index, rest, s, first);
     }
     let count = text_item_line(rest, s);
     TextItems { count, inline: 0 }
@@ -178,15 +187,22 @@ fn put_inline(out: &mut [u8], at: usize, index: u32, number: &[u8], unit: &[u8])
 }
 
 // The quantities of a field's text.
-fn split_quantities(t: &[u32], units: &[u8], rest: &mut [u8], s: &[u8], first: u32) -> TextItems
-    requires { ⌜ (now t ≡ unicodeTables) × (isSome (readUnits (now units)) ≡ true) × Field (now s) × (first + length (now s) < 2 ^ 32) ⌝ }
+fn split_quantities(
+    t: &[u32],
+    units: &[u8],
+    index: &[u32],
+    rest: &mut [u8],
+    s: &[u8],
+    first: u32,
+) -> TextItems
+    requires { ⌜ (now t ≡ unicodeTables) × Indexed (now units) (now index) × Field (now s) × (first + length (now s) < 2 ^ 32) ⌝ }
     ensures { λ r. ⌜ TextLines inlineText (inlinePieces (unitsOr (readUnits (now (units .entry)))) (contentIn (now (s .entry)))) first (now (rest .entry)) (now (rest .exit)) r ⌝ }
 {
     let mut count = 0;
     let mut quantities = 0;
     let mut at = 0;
     loop {
-        let f = inline::find_inline_quantity(t, units, s, at);
+        let f = inline::find_inline_quantity(t, units, index, s, at);
         match f {
             inline::Inline::Nothing => {
                 return TextItems {
@@ -201,11 +217,11 @@ fn split_quantities(t: &[u32], units: &[u8], rest: &mut [u8], s: &[u8], first: u
                 unit_to,
                 after,
             } => {
-                let index = first + quantities;
+                let nth = first + quantities;
                 count = put_inline(
                     rest,
                     count,
-                    index,
+                    nth,
                     &s[number_from..number_to],
                     &s[unit_from..unit_to],
                 );
@@ -220,19 +236,20 @@ fn split_quantities(t: &[u32], units: &[u8], rest: &mut [u8], s: &[u8], first: u
 pub fn inline_lines(
     t: &[u32],
     units: &[u8],
+    index: &[u32],
     flags: u32,
     rest: &mut [u8],
     line: &[u8],
     body: TextView,
     first: u32,
 ) -> TextItems
-    requires { ⌜ (now t ≡ unicodeTables) × (isSome (readUnits (now units)) ≡ true) × TextField (now line) body × (first + length (now line) < 2 ^ 32) ⌝ }
+    requires { ⌜ (now t ≡ unicodeTables) × Indexed (now units) (now index) × TextField (now line) body × (first + length (now line) < 2 ^ 32) ⌝ }
     ensures { λ r. ⌜ TextLines inlineText (pieces (unitsOr (readUnits (now (units .entry)))) flags (textIn (now (line .entry)) body .content)) first (now (rest .entry)) (now (rest .exit)) r ⌝ }
 {
     let bit = flags / 2 % 2;
     if bit == 1 {
         let s = parts::part_of(line, body.content);
-        return split_quantities(t, units, rest, s, first);
+        return split_quantities(t, units, index, rest, s, first);
     }
     TextItems {
         count: 0,

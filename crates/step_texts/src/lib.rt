@@ -1,11 +1,10 @@
 // Texts in a step: 4 in components mode, else items and inline quantities.
 ghost use mathlib.Core.Path.{_≡_};
-ghost use mathlib.Core.Bool.{true};
 ghost use Prim.Native.Nat.{_+_, _≤_, _<_};
 ghost use lib.ListN.{length};
-ghost use Rattle.rules.specs.Basic.{isSome};
 ghost use Rattle.rules.specs.Units.{readUnits};
 ghost use Rattle.rules.specs.Answer.{unitsOr};
+ghost use Rattle.unit_index.specs.Index.{Indexed};
 ghost use Rattle.unicode.specs.Tables.{unicodeTables};
 ghost use Rattle.content.specs.Parts.{Field};
 ghost use Rattle.parts.specs.Views.{partOf, TextWithin};
@@ -37,13 +36,14 @@ fn push_pieces(h: Held, items: usize, quantities: usize) -> Held
 pub fn text_in_step(
     t: &[u32],
     units: &[u8],
+    index: &[u32],
     flags: u32,
     line: &[u8],
     body: TextView,
     words: &mut [u32],
     h: Held,
 ) -> Held
-    requires { ⌜ (now t ≡ unicodeTables) × (isSome (readUnits (now units)) ≡ true) × TextWithin (now line) body × Field (partOf (now line) (body .content)) × Sound (now words) h × (h .counts .findings < 1544) × (h .counts .items + length (now line) < 100000) × (h .counts .inline + length (now line) < 100000) ⌝ }
+    requires { ⌜ (now t ≡ unicodeTables) × Indexed (now units) (now index) × TextWithin (now line) body × Field (partOf (now line) (body .content)) × Sound (now words) h × (h .counts .findings < 1544) × (h .counts .items + length (now line) < 100000) × (h .counts .inline + length (now line) < 100000) ⌝ }
     ensures { λ r. ⌜ TextDone (unitsOr (readUnits (now (units .entry)))) flags (now (line .entry)) body (now (words .entry)) h (now (words .exit)) r ⌝ }
 {
     let f = parts::part_of(line, body.content);
@@ -58,7 +58,7 @@ pub fn text_in_step(
     }
     let bit = flags / 2 % 2;
     if bit == 1 {
-        let n = inline::count_items(t, units, f);
+        let n = inline::count_items(t, units, index, f);
         return push_pieces(h, n.items, n.quantities);
     }
     push_pieces(h, 1, 0)

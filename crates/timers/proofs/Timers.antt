@@ -2,7 +2,7 @@
 use Prim.Native.Nat.{ℕ, suc, _+_, _<_, _≤_, _/_, _%_}
 use mathlib.Core.Path.{_≡_, refl, sym, ap, _∙_}
 use mathlib.Core.Bool.{Bool, true, false}
-use mathlib.Core.List.{List, [], _∷_, _++_}
+use mathlib.Core.List.{List, [], _∷_}
 use mathlib.Core.Option.{Option, none, some}
 use native.Mathlib.Omega.{arith}
 use native.Mathlib.Numerals.{add-one}
@@ -36,14 +36,13 @@ use Rattle.parts.specs.declared.OptQuantity.the-variants as quantity
 use Rattle.compatible.proofs.Laws.{text-kept, within-present}
 use Rattle.model.specs.Blank.{blank, blankPlace, blankKept, blankTables, blankTimer}
 use Rattle.model.specs.Memory.{stateOf, stateIn, Sound}
-use Rattle.model.specs.Fits.{AllFit}
 use Rattle.model.specs.Small.{withTimers}
 use Rattle.model.specs.declared.Held.{Held}
 use Rattle.memory.proofs.Smalls.{with-timers}
 use Rattle.checks.specs.Reports.{Reported, nothing, more}
 use Rattle.checks.proofs.Reports.{reported-seq, reported-is, reported-fit, reported-sound, reported-count}
 use Rattle.checks.proofs.Laws.{none-found, said}
-use Rattle.blocks.specs.Lined.{Told, Went, ItemsPushed}
+use Rattle.blocks.specs.Lined.{ItemsPushed}
 use Rattle.blocks.proofs.Fitting.{items-fit, items-sound}
 use Rattle.timers.specs.Timed.{LockChecked, timeCode, UnitChecked, TimeChecked, withTimer, TimerPushed, TimerDone}
 

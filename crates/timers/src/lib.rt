@@ -1,11 +1,11 @@
 // `timer` lines in a step: the locks of quantities (6), and a timer's value and unit (21 to 23).
 ghost use mathlib.Core.Path.{_≡_};
-ghost use mathlib.Core.Bool.{true};
 ghost use mathlib.Core.List.{[], _∷_};
 ghost use Prim.Native.Nat.{_+_, _<_};
-ghost use Rattle.rules.specs.Basic.{isSome, when};
+ghost use Rattle.rules.specs.Basic.{when};
 ghost use Rattle.rules.specs.Units.{readUnits};
 ghost use Rattle.rules.specs.Answer.{unitsOr};
+ghost use Rattle.unit_index.specs.Index.{Indexed};
 ghost use Rattle.rules.specs.Finding.{found};
 ghost use Rattle.rules.specs.Model.{isTextual};
 ghost use Rattle.unicode.specs.Tables.{unicodeTables};
@@ -75,19 +75,20 @@ fn time_code(p: Physical) -> u32
 fn unit_finding(
     t: &[u32],
     units: &[u8],
+    index: &[u32],
     words: &mut [u32],
     h: Held,
     line: &[u8],
     unit: OptText,
 ) -> Held
-    requires { ⌜ (now t ≡ unicodeTables) × (isSome (readUnits (now units)) ≡ true) × OptTextWithin (now line) unit × Sound (now words) h × (h .counts .findings < 1544) ⌝ }
+    requires { ⌜ (now t ≡ unicodeTables) × Indexed (now units) (now index) × OptTextWithin (now line) unit × Sound (now words) h × (h .counts .findings < 1544) ⌝ }
     ensures { λ r. ⌜ UnitChecked (unitsOr (readUnits (now (units .entry)))) (now (line .entry)) unit (now (words .entry)) h (now (words .exit)) r ⌝ }
 {
     match unit {
         OptText::Absent => h,
         OptText::Present(v) => {
             let name = compatible::text_part(t, line, v);
-            let p = compatible::find_part(units, name);
+            let p = unit_index::find_named(units, index, name);
             let code = time_code(p);
             if code == 0 {
                 return h;
@@ -101,12 +102,13 @@ fn unit_finding(
 fn time_checks(
     t: &[u32],
     units: &[u8],
+    index: &[u32],
     words: &mut [u32],
     h: Held,
     line: &[u8],
     quantity: OptQuantity,
 ) -> Held
-    requires { ⌜ (now t ≡ unicodeTables) × (isSome (readUnits (now units)) ≡ true) × OptQuantityWithin (now line) quantity × Sound (now words) h × (h .counts .findings + 1 < 1544) ⌝ }
+    requires { ⌜ (now t ≡ unicodeTables) × Indexed (now units) (now index) × OptQuantityWithin (now line) quantity × Sound (now words) h × (h .counts .findings + 1 < 1544) ⌝ }
     ensures { λ r. ⌜ TimeChecked (unitsOr (readUnits (now (units .entry)))) (now (line .entry)) quantity (now (words .entry)) h (now (words .exit)) r ⌝ }
 {
     match quantity {
@@ -115,7 +117,7 @@ fn time_checks(
             let kind = q.kind;
             let unit = q.unit;
             let k = text_finding(words, h, kind, q.value_span);
-            unit_finding(t, units, words, k, line, unit)
+            unit_finding(t, units, index, words, k, line, unit)
         }
     }
 }
@@ -142,6 +144,7 @@ fn push_timer(h: Held) -> Held
 pub fn on_timer(
     t: &[u32],
     units: &[u8],
+    index: &[u32],
     flags: u32,
     line: &[u8],
     name: OptText,
@@ -149,13 +152,13 @@ pub fn on_timer(
     words: &mut [u32],
     h: Held,
 ) -> Held
-    requires { ⌜ (now t ≡ unicodeTables) × (isSome (readUnits (now units)) ≡ true) × OptQuantityWithin (now line) quantity × Sound (now words) h × (h .counts .findings + 2 < 1544) × (h .counts .timers < 100000) × (h .counts .items < 100000) ⌝ }
+    requires { ⌜ (now t ≡ unicodeTables) × Indexed (now units) (now index) × OptQuantityWithin (now line) quantity × Sound (now words) h × (h .counts .findings + 2 < 1544) × (h .counts .timers < 100000) × (h .counts .items < 100000) ⌝ }
     ensures { λ r. ⌜ TimerDone (unitsOr (readUnits (now (units .entry)))) flags (now (line .entry)) name quantity (now (words .entry)) h (now (words .exit)) r ⌝ }
 {
     let k = lock_finding(words, h, quantity);
     let bit = flags / 4 % 2;
     if bit == 1 {
-        let m = time_checks(t, units, words, k, line, quantity);
+        let m = time_checks(t, units, index, words, k, line, quantity);
         return push_timer(m);
     }
     push_timer(k)

@@ -11,9 +11,9 @@ ghost use mathlib.Core.Path.{_≡_};
 ghost use mathlib.Core.Bool.{true};
 ghost use Prim.Native.Nat.{_+_, _<_, _≤_};
 ghost use lib.ListN.{length};
-ghost use Rattle.rules.specs.Basic.{isSome};
 ghost use Rattle.rules.specs.Units.{readUnits};
 ghost use Rattle.rules.specs.Answer.{unitsOr};
+ghost use Rattle.unit_index.specs.Index.{Indexed};
 ghost use Rattle.unicode.specs.Tables.{unicodeTables};
 ghost use Rattle.parts.specs.Views.{OptQuantityWithin};
 ghost use Rattle.components.specs.Views.{ComponentWithin};
@@ -53,6 +53,7 @@ fn in_step(r: RelationRecord) -> bool
 fn unit_against(
     t: &[u32],
     units: &[u8],
+    index: &[u32],
     words: &mut [u32],
     h: Held,
     sheet: &[u8],
@@ -60,7 +61,7 @@ fn unit_against(
     a: OptQuantity,
     i: usize,
 ) -> Held
-    requires { ⌜ (now t ≡ unicodeTables) × (isSome (readUnits (now units)) ≡ true) × OptQuantityWithin (now line) a × Sound (now words) h × AllFit (now sheet) (now words) h × (h .counts .findings < 1544) ⌝ }
+    requires { ⌜ (now t ≡ unicodeTables) × Indexed (now units) (now index) × OptQuantityWithin (now line) a × Sound (now words) h × AllFit (now sheet) (now words) h × (h .counts .findings < 1544) ⌝ }
     ensures { λ r. ⌜ RowChecked (unitsOr (readUnits (now (units .entry)))) (now (sheet .entry)) (now (line .entry)) a i (now (words .entry)) h (now (words .exit)) r ⌝ }
 {
     let n = h.counts.ingredients;
@@ -72,13 +73,14 @@ fn unit_against(
     let end = r.line_end as usize;
     let v = recall::component_in(&sheet[at..end]);
     let b = v.quantity;
-    checks::unit_pair(t, units, words, h, line, a, &sheet[at..end], b)
+    checks::unit_pair(t, units, index, words, h, line, a, &sheet[at..end], b)
 }
 
 // Against those of all rows that refer to the row d, oldest first.
 fn referrer_check(
     t: &[u32],
     units: &[u8],
+    index: &[u32],
     words: &mut [u32],
     h: Held,
     sheet: &[u8],
@@ -86,7 +88,7 @@ fn referrer_check(
     a: OptQuantity,
     d: usize,
 ) -> Held
-    requires { ⌜ (now t ≡ unicodeTables) × (isSome (readUnits (now units)) ≡ true) × OptQuantityWithin (now line) a × Sound (now words) h × AllFit (now sheet) (now words) h × (d < h .counts .ingredients) × (h .counts .findings + h .counts .«ingredient_pairs» ≤ 1544) ⌝ }
+    requires { ⌜ (now t ≡ unicodeTables) × Indexed (now units) (now index) × OptQuantityWithin (now line) a × Sound (now words) h × AllFit (now sheet) (now words) h × (d < h .counts .ingredients) × (h .counts .findings + h .counts .«ingredient_pairs» ≤ 1544) ⌝ }
     ensures { λ r. ⌜ ReferrersChecked (unitsOr (readUnits (now (units .entry)))) (now (sheet .entry)) (now (line .entry)) a d (now (words .entry)) h (now (words .exit)) r ⌝ }
 {
     let n = h.counts.ingredient_pairs;
@@ -102,7 +104,7 @@ fn referrer_check(
         ) else {
             return k;
         };
-        k = unit_against(t, units, words, k, sheet, line, a, i as usize);
+        k = unit_against(t, units, index, words, k, sheet, line, a, i as usize);
         from = next;
     }
     k
@@ -112,6 +114,7 @@ fn referrer_check(
 pub fn unit_check(
     t: &[u32],
     units: &[u8],
+    index: &[u32],
     words: &mut [u32],
     h: Held,
     sheet: &[u8],
@@ -119,15 +122,15 @@ pub fn unit_check(
     a: OptQuantity,
     d: usize,
 ) -> Held
-    requires { ⌜ (now t ≡ unicodeTables) × (isSome (readUnits (now units)) ≡ true) × OptQuantityWithin (now line) a × Sound (now words) h × AllFit (now sheet) (now words) h × (d < h .counts .ingredients) × (h .counts .findings + h .counts .«ingredient_pairs» < 1544) ⌝ }
+    requires { ⌜ (now t ≡ unicodeTables) × Indexed (now units) (now index) × OptQuantityWithin (now line) a × Sound (now words) h × AllFit (now sheet) (now words) h × (d < h .counts .ingredients) × (h .counts .findings + h .counts .«ingredient_pairs» < 1544) ⌝ }
     ensures { λ r. ⌜ UnitChecked (unitsOr (readUnits (now (units .entry)))) (now (sheet .entry)) (now (line .entry)) a d (now (words .entry)) h (now (words .exit)) r ⌝ }
 {
     let r = model::row_at(&words[0..6156], d);
     let g = r.relation;
     let e = g.relation;
-    let k = unit_against(t, units, words, h, sheet, line, a, d);
+    let k = unit_against(t, units, index, words, h, sheet, line, a, d);
     match e {
-        Relation::Definition => referrer_check(t, units, words, k, sheet, line, a, d),
+        Relation::Definition => referrer_check(t, units, index, words, k, sheet, line, a, d),
         Relation::Reference(x) => k,
     }
 }
@@ -138,6 +141,7 @@ pub fn unit_check(
 fn units_after(
     t: &[u32],
     units: &[u8],
+    index: &[u32],
     flags: u32,
     words: &mut [u32],
     h: Held,
@@ -147,7 +151,7 @@ fn units_after(
     a: OptQuantity,
     d: usize,
 ) -> Held
-    requires { ⌜ (now t ≡ unicodeTables) × (isSome (readUnits (now units)) ≡ true) × OptQuantityWithin (now line) a × Sound (now words) h × AllFit (now sheet) (now words) h × (d < countOf (kindOf «is_ingredient») h) × (h .counts .findings + h .counts .«ingredient_pairs» < 1544) ⌝ }
+    requires { ⌜ (now t ≡ unicodeTables) × Indexed (now units) (now index) × OptQuantityWithin (now line) a × Sound (now words) h × AllFit (now sheet) (now words) h × (d < countOf (kindOf «is_ingredient») h) × (h .counts .findings + h .counts .«ingredient_pairs» < 1544) ⌝ }
     ensures { λ r. ⌜ UnitsAfter (unitsOr (readUnits (now (units .entry)))) flags (kindOf «is_ingredient») (now (sheet .entry)) (now (line .entry)) a d (now (words .entry)) h (now (words .exit)) r ⌝ }
 {
     if !is_ingredient {
@@ -155,7 +159,7 @@ fn units_after(
     }
     let bit = flags / 4 % 2;
     if bit == 1 {
-        return unit_check(t, units, words, h, sheet, line, a, d);
+        return unit_check(t, units, index, words, h, sheet, line, a, d);
     }
     h
 }
@@ -191,6 +195,7 @@ fn entry_check(
 pub fn checks_after(
     t: &[u32],
     units: &[u8],
+    index: &[u32],
     flags: u32,
     words: &mut [u32],
     h: Held,
@@ -200,14 +205,26 @@ pub fn checks_after(
     v: ComponentView,
     to: Same,
 ) -> Held
-    requires { ⌜ (now t ≡ unicodeTables) × (isSome (readUnits (now units)) ≡ true) × ComponentWithin (now line) v × Sound (now words) h × AllFit (now sheet) (now words) h × SameBelow (kindOf «is_ingredient») h to × (h .counts .findings + h .counts .«ingredient_pairs» + 3 < 1544) ⌝ }
+    requires { ⌜ (now t ≡ unicodeTables) × Indexed (now units) (now index) × ComponentWithin (now line) v × Sound (now words) h × AllFit (now sheet) (now words) h × SameBelow (kindOf «is_ingredient») h to × (h .counts .findings + h .counts .«ingredient_pairs» + 3 < 1544) ⌝ }
     ensures { λ r. ⌜ ChecksDone (unitsOr (readUnits (now (units .entry)))) flags (kindOf «is_ingredient») (now (sheet .entry)) (now (line .entry)) v to (now (words .entry)) h (now (words .exit)) r ⌝ }
 {
     match to {
         Same::Nothing => h,
         Same::At(d) => {
             let a = v.quantity;
-            let k = units_after(t, units, flags, words, h, sheet, line, is_ingredient, a, d);
+            let k = units_after(
+                t,
+                units,
+                index,
+                flags,
+                words,
+                h,
+                sheet,
+                line,
+                is_ingredient,
+                a,
+                d,
+            );
             entry_check(words, k, sheet, line, is_ingredient, v, d)
         }
     }

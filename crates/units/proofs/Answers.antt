@@ -1,4 +1,4 @@
--- What the answer of `check_units` says of the list.
+-- What the answer for a list says of it.
 use mathlib.Core.Path.{_≡_, refl}
 use mathlib.Core.Bool.{Bool, true, false}
 use mathlib.Core.List.{List}

@@ -65,75 +65,6 @@ module _ (s name : List ℕ) (at : ℕ) {e : ℕ} where
   pub named-same : {b : Bool} → e ≡ at + length name → b ≡ eqList name (part s at (at + length name)) → b ≡ eqList name (part s at e)
   named-same h q = rw h q
 
--- ---- one turn of a search for a name
-
-module _ (name : List ℕ) {s : List ℕ} {at e k : ℕ} {p : Physical} {b : Bool} (u : isUtf8 name ≡ true) (t : UnitTurn s at e k p) (q : b ≡ eqList name (part s at e)) where
-  turn-finds : findUnit (chars name) (unitsFrom s at) ≡ pick b (some (t .quantity)) (findUnit (chars name) (unitsFrom s k))
-  unfolding findUnit namedAs
-  turn-finds = rw (t .is, same-chars name (part s at e) u (t .utf8), ← q)
-
-  -- the name is the unit's, or the search goes on
-  pub find-hit : b ≡ true → p ≡ physicalAs (findUnit (chars name) (unitsFrom s at))
-  find-hit h = t .said ∙ ap physicalAs (sym (turn-finds ∙ rw h))
-
-  pub find-miss : b ≡ false → findUnit (chars name) (unitsFrom s k) ≡ findUnit (chars name) (unitsFrom s at)
-  find-miss h = sym (turn-finds ∙ rw h)
-
--- no unit is left
-pub find-none : (name : List ℕ) {us : List NamedUnit} → us ≡ [] → findUnit (chars name) us ≡ none
-unfolding findUnit
-find-none name e = rw e
-
-pub record Finding (s name : List ℕ) (from at : ℕ) : Type 0 where
-  pub left : isListFrom s at ≡ true
-  pub is : findUnit (chars name) (unitsFrom s at) ≡ findUnit (chars name) (unitsFrom s from)
-
-module _ {s name : List ℕ} {from at : ℕ} (i : Finding s name from at) where
-  finding-none : unitsFrom s at ≡ [] → Unknown ≡ physicalAs (findUnit (chars name) (unitsFrom s from))
-  unfolding physicalAs
-  finding-none e = ap physicalAs (sym (find-none name e) ∙ i .is)
-
-  pub finding-end : length s ≤ at → Unknown ≡ physicalAs (findUnit (chars name) (unitsFrom s from))
-  finding-end h = finding-none (units-end s at h)
-
-  pub finding-out : {r : UnitAt} → UnitHere s at r → r ≡ End → Unknown ≡ physicalAs (findUnit (chars name) (unitsFrom s from))
-  finding-out h e = finding-none (h .none-left e)
-
-  module _ {e k : ℕ} {p : Physical} {b : Bool} (u : isUtf8 name ≡ true) (t : UnitTurn s at e k p) (q : b ≡ eqList name (part s at e)) where
-    pub finding-hit : b ≡ true → p ≡ physicalAs (findUnit (chars name) (unitsFrom s from))
-    finding-hit h = find-hit name u t q h ∙ ap physicalAs (i .is)
-
-    pub finding-on : b ≡ false → Finding s name from k
-    finding-on h = record { left = t .rest; is = find-miss name u t q h ∙ i .is }
-
--- ---- a name twice
-
-pub record Looking (s : List ℕ) (at : ℕ) : Type 0 where
-  pub left : isListFrom s at ≡ true
-  pub is : nameTwice (unitsFrom s at) ≡ nameTwice (unitsFrom s 0)
-
-module _ {s : List ℕ} {at : ℕ} (i : Looking s at) where
-  looking-none : unitsFrom s at ≡ [] → false ≡ nameTwice (unitsFrom s 0)
-  unfolding nameTwice
-  looking-none e = ap nameTwice (sym e) ∙ i .is
-
-  pub looking-end : length s ≤ at → false ≡ nameTwice (unitsFrom s 0)
-  looking-end h = looking-none (units-end s at h)
-
-  pub looking-out : {r : UnitAt} → UnitHere s at r → r ≡ End → false ≡ nameTwice (unitsFrom s 0)
-  looking-out h e = looking-none (h .none-left e)
-
-  module _ {e k : ℕ} {p a : Physical} {b : Bool} (t : UnitTurn s at e k p) (f : a ≡ physicalAs (findUnit (chars (part s at e)) (unitsFrom s k))) (q : b ≡ isKnown a) where
-    again : nameTwice (unitsFrom s at) ≡ (b || nameTwice (unitsFrom s k))
-    unfolding nameTwice namedAs
-    again = rw (t .is, q, f, known-some (findUnit (chars (part s at e)) (unitsFrom s k)))
-
-    pub looking-hit : b ≡ true → true ≡ nameTwice (unitsFrom s 0)
-    looking-hit h = sym (again ∙ rw h) ∙ i .is
-
-    pub looking-on : b ≡ false → Looking s k
-    looking-on h = record { left = t .rest; is = sym (again ∙ rw h) ∙ i .is }
-
 -- ---- the lines, counted
 
 -- the units are read, and n and they are at most 1,024
@@ -242,7 +173,3 @@ module _ (s : List ℕ) {b : Bool} (q : b ≡ isSome (readUnits s)) where
 
     pub check-good : t ≡ false → Good ≡ unitsCheckedOf (readUnits s)
     check-good e = sym (checked h ∙ rw (← w, e))
-
-pub found-all : (s name : List ℕ) {r : Physical} → isSome (readUnits s) ≡ true → r ≡ physicalAs (findUnit (chars name) (unitsFrom s 0))
-    → r ≡ physicalAs (findUnit (chars name) (unitsOr (readUnits s)))
-found-all s name h e = rw (← units-start s h) e

@@ -100,7 +100,7 @@ pub fn unit_line(line: &[u8]) -> UnitLine
 }
 
 // Whether each line is a unit, and ended, and there are at most 1,024 of them.
-fn is_list(units: &[u8]) -> bool
+pub fn is_list(units: &[u8]) -> bool
     ensures { λ r. ⌜ r ≡ isSome (readUnits (now (units .entry))) ⌝ }
 {
     let mut at = 0;
@@ -182,83 +182,8 @@ pub fn is_named(units: &[u8], at: usize, end: usize, name: &[u8]) -> bool
     sheet::same_bytes(name, &units[at..e])
 }
 
-// What a name stands for among the units from a place on.
-pub fn find_from(units: &[u8], from: usize, name: &[u8]) -> Physical
-    requires { ⌜ (isListFrom (now units) from ≡ true) × (isUtf8 (now name) ≡ true) ⌝ }
-    ensures { λ r. ⌜ r ≡ physicalAs (findUnit (chars (now (name .entry))) (unitsFrom (now (units .entry)) from)) ⌝ }
-{
-    let mut at = from;
-    while at < units.len() {
-        let u = unit_at(units, at);
-        match u {
-            UnitAt::End => {
-                return Physical::Unknown;
-            }
-            UnitAt::Unit {
-                name_end,
-                next,
-                physical,
-            } => {
-                if is_named(units, at, name_end, name) {
-                    return physical;
-                }
-                at = next;
-            }
-        }
-    }
-    Physical::Unknown
-}
-
-pub fn find_unit(units: &[u8], name: &[u8]) -> Physical
-    requires { ⌜ (isSome (readUnits (now units)) ≡ true) × (isUtf8 (now name) ≡ true) ⌝ }
-    ensures { λ r. ⌜ r ≡ physicalAs (findUnit (chars (now (name .entry))) (unitsOr (readUnits (now (units .entry))))) ⌝ }
-{
-    find_from(units, 0, name)
-}
-
-// Whether two lines of a well-formed list have one name.
-fn has_twice(units: &[u8]) -> bool
-    requires { ⌜ isListFrom (now units) 0 ≡ true ⌝ }
-    ensures { λ r. ⌜ r ≡ nameTwice (unitsFrom (now (units .entry)) 0) ⌝ }
-{
-    let mut at = 0;
-    while at < units.len() {
-        let u = unit_at(units, at);
-        match u {
-            UnitAt::End => {
-                return false;
-            }
-            UnitAt::Unit {
-                name_end,
-                next,
-                physical,
-            } => {
-                let again = find_from(units, next, &units[at..name_end]);
-                if is_known(again) {
-                    return true;
-                }
-                at = next;
-            }
-        }
-    }
-    false
-}
-
 pub enum UnitsChecked {
     Good,
     Ill,
     Twice,
-}
-
-// The unit list as it is lent: refusal 5 where it is ill-formed, refusal 6 where a name stands twice.
-pub fn check_units(units: &[u8]) -> UnitsChecked
-    ensures { λ r. ⌜ r ≡ unitsCheckedOf (readUnits (now (units .entry))) ⌝ }
-{
-    if !is_list(units) {
-        return UnitsChecked::Ill;
-    }
-    if has_twice(units) {
-        return UnitsChecked::Twice;
-    }
-    UnitsChecked::Good
 }

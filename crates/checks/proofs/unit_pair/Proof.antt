@@ -27,7 +27,7 @@ enum-known-b c = search needs
 
 -- src/lib.rt:152:21
 compatible-unit-requires : tie.Need-compatible-unit-requires
-compatible-unit-requires c κs = ((c .before .before .before .before .before .before .before .before .before .before .before .pre .0), (c .before .before .before .before .before .before .before .before .before .before .before .pre .1), unit-within _ _ _ (c .before .before .before .before .before .before .before .before .before .before .before .pre .3) (c .before .b .given .1), unit-within _ _ _ (c .before .before .before .before .before .before .before .before .before .before .before .pre .2) (c .before .before .before .before .a .given .1))
+compatible-unit-requires c κs = ((c .before .before .before .before .before .before .before .before .before .before .before .before .pre .0), (c .before .before .before .before .before .before .before .before .before .before .before .before .pre .1), unit-within _ _ _ (c .before .before .before .before .before .before .before .before .before .before .before .before .pre .3) (c .before .b .given .1), unit-within _ _ _ (c .before .before .before .before .before .before .before .before .before .before .before .before .pre .2) (c .before .before .before .before .a .given .1))
 
 -- src/lib.rt:154:21
 returns : tie.Need-returns
@@ -43,7 +43,7 @@ unit-place-requires-2 c κs = search needs
 
 -- src/lib.rt:158:17
 push-two-requires : tie.Need-push-two-requires
-push-two-requires c κs = ((c .before .before .before .before .before .before .before .before .before .before .before .before .before .before .before .before .pre .4), (c .before .before .before .before .before .before .before .before .before .before .before .before .before .before .before .before .pre .5))
+push-two-requires c κs = ((c .before .before .before .before .before .before .before .before .before .before .before .before .before .before .before .before .before .pre .4), (c .before .before .before .before .before .before .before .before .before .before .before .before .before .before .before .before .before .pre .5))
 
 -- src/lib.rt:141:1
 returns-2 : tie.Need-returns-2

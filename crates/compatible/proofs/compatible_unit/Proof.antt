@@ -1,6 +1,5 @@
 use borrow.Author.Needs.{needs}
 use native.Mathlib.Omega.{arith}
-use Rattle.units.proofs.Walks.{list-starts}
 use Rattle.compatible.proofs.Laws.{both-absent, left-absent, right-absent, both-present, list-read}
 use Rattle.compatible.proofs.compatible_unit.Statement.{statement}
 use Rattle.compatible.proofs.compatible_unit.Tie as tie
@@ -35,15 +34,15 @@ enum-known-b-2 c = search needs
 
 -- src/lib.rt:105:21
 text-part-requires : tie.Need-text-part-requires
-text-part-requires c κs = (c .before .before .before .before .before .before .before .before .before .before .pre .0)
+text-part-requires c κs = (c .before .before .before .before .before .before .before .before .before .before .before .pre .0)
 
 -- src/lib.rt:106:21
 text-part-requires-2 : tie.Need-text-part-requires-2
-text-part-requires-2 c κs = (c .before .before .before .before .before .before .before .before .before .before .before .pre .0)
+text-part-requires-2 c κs = (c .before .before .before .before .before .before .before .before .before .before .before .before .pre .0)
 
 -- src/lib.rt:107:17
 known-units-requires : tie.Need-known-units-requires
-known-units-requires c κs = list-starts _ (c .before .before .before .before .before .before .before .before .before .before .before .before .pre .1)
+known-units-requires c κs = c .before .before .before .before .before .before .before .before .before .before .before .before .before .pre .1
 
 -- src/lib.rt:93:1
 returns : tie.Need-returns
@@ -59,7 +58,7 @@ returns-3 c = right-absent _ _ _ (c .before .before .before .a .given .1) (c .en
 
 -- src/lib.rt:93:1
 returns-4 : tie.Need-returns-4
-returns-4 c = both-present _ _ _ (c .before .before .before .before .before .before .before .before .before .before .before .before .before .pre .2) (c .before .before .before .before .before .before .before .before .before .before .before .before .before .pre .3) (c .before .before .before .before .before .before .before .a .given .1) (c .before .before .before .before .b2 .given .1) (c .before .before .text-part .ensures) (c .before .text-part2 .ensures) (list-read _ _ _ (c .before .before .before .before .before .before .before .before .before .before .before .before .before .pre .1) (c .known-units .ensures))
+returns-4 c = both-present _ _ _ (c .before .before .before .before .before .before .before .before .before .before .before .before .before .before .pre .2) (c .before .before .before .before .before .before .before .before .before .before .before .before .before .before .pre .3) (c .before .before .before .before .before .before .before .a .given .1) (c .before .before .before .before .b2 .given .1) (c .before .before .text-part .ensures) (c .before .text-part2 .ensures) (list-read _ _ _ (c .before .before .before .before .before .before .before .before .before .before .before .before .before .before .pre .1 .list) (c .known-units .ensures))
 
 pub compatible-unit-spec : {M : Type 1} → statement M
 compatible-unit-spec =

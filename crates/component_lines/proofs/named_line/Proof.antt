@@ -19,7 +19,7 @@ use Rattle.lookup.proofs.refers_to.Reads as refers-to-reads
 
 -- src/lib.rt:304:9
 name-of-requires : tie.Need-name-of-requires
-name-of-requires c κs = let q = name-ready (c .before .before .before .before .before .pre .2) in (c .before .before .before .before .before .pre .0, q .0, q .1, q .2)
+name-of-requires c κs = let q = name-ready (c .before .before .before .before .before .before .pre .2) in (c .before .before .before .before .before .before .pre .0, q .0, q .1, q .2)
 
 -- src/lib.rt:305:9
 same-of-requires : tie.Need-same-of-requires
@@ -39,19 +39,19 @@ is-components-requires c κs = search needs
 
 -- src/lib.rt:309:9
 row-named-requires : tie.Need-row-named-requires
-row-named-requires c κs = let q = row-ready (c .before .before .before .before .before .before .before .before .before .before .before .before .pre .2) (c .before .before .before .before .before .before .name-of .ensures) in (q .0, q .1, q .2, q .3, to-small (c .before .before .before .before .before .before .before .before .before .before .before .before .pre .2) (c .before .before .before .before .before .before .name-of .ensures) (c .before .before .before .before .same-of .ensures) (c .before .before .old-of .ensures) (c .before .refers-to .ensures) (c .before .before .before .before .before .before .before .before .before .before .before .before .pre .3))
+row-named-requires c κs = let q = row-ready (c .before .before .before .before .before .before .before .before .before .before .before .before .before .pre .2) (c .before .before .before .before .before .before .name-of .ensures) in (q .0, q .1, q .2, q .3, to-small (c .before .before .before .before .before .before .before .before .before .before .before .before .before .pre .2) (c .before .before .before .before .before .before .name-of .ensures) (c .before .before .before .before .same-of .ensures) (c .before .before .old-of .ensures) (c .before .refers-to .ensures) (c .before .before .before .before .before .before .before .before .before .before .before .before .before .pre .3))
 
 -- src/lib.rt:310:9
 found-of-requires : tie.Need-found-of-requires
-found-of-requires c κs = to-small (c .before .before .before .before .before .before .before .before .before .before .before .before .before .pre .2) (c .before .before .before .before .before .before .before .name-of .ensures) (c .before .before .before .before .before .same-of .ensures) (c .before .before .before .old-of .ensures) (c .before .before .refers-to .ensures) (c .before .before .before .before .before .before .before .before .before .before .before .before .before .pre .3)
+found-of-requires c κs = to-small (c .before .before .before .before .before .before .before .before .before .before .before .before .before .before .pre .2) (c .before .before .before .before .before .before .before .name-of .ensures) (c .before .before .before .before .before .same-of .ensures) (c .before .before .before .old-of .ensures) (c .before .before .refers-to .ensures) (c .before .before .before .before .before .before .before .before .before .before .before .before .before .before .pre .3)
 
 -- src/lib.rt:311:9
 named-reports-requires : tie.Need-named-reports-requires
-named-reports-requires c κs = let p = c .before .before .before .before .before .before .before .before .before .before .before .before .before .before .before .pre in (p .0, p .1, p .2, to-there (p .2) (c .before .before .before .before .before .before .before .before .before .name-of .ensures) (c .before .before .before .before .before .before .before .same-of .ensures) (c .before .before .before .before .before .old-of .ensures) (c .before .before .before .before .refers-to .ensures), p .3, p .4, p .5, p .6)
+named-reports-requires c κs = let p = c .before .before .before .before .before .before .before .before .before .before .before .before .before .before .before .before .pre in (p .0, p .1, p .2, to-there (p .2) (c .before .before .before .before .before .before .before .before .before .name-of .ensures) (c .before .before .before .before .before .before .before .same-of .ensures) (c .before .before .before .before .before .old-of .ensures) (c .before .before .before .before .refers-to .ensures), p .3, p .4, p .5, p .6)
 
 -- src/lib.rt:312:5
 put-row-requires : tie.Need-put-row-requires
-put-row-requires c κs = put-ready (c .before .before .before .before .before .before .before .before .before .before .before .before .before .before .before .before .before .before .before .pre .2) (c .before .before .before .before .before .before .before .before .before .before .before .before .before .name-of .ensures) (c .before .before .before .before .before .before .before .before .before .before .before .same-of .ensures) (c .before .before .before .before .before .before .before .before .before .old-of .ensures) (c .before .before .before .before .before .before .before .before .refers-to .ensures) (c .before .before .before .named-reports .ensures) (c .before .before .before .before .before .found-of .ensures) (c .before .before .before .before .before .before .before .before .before .before .before .before .before .before .before .before .before .before .before .pre .3) (c .before .before .before .before .before .before .before .before .before .before .before .before .before .before .before .before .before .before .before .pre .5)
+put-row-requires c κs = put-ready (c .before .before .before .before .before .before .before .before .before .before .before .before .before .before .before .before .before .before .before .before .pre .2) (c .before .before .before .before .before .before .before .before .before .before .before .before .before .name-of .ensures) (c .before .before .before .before .before .before .before .before .before .before .before .same-of .ensures) (c .before .before .before .before .before .before .before .before .before .old-of .ensures) (c .before .before .before .before .before .before .before .before .refers-to .ensures) (c .before .before .before .named-reports .ensures) (c .before .before .before .before .before .found-of .ensures) (c .before .before .before .before .before .before .before .before .before .before .before .before .before .before .before .before .before .before .before .before .pre .3) (c .before .before .before .before .before .before .before .before .before .before .before .before .before .before .before .before .before .before .before .before .pre .5)
 
 -- src/lib.rt:286:1
 same-length : tie.Need-same-length
@@ -59,7 +59,7 @@ same-length c = search needs
 
 -- src/lib.rt:286:1
 returns : tie.Need-returns
-returns c = named-done (c .before .before .before .before .before .before .before .before .before .before .before .before .before .before .before .before .before .before .before .before .before .before .pre .2) (c .before .before .before .before .before .before .before .before .before .before .before .before .before .before .before .before .name-of .ensures) (c .before .before .before .before .before .before .before .before .before .before .before .before .before .before .same-of .ensures) (c .before .before .before .before .before .before .before .before .before .before .before .before .old-of .ensures) (c .before .before .before .before .before .before .before .before .before .before .before .refers-to .ensures) (c .before .before .before .before .before .before .named-reports .ensures) (c .before .before .before .before .before .before .before .before .before .before .before .before .before .before .before .before .before .before .before .before .before .before .pre .4) (c .before .before .before .before .before .before .before .before .before .before .is-components .ensures) (c .before .before .before .before .before .before .before .before .before .row-named .ensures) (c .before .before .before .before .before .before .before .before .found-of .ensures) (c .before .before .put-row .ensures)
+returns c = named-done (c .before .before .before .before .before .before .before .before .before .before .before .before .before .before .before .before .before .before .before .before .before .before .before .pre .2) (c .before .before .before .before .before .before .before .before .before .before .before .before .before .before .before .before .name-of .ensures) (c .before .before .before .before .before .before .before .before .before .before .before .before .before .before .same-of .ensures) (c .before .before .before .before .before .before .before .before .before .before .before .before .old-of .ensures) (c .before .before .before .before .before .before .before .before .before .before .before .refers-to .ensures) (c .before .before .before .before .before .before .named-reports .ensures) (c .before .before .before .before .before .before .before .before .before .before .before .before .before .before .before .before .before .before .before .before .before .before .before .pre .4) (c .before .before .before .before .before .before .before .before .before .before .is-components .ensures) (c .before .before .before .before .before .before .before .before .before .row-named .ensures) (c .before .before .before .before .before .before .before .before .found-of .ensures) (c .before .before .put-row .ensures)
 
 pub named-line-spec : {M : Type 1} → statement M
 named-line-spec =

@@ -16,7 +16,7 @@ lock-finding-requires c κs = search needs
 
 -- src/lib.rt:262:9
 reference-findings-requires : tie.Need-reference-findings-requires
-reference-findings-requires c κs = lock-ready-two (c .before .before .before .lock-finding .ensures) (c .before .before .before .before .before .before .before .before .before .before .pre .4) (c .before .before .before .before .before .before .before .before .before .before .pre .7)
+reference-findings-requires c κs = lock-ready-two (c .before .before .before .lock-finding .ensures) (c .before .before .before .before .before .before .before .before .before .before .before .pre .4) (c .before .before .before .before .before .before .before .before .before .before .before .pre .7)
 
 -- src/lib.rt:278:9
 sub-checks-after : tie.Need-sub-checks-after
@@ -32,7 +32,7 @@ part-checks-after-end c = search needs
 
 -- src/lib.rt:271:5
 checks-after-requires : tie.Need-checks-after-requires
-checks-after-requires c κs = let p = c .before .before .before .before .before .before .before .before .before .before .before .before .before .before .before .pre in let q = checks-ready-at (p .2) (c .before .before .before .before .before .before .before .before .lock-finding .ensures) (c .before .before .before .before .reference-findings .ensures) (p .4) (p .5) (p .6) (p .7) (p .3) in (p .0, p .1, lent-within (p .2), q .0, q .1, q .2, q .3)
+checks-after-requires c κs = let p = c .before .before .before .before .before .before .before .before .before .before .before .before .before .before .before .before .pre in let q = checks-ready-at (p .2) (c .before .before .before .before .before .before .before .before .lock-finding .ensures) (c .before .before .before .before .reference-findings .ensures) (p .4) (p .5) (p .6) (p .7) (p .3) in (p .0, p .1, lent-within (p .2), q .0, q .1, q .2, q .3)
 
 -- src/lib.rt:242:1
 same-length : tie.Need-same-length
@@ -40,7 +40,7 @@ same-length c = search needs
 
 -- src/lib.rt:242:1
 returns : tie.Need-returns
-returns c = named-found (c .before .before .before .before .before .before .before .before .before .before .before .before .before .before .before .before .before .before .pre .2) (c .before .before .before .before .before .before .before .before .before .before .before .lock-finding .ensures) (c .before .before .before .before .before .before .before .reference-findings .ensures) (c .before .before .checks-after .ensures)
+returns c = named-found (c .before .before .before .before .before .before .before .before .before .before .before .before .before .before .before .before .before .before .before .pre .2) (c .before .before .before .before .before .before .before .before .before .before .before .lock-finding .ensures) (c .before .before .before .before .before .before .before .reference-findings .ensures) (c .before .before .checks-after .ensures)
 
 pub named-reports-spec : {M : Type 1} → statement M
 named-reports-spec =

@@ -24,7 +24,7 @@ enum-told c = search needs
 
 -- src/lib.rt:339:17
 named-line-requires : tie.Need-named-line-requires
-named-line-requires c κs = let p = c .before .before .before .before .before .before .before .before .before .before .pre in let q = kept-roomy (p .5) in (p .0, p .1, ingredient-here _ (p .2) (p .3) (p .4), p .5 .sound, p .5 .fit, q .0, q .1)
+named-line-requires c κs = let p = c .before .before .before .before .before .before .before .before .before .before .before .pre in let q = kept-roomy (p .5) in (p .0, p .1, ingredient-here _ (p .2) (p .3) (p .4), p .5 .sound, p .5 .fit, q .0, q .1)
 
 -- src/lib.rt:342:34
 enum-known-i : tie.Need-enum-known-i
@@ -32,7 +32,7 @@ enum-known-i c = search needs
 
 -- src/lib.rt:343:17
 intermediate-line-requires : tie.Need-intermediate-line-requires
-intermediate-line-requires c κs = let p = c .before .before .before .before .before .before .before .before .before .before .before .pre in let q = kept-roomy (p .5) in (p .0, ingredient-here _ (p .2) (p .3) (p .4), p .5 .sound, p .5 .fit, q .0, q .1)
+intermediate-line-requires c κs = let p = c .before .before .before .before .before .before .before .before .before .before .before .before .pre in let q = kept-roomy (p .5) in (p .0, ingredient-here _ (p .2) (p .3) (p .4), p .5 .sound, p .5 .fit, q .0, q .1)
 
 -- src/lib.rt:317:1
 same-length : tie.Need-same-length
@@ -40,7 +40,7 @@ same-length c = search needs
 
 -- src/lib.rt:317:1
 returns-2 : tie.Need-returns-2
-returns-2 c = ingredient-named _ _ _ _ _ _ _ _ (c .before .before .before .before .before .before .before .intermediate-fault .ensures) (c .before .before .before .before .before .before .if1 .left) (c .before .before .before .before .enum-told .given .1) (c .before .before .before .before .before .before .before .before .before .before .before .before .before .pre .5) (c .before .before .named-line .ensures)
+returns-2 c = ingredient-named _ _ _ _ _ _ _ _ (c .before .before .before .before .before .before .before .intermediate-fault .ensures) (c .before .before .before .before .before .before .if1 .left) (c .before .before .before .before .enum-told .given .1) (c .before .before .before .before .before .before .before .before .before .before .before .before .before .before .pre .5) (c .before .before .named-line .ensures)
 
 -- src/lib.rt:317:1
 same-length-2 : tie.Need-same-length-2

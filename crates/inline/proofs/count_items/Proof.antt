@@ -13,18 +13,18 @@ use Rattle.inline.proofs.find_inline_quantity.Reads as find-inline-quan
 use Rattle.inline.proofs.text_items.Reads as text-items-reads
 
 abbrev Inv-loop : tie.InvT-loop
-Inv-loop t units s items₀ quantities₀ at₀ items quantities at = Counting (unitsOr (readUnits units)) s at items quantities
+Inv-loop t units index s items₀ quantities₀ at₀ items quantities at = Counting (unitsOr (readUnits units)) s at items quantities
 
 abbrev μ-loop : tie.MeasureT-loop
-μ-loop t units s items₀ quantities₀ at₀ items quantities at = length s - at
+μ-loop t units index s items₀ quantities₀ at₀ items quantities at = length s - at
 
 -- src/lib.rt:252:5
 loop-holds : tie.Need-loop-holds Inv-loop μ-loop
-loop-holds c = counting-start _ _ (c .before .before .before .pre .2)
+loop-holds c = counting-start _ _ (c .before .before .before .before .pre .2)
 
 -- src/lib.rt:253:13
 find-inline-quantity-requires : tie.Need-find-inline-quantity-requires Inv-loop μ-loop
-find-inline-quantity-requires c κs = (c .before .before .before .before .pre .0, c .before .before .before .before .pre .1, c .loop .inv .to, c .loop .inv .left)
+find-inline-quantity-requires c κs = (c .before .before .before .before .before .pre .0, c .before .before .before .before .before .pre .1, c .loop .inv .to, c .loop .inv .left)
 
 -- src/lib.rt:257:51
 enum-told : tie.Need-enum-told Inv-loop μ-loop
@@ -35,8 +35,8 @@ text-items-requires : tie.Need-text-items-requires Inv-loop μ-loop
 text-items-requires c κs = search needs
 
 -- src/lib.rt:257:28
-add-t12 : tie.Need-add-t12 Inv-loop μ-loop
-add-t12 c = omega (arith, c .before .before .before .before .loop .inv .few, c .before .before .before .before .loop .inv .to, c .text-items .ensures, items-few _ _ (c .before .before .before .before .loop .inv .to))
+add-t13 : tie.Need-add-t13 Inv-loop μ-loop
+add-t13 c = omega (arith, c .before .before .before .before .loop .inv .few, c .before .before .before .before .loop .inv .to, c .text-items .ensures, items-few _ _ (c .before .before .before .before .loop .inv .to))
 
 -- src/lib.rt:256:17
 returns : tie.Need-returns Inv-loop μ-loop
@@ -80,7 +80,7 @@ count-items-spec =
     find-inline-quantity-requires
     enum-told
     text-items-requires
-    add-t12
+    add-t13
     returns
     enum-known-f
     text-items-requires-2

@@ -2,7 +2,8 @@ use borrow.Author.Needs.{needs}
 use native.Mathlib.Omega.{arith}
 use Rattle.content.specs.Contents.{keptIn}
 use Rattle.meta_map.specs.Index.{keyAt}
-use Rattle.meta_map.proofs.Chains.{Seeking}
+use Rattle.chains.specs.Hashes.{hashOf}
+use Rattle.chains.proofs.Seeks.{Seeking}
 use Rattle.meta_map.proofs.Found.{find-starts, find-ends, row-few, row-within, row-hit, row-on, row-less}
 use Rattle.meta_map.proofs.find_row.Statement.{statement}
 use Rattle.meta_map.proofs.find_row.Tie as tie
@@ -13,7 +14,7 @@ use Rattle.meta_map.proofs.cell_at.Reads as cell-at-reads
 use Rattle.meta_map.proofs.head_at.Reads as head-at-reads
 
 abbrev Inv-loop : tie.InvT-loop
-Inv-loop sheet m n key b p₀ p = Seeking (keyAt sheet m) n (keptIn key) p
+Inv-loop sheet m n key b p₀ p = Seeking hashOf (keyAt sheet m) n (keptIn key) p
 
 abbrev μ-loop : tie.MeasureT-loop
 μ-loop sheet m n key b p₀ p = p

@@ -6,7 +6,7 @@ use Rattle.meta_map.proofs.insert_meta.Tie as tie
 use Rattle.meta_map.proofs.insert_meta.Reads as reads
 use Rattle.meta_map.proofs.insert_meta.Lts as lts
 use Rattle.meta_map.proofs.find_row.Reads as find-row-reads
-use Rattle.meta_map.proofs.hash_of.Reads as hash-of-reads
+use Rattle.chains.proofs.hash_kept.Reads as hash-kept-reads
 use Rattle.meta_map.proofs.push_key.Reads as push-key-reads
 use Rattle.meta_map.proofs.set_value.Reads as set-value-reads
 
@@ -23,8 +23,8 @@ part-k-end : tie.Need-part-k-end
 part-k-end c = search needs
 
 -- src/lib.rt:118:9
-hash-of-requires : tie.Need-hash-of-requires
-hash-of-requires c κs = search needs
+hash-kept-requires : tie.Need-hash-kept-requires
+hash-kept-requires c κs = search needs
 
 -- src/lib.rt:119:11
 find-row-requires : tie.Need-find-row-requires
@@ -88,7 +88,7 @@ same-length-2 c = search needs
 
 -- src/lib.rt:113:1
 returns-2 : tie.Need-returns-2
-returns-2 c = inserted-key (c .before .before .before .before .before .before .before .before .before .before .before .before .pre .0) (c .before .before .before .before .before .before .before .before .before .before .before .before .pre .3) (c .before .before .before .before .before .before .find-row .ensures) (c .before .before .before .before .before .before .before .before .before .before .before .before .pre .1) (c .before .before .before .before .before .before .before .before .hash-of .ensures) (c .before .before .before .before .enum-told .given .1) (c .before .before .push-key .ensures)
+returns-2 c = inserted-key (c .before .before .before .before .before .before .before .before .before .before .before .before .pre .0) (c .before .before .before .before .before .before .before .before .before .before .before .before .pre .3) (c .before .before .before .before .before .before .find-row .ensures) (c .before .before .before .before .before .before .before .before .before .before .before .before .pre .1) (c .before .before .before .before .before .before .before .before .hash-kept .ensures) (c .before .before .before .before .enum-told .given .1) (c .before .before .push-key .ensures)
 
 pub insert-meta-spec : {M : Type 1} → statement M
 insert-meta-spec =
@@ -97,7 +97,7 @@ insert-meta-spec =
     sub-k
     part-k-start
     part-k-end
-    hash-of-requires
+    hash-kept-requires
     find-row-requires
     enum-known-i
     cast-set-value

@@ -13,7 +13,7 @@ finding-lines-requires c κs = search needs
 
 -- src/lib.rt:129:5
 put-old-requires : tie.Need-put-old-requires
-put-old-requires c κs = draw-given (c .before .before .before .before .before .before .before .before .before .before .before .pre)
+put-old-requires c κs = draw-given (c .before .before .before .before .before .before .before .before .before .before .before .before .pre)
 
 -- src/lib.rt:113:1
 same-length : tie.Need-same-length
@@ -21,7 +21,7 @@ same-length c = search needs
 
 -- src/lib.rt:113:1
 returns : tie.Need-returns
-returns c = findings-put (c .before .before .before .before .before .before .before .before .before .before .before .before .before .before .pre) (c .before .before .before .before .before .before .finding-lines .ensures) (c .before .before .put-old .ensures)
+returns c = findings-put (c .before .before .before .before .before .before .before .before .before .before .before .before .before .before .before .pre) (c .before .before .before .before .before .before .finding-lines .ensures) (c .before .before .put-old .ensures)
 
 pub put-findings-spec : {M : Type 1} → statement M
 put-findings-spec =

@@ -10,19 +10,19 @@ use Rattle.page.proofs.put_drawn.Reads as put-drawn-reads
 
 -- src/lib.rt:64:9
 ingredient-lines-requires : tie.Need-ingredient-lines-requires
-ingredient-lines-requires c κs = entries-given (c .before .before .before .before .before .before .before .pre)
+ingredient-lines-requires c κs = entries-given (c .before .before .before .before .before .before .before .before .pre)
 
 -- src/lib.rt:65:9
 cookware-lines-requires : tie.Need-cookware-lines-requires
-cookware-lines-requires c κs = entries-given (c .before .before .before .before .before .before .before .before .before .before .before .pre)
+cookware-lines-requires c κs = entries-given (c .before .before .before .before .before .before .before .before .before .before .before .before .pre)
 
 -- src/lib.rt:66:9
 put-drawn-requires : tie.Need-put-drawn-requires
-put-drawn-requires c κs = draw-given (c .before .before .before .before .before .before .before .before .before .before .before .before .before .before .before .pre)
+put-drawn-requires c κs = draw-given (c .before .before .before .before .before .before .before .before .before .before .before .before .before .before .before .before .pre)
 
 -- src/lib.rt:67:5
 put-drawn-requires-2 : tie.Need-put-drawn-requires-2
-put-drawn-requires-2 c κs = draw-given (c .before .before .before .before .before .before .before .before .before .before .before .before .before .before .before .before .before .before .before .pre)
+put-drawn-requires-2 c κs = draw-given (c .before .before .before .before .before .before .before .before .before .before .before .before .before .before .before .before .before .before .before .before .pre)
 
 -- src/lib.rt:48:1
 same-length : tie.Need-same-length
@@ -30,7 +30,7 @@ same-length c = search needs
 
 -- src/lib.rt:48:1
 returns : tie.Need-returns
-returns c = tables-put (c .before .before .before .before .before .before .before .before .before .before .before .before .before .before .before .before .before .before .before .before .before .before .pre) (c .before .before .before .before .before .before .before .before .before .before .before .before .before .before .ingredient-lines .ensures) (c .before .before .before .before .before .before .before .before .before .before .cookware-lines .ensures) (c .before .before .before .before .before .before .put-drawn .ensures) (c .before .before .put-drawn2 .ensures)
+returns c = tables-put (c .before .before .before .before .before .before .before .before .before .before .before .before .before .before .before .before .before .before .before .before .before .before .before .pre) (c .before .before .before .before .before .before .before .before .before .before .before .before .before .before .ingredient-lines .ensures) (c .before .before .before .before .before .before .before .before .before .before .cookware-lines .ensures) (c .before .before .before .before .before .before .put-drawn .ensures) (c .before .before .put-drawn2 .ensures)
 
 pub put-tables-spec : {M : Type 1} → statement M
 put-tables-spec =

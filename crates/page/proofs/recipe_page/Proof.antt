@@ -14,7 +14,7 @@ use Rattle.page_walk.proofs.draw_part.Reads as draw-part-reads
 
 -- src/lib.rt:153:9
 index-metadata-requires : tie.Need-index-metadata-requires
-index-metadata-requires c κs = index-given (c .before .before .before .before .before .before .before .pre)
+index-metadata-requires c κs = index-given (c .before .before .before .before .before .before .before .before .pre)
 
 -- src/lib.rt:154:9
 head-line-requires : tie.Need-head-line-requires
@@ -22,19 +22,19 @@ head-line-requires c κs = search needs
 
 -- src/lib.rt:155:9
 meta-lines-requires : tie.Need-meta-lines-requires
-meta-lines-requires c κs = metas-given (c .before .before .before .before .before .before .before .before .before .before .before .before .before .before .before .before .pre) (c .before .before .before .before .before .before .before .before .index-metadata .ensures)
+meta-lines-requires c κs = metas-given (c .before .before .before .before .before .before .before .before .before .before .before .before .before .before .before .before .before .pre) (c .before .before .before .before .before .before .before .before .index-metadata .ensures)
 
 -- src/lib.rt:156:9
 draw-part-requires : tie.Need-draw-part-requires
-draw-part-requires c κs = draw-given (c .before .before .before .before .before .before .before .before .before .before .before .before .before .before .before .before .before .before .before .before .pre)
+draw-part-requires c κs = draw-given (c .before .before .before .before .before .before .before .before .before .before .before .before .before .before .before .before .before .before .before .before .before .pre)
 
 -- src/lib.rt:157:9
 put-tables-requires : tie.Need-put-tables-requires
-put-tables-requires c κs = given-indexed (c .before .before .before .before .before .before .before .before .before .before .before .before .before .before .before .before .before .before .before .before .before .before .before .before .before .pre) (c .before .before .before .before .before .before .before .before .before .before .before .before .before .before .before .before .before .index-metadata .ensures)
+put-tables-requires c κs = given-indexed (c .before .before .before .before .before .before .before .before .before .before .before .before .before .before .before .before .before .before .before .before .before .before .before .before .before .before .pre) (c .before .before .before .before .before .before .before .before .before .before .before .before .before .before .before .before .before .index-metadata .ensures)
 
 -- src/lib.rt:158:5
 put-findings-requires : tie.Need-put-findings-requires
-put-findings-requires c κs = given-indexed (c .before .before .before .before .before .before .before .before .before .before .before .before .before .before .before .before .before .before .before .before .before .before .before .before .before .before .before .before .before .before .pre) (c .before .before .before .before .before .before .before .before .before .before .before .before .before .before .before .before .before .before .before .before .before .before .index-metadata .ensures)
+put-findings-requires c κs = given-indexed (c .before .before .before .before .before .before .before .before .before .before .before .before .before .before .before .before .before .before .before .before .before .before .before .before .before .before .before .before .before .before .before .pre) (c .before .before .before .before .before .before .before .before .before .before .before .before .before .before .before .before .before .before .before .before .before .before .index-metadata .ensures)
 
 -- src/lib.rt:140:1
 same-length : tie.Need-same-length
@@ -42,12 +42,12 @@ same-length c = search (needs, (c .before .before .before .before .before .befor
 
 -- src/lib.rt:140:1
 same-length-2 : tie.Need-same-length-2
-same-length-2 c = search needs
+same-length-2 c = search (needs, (c .before .before .before .before .before .before .before .before .before .before .before .before .before .before .before .before .before .before .before .before .out .given), (c .before .before .before .before .before .before .before .before .before .before .before .before .before .before .before .out2 .given))
 
 -- src/lib.rt:140:1
 returns : tie.Need-returns
 returns c =
-    page-put (c .before .before .before .before .before .before .before .before .before .before .before .before .before .before .before .before .before .before .before .before .before .before .before .before .before .before .before .before .before .before .before .before .before .pre) (c .before .before .before .before .before .before .before .before .before .before .before .before .before .before .before .before .before .before .before .before .before .before .before .before .before .index-metadata .ensures) (c .before .before .before .before .before .before .before .before .before .before .before .before .before .before .before .before .before .before .before .before .before .head-line .ensures) (c .before .before .before .before .before .before .before .before .before .before .before .before .before .before .before .before .meta-lines .ensures)
+    page-put (c .before .before .before .before .before .before .before .before .before .before .before .before .before .before .before .before .before .before .before .before .before .before .before .before .before .before .before .before .before .before .before .before .before .before .pre) (c .before .before .before .before .before .before .before .before .before .before .before .before .before .before .before .before .before .before .before .before .before .before .before .before .before .index-metadata .ensures) (c .before .before .before .before .before .before .before .before .before .before .before .before .before .before .before .before .before .before .before .before .before .head-line .ensures) (c .before .before .before .before .before .before .before .before .before .before .before .before .before .before .before .before .meta-lines .ensures)
     (c .before .before .before .before .before .before .before .before .before .before .before .before .draw-part .ensures) (c .before .before .before .before .before .before .before .put-tables .ensures) (c .before .before .put-findings .ensures)
 
 pub recipe-page-spec : {M : Type 1} → statement M

@@ -23,7 +23,7 @@ enum-known-i-2 c = search needs
 
 -- src/lib.rt:202:31
 text-line-requires : tie.Need-text-line-requires
-text-line-requires c κs = (c .before .before .before .before .before .before .before .before .before .pre .0, c .before .before .before .before .before .before .before .before .before .pre .2, text-field _ _ (c .before .before .i2 .given .1) (c .before .before .before .before .before .before .before .before .before .pre .3), c .before .before .before .before .before .before .before .before .before .pre .5)
+text-line-requires c κs = (c .before .before .before .before .before .before .before .before .before .before .pre .0, c .before .before .before .before .before .before .before .before .before .before .pre .2, text-field _ _ (c .before .before .i2 .given .1) (c .before .before .before .before .before .before .before .before .before .before .pre .3), c .before .before .before .before .before .before .before .before .before .before .pre .5)
 
 -- src/lib.rt:203:27
 enum-known-i-3 : tie.Need-enum-known-i-3
@@ -31,7 +31,7 @@ enum-known-i-3 c = search needs
 
 -- src/lib.rt:204:17
 component-line-requires : tie.Need-component-line-requires
-component-line-requires c κs = (c .before .before .before .before .before .before .before .before .before .pre .1, component-good _ _ _ (c .before .before .i3 .given .1) (c .before .before .before .before .before .before .before .before .before .pre .4))
+component-line-requires c κs = (c .before .before .before .before .before .before .before .before .before .before .pre .1, component-good _ _ _ (c .before .before .i3 .given .1) (c .before .before .before .before .before .before .before .before .before .before .pre .4))
 
 -- src/lib.rt:183:1
 same-length : tie.Need-same-length
@@ -39,7 +39,7 @@ same-length c = search needs
 
 -- src/lib.rt:183:1
 returns : tie.Need-returns
-returns c = inside-end _ _ _ _ (c .before .before .before .before .before .before .before .before .before .before .before .before .args .f) _ (c .before .before .before .before .before .i .given .1) (c .before .before .end-line .ensures)
+returns c = inside-end _ _ _ _ (c .before .before .before .before .before .before .before .before .before .before .before .before .before .args .f) _ (c .before .before .before .before .before .i .given .1) (c .before .before .end-line .ensures)
 
 -- src/lib.rt:183:1
 same-length-2 : tie.Need-same-length-2
@@ -47,7 +47,7 @@ same-length-2 c = search needs
 
 -- src/lib.rt:183:1
 returns-2 : tie.Need-returns-2
-returns-2 c = inside-text _ _ _ _ (c .before .before .before .before .before .before .before .before .before .before .before .before .args .f) _ (c .before .before .before .before .before .i2 .given .1) (c .before .before .text-line .ensures)
+returns-2 c = inside-text _ _ _ _ (c .before .before .before .before .before .before .before .before .before .before .before .before .before .args .f) _ (c .before .before .before .before .before .i2 .given .1) (c .before .before .text-line .ensures)
 
 -- src/lib.rt:183:1
 same-length-3 : tie.Need-same-length-3
@@ -55,7 +55,7 @@ same-length-3 c = search needs
 
 -- src/lib.rt:183:1
 returns-3 : tie.Need-returns-3
-returns-3 c = inside-component _ _ _ _ (c .before .before .before .before .before .before .before .before .before .before .before .before .args .f) _ (c .before .before .before .before .before .i3 .given .1) (c .before .before .component-line .ensures)
+returns-3 c = inside-component _ _ _ _ (c .before .before .before .before .before .before .before .before .before .before .before .before .before .args .f) _ (c .before .before .before .before .before .i3 .given .1) (c .before .before .component-line .ensures)
 
 pub inside-line-spec : {M : Type 1} → statement M
 inside-line-spec =

@@ -14,7 +14,7 @@ enum-known-e c = search needs
 
 -- src/lib.rt:226:17
 between-line-requires : tie.Need-between-line-requires
-between-line-requires c κs = (c .before .before .before .before .before .before .before .before .before .pre .0, between-field _ _ (c .before .before .e .given .1) (c .before .before .before .before .before .before .before .before .before .pre .3))
+between-line-requires c κs = (c .before .before .before .before .before .before .before .before .before .before .pre .0, between-field _ _ (c .before .before .e .given .1) (c .before .before .before .before .before .before .before .before .before .before .pre .3))
 
 -- src/lib.rt:229:27
 enum-known-e-2 : tie.Need-enum-known-e-2
@@ -22,7 +22,7 @@ enum-known-e-2 c = search needs
 
 -- src/lib.rt:229:33
 inside-line-requires : tie.Need-inside-line-requires
-inside-line-requires c κs = (c .before .before .before .before .before .before .before .before .before .pre .0, c .before .before .before .before .before .before .before .before .before .pre .1, c .before .before .before .before .before .before .before .before .before .pre .2, inside-field _ _ (c .before .before .e2 .given .1) (c .before .before .before .before .before .before .before .before .before .pre .3), inside-spans _ _ _ (c .before .before .e2 .given .1) (c .before .before .before .before .before .before .before .before .before .pre .4), c .before .before .before .before .before .before .before .before .before .pre .5)
+inside-line-requires c κs = (c .before .before .before .before .before .before .before .before .before .before .pre .0, c .before .before .before .before .before .before .before .before .before .before .pre .1, c .before .before .before .before .before .before .before .before .before .before .pre .2, inside-field _ _ (c .before .before .e2 .given .1) (c .before .before .before .before .before .before .before .before .before .before .pre .3), inside-spans _ _ _ (c .before .before .e2 .given .1) (c .before .before .before .before .before .before .before .before .before .before .pre .4), c .before .before .before .before .before .before .before .before .before .before .pre .5)
 
 -- src/lib.rt:230:28
 enum-known-e-3 : tie.Need-enum-known-e-3
@@ -34,7 +34,7 @@ same-length c = search needs
 
 -- src/lib.rt:211:1
 returns : tie.Need-returns
-returns c = sections-between _ _ _ _ (c .before .before .before .before .before .before .before .before .before .before .before .before .args .f) _ (c .before .before .before .before .before .e .given .1) (c .before .before .between-line .ensures)
+returns c = sections-between _ _ _ _ (c .before .before .before .before .before .before .before .before .before .before .before .before .before .args .f) _ (c .before .before .before .before .before .e .given .1) (c .before .before .between-line .ensures)
 
 -- src/lib.rt:211:1
 same-length-2 : tie.Need-same-length-2
@@ -42,11 +42,11 @@ same-length-2 c = search needs
 
 -- src/lib.rt:211:1
 returns-2 : tie.Need-returns-2
-returns-2 c = sections-inside _ _ _ _ (c .before .before .before .before .before .before .before .before .before .before .before .before .args .f) _ (c .before .before .before .before .before .e2 .given .1) (c .before .before .inside-line .ensures)
+returns-2 c = sections-inside _ _ _ _ (c .before .before .before .before .before .before .before .before .before .before .before .before .before .args .f) _ (c .before .before .before .before .before .e2 .given .1) (c .before .before .inside-line .ensures)
 
 -- src/lib.rt:211:1
 returns-3 : tie.Need-returns-3
-returns-3 c = sections-finding _ _ _ _ (c .before .before .before .before .before .before .before .before .args .f) _ _ (c .before .e3 .given .1)
+returns-3 c = sections-finding _ _ _ _ (c .before .before .before .before .before .before .before .before .before .args .f) _ _ (c .before .e3 .given .1)
 
 pub sections-line-spec : {M : Type 1} → statement M
 sections-line-spec =

@@ -13,10 +13,10 @@ use Rattle.page_walk.proofs.line_turn.Reads as line-turn-reads
 use Rattle.sheet.proofs.line_end.Reads as line-end-reads
 
 abbrev Inv-loop : tie.InvT-loop
-Inv-loop p t sheet text units flags out₀ at n₀ f₀ from₀ out n f from = Walked sheet text units flags p out₀ at from f out n
+Inv-loop p t sheet text units index flags out₀ at n₀ f₀ from₀ out n f from = Walked sheet text units flags p out₀ at from f out n
 
 abbrev μ-loop : tie.MeasureT-loop
-μ-loop p t sheet text units flags out₀ at n₀ f₀ from₀ out n f from = length sheet - from
+μ-loop p t sheet text units index flags out₀ at n₀ f₀ from₀ out n f from = length sheet - from
 
 -- src/lib.rt:55:9
 begin-requires : tie.Need-begin-requires Inv-loop μ-loop
@@ -28,7 +28,7 @@ first-follow-requires c κs = search needs
 
 -- src/lib.rt:58:5
 loop-holds : tie.Need-loop-holds Inv-loop μ-loop
-loop-holds c = walked-starts (c .before .before .before .before .before .before .before .before .pre .1) (c .before .begin .ensures) (c .first-follow .ensures)
+loop-holds c = walked-starts (c .before .before .before .before .before .before .before .before .before .pre .1) (c .before .begin .ensures) (c .first-follow .ensures)
 
 -- src/lib.rt:60:13
 same-length : tie.Need-same-length Inv-loop μ-loop
@@ -36,7 +36,7 @@ same-length c = search needs
 
 -- src/lib.rt:60:13
 returns : tie.Need-returns Inv-loop μ-loop
-returns c = walked-full (c .before .before .before .before .before .before .before .before .before .before .before .pre .1) (c .before .before .loop .inv) (c .if1 .taken)
+returns c = walked-full (c .before .before .before .before .before .before .before .before .before .before .before .before .pre .1) (c .before .before .loop .inv) (c .if1 .taken)
 
 -- src/lib.rt:62:39
 line-end-requires : tie.Need-line-end-requires Inv-loop μ-loop
@@ -56,7 +56,7 @@ same-length-2 c = search needs
 
 -- src/lib.rt:63:13
 returns-2 : tie.Need-returns-2 Inv-loop μ-loop
-returns-2 c = walked-cut (c .before .before .before .before .before .before .before .before .before .before .before .before .before .before .pre .1) (c .before .before .before .before .before .loop .inv) (c .before .before .line-end .ensures) (c .before .before .before .before .loop-test .taken) (c .enum-told .given .1)
+returns-2 c = walked-cut (c .before .before .before .before .before .before .before .before .before .before .before .before .before .before .before .pre .1) (c .before .before .before .before .before .loop .inv) (c .before .before .line-end .ensures) (c .before .before .before .before .loop-test .taken) (c .enum-told .given .1)
 
 -- src/lib.rt:71:13
 sub-line-turn : tie.Need-sub-line-turn Inv-loop μ-loop
@@ -84,15 +84,15 @@ part-line-turn-end-2 c = omega (arith, (c .before .before .before .before .line-
 
 -- src/lib.rt:65:13
 line-turn-requires : tie.Need-line-turn-requires Inv-loop μ-loop
-line-turn-requires c κs = (c .before .before .before .before .before .before .before .before .before .before .before .before .before .before .before .before .before .pre .0, c .before .before .before .before .before .before .before .before .before .before .before .before .before .before .before .before .before .pre .1 .text-utf8, c .before .before .before .before .before .before .before .before .before .before .before .before .before .before .before .before .before .pre .1 .units-some, walked-ready (c .before .before .before .before .before .before .before .before .before .before .before .before .before .before .before .before .before .pre .1) (c .before .before .before .before .before .before .before .before .loop .inv) (c .before .before .before .before .before .line-end .ensures) (c .before .before .before .end .given .1))
+line-turn-requires c κs = (c .before .before .before .before .before .before .before .before .before .before .before .before .before .before .before .before .before .before .pre .0, c .before .before .before .before .before .before .before .before .before .before .before .before .before .before .before .before .before .before .pre .1 .text-utf8, c .before .before .before .before .before .before .before .before .before .before .before .before .before .before .before .before .before .before .pre .1 .indexed, walked-ready (c .before .before .before .before .before .before .before .before .before .before .before .before .before .before .before .before .before .before .pre .1) (c .before .before .before .before .before .before .before .before .loop .inv) (c .before .before .before .before .before .line-end .ensures) (c .before .before .before .end .given .1))
 
 -- src/lib.rt:75:9
 add-n : tie.Need-add-n Inv-loop μ-loop
-add-n c = let b : length (c .before .before .before .before .before .before .before .before .before .before .before .before .before .before .before .before .before .before .before .before .before .args .out .now) + 1 < 2 ^ 64 = omega (arith, c .before .before .before .before .before .before .before .before .before .before .before .before .before .before .before .before .before .before .before .before .before .good .1 .1 .1 .1 .1 .1 .0 .1) in record { fits = walked-fits (c .before .before .before .before .before .before .before .before .before .before .before .before .before .before .before .before .before .before .before .before .before .pre .1) (c .before .before .before .before .before .before .before .before .before .before .before .before .loop .inv) (c .before .before .before .before .before .before .before .before .before .line-end .ensures) (c .before .before .before .before .before .before .before .end .given .1) (c .before .before .before .before .before .before .before .before .before .before .if1 .left) (c .before .before .before .line-turn .ensures) b }
+add-n c = let b : length (c .before .before .before .before .before .before .before .before .before .before .before .before .before .before .before .before .before .before .before .before .before .before .args .out .now) + 1 < 2 ^ 64 = omega (arith, c .before .before .before .before .before .before .before .before .before .before .before .before .before .before .before .before .before .before .before .before .before .before .good .1 .1 .1 .1 .1 .1 .1 .0 .1) in record { fits = walked-fits (c .before .before .before .before .before .before .before .before .before .before .before .before .before .before .before .before .before .before .before .before .before .before .pre .1) (c .before .before .before .before .before .before .before .before .before .before .before .before .loop .inv) (c .before .before .before .before .before .before .before .before .before .line-end .ensures) (c .before .before .before .before .before .before .before .end .given .1) (c .before .before .before .before .before .before .before .before .before .before .if1 .left) (c .before .before .before .line-turn .ensures) b }
 
 -- src/lib.rt:77:16
 add-from : tie.Need-add-from Inv-loop μ-loop
-add-from c = record { fits = end-fits ((c .before .before .before .before .before .before .before .before .before .before .line-end .ensures .inside _ (c .before .before .before .before .before .before .before .before .end .given .1)) .1) (c .before .before .before .before .before .before .before .before .before .before .before .before .before .before .before .before .before .before .before .before .before .before .pre .1 .sheet-short) }
+add-from c = record { fits = end-fits ((c .before .before .before .before .before .before .before .before .before .before .line-end .ensures .inside _ (c .before .before .before .before .before .before .before .before .end .given .1)) .1) (c .before .before .before .before .before .before .before .before .before .before .before .before .before .before .before .before .before .before .before .before .before .before .before .pre .1 .sheet-short) }
 
 -- src/lib.rt:58:5
 loop-less : tie.Need-loop-less Inv-loop μ-loop
@@ -100,7 +100,7 @@ loop-less c = omega (arith, (c .before .before .before .before .before .before .
 
 -- src/lib.rt:58:5
 loop-again : tie.Need-loop-again Inv-loop μ-loop
-loop-again c = walked-next (c .before .before .before .before .before .before .before .before .before .before .before .before .before .before .before .before .before .before .before .before .before .before .pre .1) (c .before .before .before .before .before .before .before .before .before .before .before .before .before .loop .inv) (c .before .before .before .before .before .before .before .before .before .before .line-end .ensures) (c .before .before .before .before .before .before .before .before .end .given .1) (c .before .before .before .before .before .before .before .before .before .before .before .if1 .left) (c .before .before .before .before .line-turn .ensures)
+loop-again c = walked-next (c .before .before .before .before .before .before .before .before .before .before .before .before .before .before .before .before .before .before .before .before .before .before .before .pre .1) (c .before .before .before .before .before .before .before .before .before .before .before .before .before .loop .inv) (c .before .before .before .before .before .before .before .before .before .before .line-end .ensures) (c .before .before .before .before .before .before .before .before .end .given .1) (c .before .before .before .before .before .before .before .before .before .before .before .if1 .left) (c .before .before .before .before .line-turn .ensures)
 
 -- src/lib.rt:42:1
 same-length-3 : tie.Need-same-length-3 Inv-loop μ-loop
@@ -108,7 +108,7 @@ same-length-3 c = search needs
 
 -- src/lib.rt:42:1
 returns-3 : tie.Need-returns-3 Inv-loop μ-loop
-returns-3 c = walked-ends (c .before .before .before .before .before .before .before .before .before .before .pre .1) (c .before .loop .inv) (c .loop-test .left)
+returns-3 c = walked-ends (c .before .before .before .before .before .before .before .before .before .before .before .pre .1) (c .before .loop .inv) (c .loop-test .left)
 
 pub draw-part-spec : {M : Type 1} → statement M
 draw-part-spec =

@@ -15,7 +15,7 @@ is-idle-requires c κs = search needs
 
 -- src/lib.rt:103:9
 returns : tie.Need-returns
-returns c = turn-idle _ (c .before .before .before .before .before .before .before .pre .3 .whole) (c .before .is-idle .ensures) (c .if1 .taken)
+returns c = turn-idle _ (c .before .before .before .before .before .before .before .before .pre .3 .whole) (c .before .is-idle .ensures) (c .if1 .taken)
 
 -- src/lib.rt:108:5
 part-line-requires : tie.Need-part-line-requires
@@ -27,7 +27,7 @@ same-length c = search needs
 
 -- src/lib.rt:89:1
 returns-2 : tie.Need-returns-2
-returns-2 c = turn-read (event-is _ (c .before .before .before .before .before .before .before .before .before .before .before .pre .3 .known) .is) (c .before .before .part-line .ensures)
+returns-2 c = turn-read (event-is _ (c .before .before .before .before .before .before .before .before .before .before .before .before .pre .3 .known) .is) (c .before .before .part-line .ensures)
 
 pub line-turn-spec : {M : Type 1} → statement M
 line-turn-spec =

@@ -15,11 +15,11 @@ event-of-requires c κs = search needs
 
 -- src/lib.rt:34:9
 draw-line-requires : tie.Need-draw-line-requires
-draw-line-requires c κs = (c .before .before .before .before .before .before .before .pre .0, c .before .before .before .before .before .before .before .pre .1, c .before .before .before .before .before .before .before .pre .2, c .before .event-of .ensures, turn-spans (c .before .event-of .ensures) (c .before .before .before .before .before .before .before .pre .3), c .before .before .before .before .before .before .before .pre .3 .short)
+draw-line-requires c κs = (c .before .before .before .before .before .before .before .before .pre .0, c .before .before .before .before .before .before .before .before .pre .1, c .before .before .before .before .before .before .before .before .pre .2, c .before .event-of .ensures, turn-spans (c .before .event-of .ensures) (c .before .before .before .before .before .before .before .before .pre .3), c .before .before .before .before .before .before .before .before .pre .3 .short)
 
 -- src/lib.rt:37:9
 follow-event-requires : tie.Need-follow-event-requires
-follow-event-requires c κs = (c .before .before .before .before .before .before .before .before .before .before .pre .0, c .before .before .before .before .event-of .ensures .within, c .before .before .before .before .before .before .before .before .before .before .pre .3 .room, turn-few (c .before .before .before .before .event-of .ensures) (c .before .before .draw-line .ensures) (c .before .before .before .before .before .before .before .before .before .before .pre .3))
+follow-event-requires c κs = (c .before .before .before .before .before .before .before .before .before .before .before .pre .0, c .before .before .before .before .event-of .ensures .within, c .before .before .before .before .before .before .before .before .before .before .before .pre .3 .room, turn-few (c .before .before .before .before .event-of .ensures) (c .before .before .draw-line .ensures) (c .before .before .before .before .before .before .before .before .before .before .before .pre .3))
 
 -- src/lib.rt:20:1
 same-length : tie.Need-same-length

@@ -16,7 +16,7 @@ enum-told c = search needs
 
 -- src/lib.rt:427:27
 sections-line-requires : tie.Need-sections-line-requires
-sections-line-requires c κs = ((c .before .before .before .before .before .before .before .before .pre .0), (c .before .before .before .before .before .before .before .before .pre .1), (c .before .before .before .before .before .before .before .before .pre .2), (c .before .before .before .before .before .before .before .before .pre .3 .fields), (c .before .before .before .before .before .before .before .before .pre .4), (c .before .before .before .before .before .before .before .before .pre .5))
+sections-line-requires c κs = ((c .before .before .before .before .before .before .before .before .before .pre .0), (c .before .before .before .before .before .before .before .before .before .pre .1), (c .before .before .before .before .before .before .before .before .before .pre .2), (c .before .before .before .before .before .before .before .before .before .pre .3 .fields), (c .before .before .before .before .before .before .before .before .before .pre .4), (c .before .before .before .before .before .before .before .before .before .pre .5))
 
 -- src/lib.rt:429:40
 enum-told-2 : tie.Need-enum-told-2
@@ -24,7 +24,7 @@ enum-told-2 c = search needs
 
 -- src/lib.rt:429:17
 timers-line-requires : tie.Need-timers-line-requires
-timers-line-requires c κs = ((c .before .before .before .before .before .before .before .before .pre .0), (c .before .before .before .before .before .before .before .before .pre .3 .fields))
+timers-line-requires c κs = ((c .before .before .before .before .before .before .before .before .before .pre .0), (c .before .before .before .before .before .before .before .before .before .pre .3 .fields))
 
 -- src/lib.rt:432:54
 enum-told-3 : tie.Need-enum-told-3
@@ -32,7 +32,7 @@ enum-told-3 c = search needs
 
 -- src/lib.rt:432:25
 inline-line-requires : tie.Need-inline-line-requires
-inline-line-requires c κs = ((c .before .before .before .before .before .before .before .before .pre .0), (c .before .before .before .before .before .before .before .before .pre .2), (c .before .before .before .before .before .before .before .before .pre .3 .fields), (c .before .before .before .before .before .before .before .before .pre .5))
+inline-line-requires c κs = ((c .before .before .before .before .before .before .before .before .before .pre .0), (c .before .before .before .before .before .before .before .before .before .pre .2), (c .before .before .before .before .before .before .before .before .before .pre .3 .fields), (c .before .before .before .before .before .before .before .before .before .pre .5))
 
 -- src/lib.rt:434:44
 enum-told-4 : tie.Need-enum-told-4
@@ -40,7 +40,7 @@ enum-told-4 c = search needs
 
 -- src/lib.rt:434:17
 old-line-requires : tie.Need-old-line-requires
-old-line-requires c κs = ((c .before .before .before .before .before .before .before .before .pre .0), (c .before .before .before .before .before .before .before .before .pre .3 .within))
+old-line-requires c κs = ((c .before .before .before .before .before .before .before .before .before .pre .0), (c .before .before .before .before .before .before .before .before .before .pre .3 .within))
 
 -- src/lib.rt:412:1
 same-length : tie.Need-same-length

@@ -16,7 +16,7 @@ enum-known-e c = search needs
 
 -- src/lib.rt:98:30
 end-step-requires : tie.Need-end-step-requires
-end-step-requires c κs = room-step (c .before .before .before .before .before .before .before .before .before .pre .1) (c .before .before .before .before .before .before .before .before .before .pre .2)
+end-step-requires c κs = room-step (c .before .before .before .before .before .before .before .before .before .before .pre .1) (c .before .before .before .before .before .before .before .before .before .before .pre .2)
 
 -- src/lib.rt:99:22
 enum-known-e-2 : tie.Need-enum-known-e-2
@@ -24,7 +24,7 @@ enum-known-e-2 c = search needs
 
 -- src/lib.rt:100:17
 text-in-step-requires : tie.Need-text-in-step-requires
-text-in-step-requires c κs = text-ready _ (c .before .before .e2 .given .1) (c .before .before .before .before .before .before .before .before .before .pre .0) (c .before .before .before .before .before .before .before .before .before .pre .1) (c .before .before .before .before .before .before .before .before .before .pre .2)
+text-in-step-requires c κs = text-ready _ (c .before .before .e2 .given .1) (c .before .before .before .before .before .before .before .before .before .before .pre .0) (c .before .before .before .before .before .before .before .before .before .before .pre .1) (c .before .before .before .before .before .before .before .before .before .before .pre .2)
 
 -- src/lib.rt:103:27
 enum-known-e-3 : tie.Need-enum-known-e-3
@@ -32,7 +32,7 @@ enum-known-e-3 c = search needs
 
 -- src/lib.rt:103:33
 on-component-requires : tie.Need-on-component-requires
-on-component-requires c κs = component-here _ (c .before .before .e3 .given .1) (c .before .before .before .before .before .before .before .before .before .pre .0) (c .before .before .before .before .before .before .before .before .before .pre .1) (c .before .before .before .before .before .before .before .before .before .pre .2)
+on-component-requires c κs = component-here _ (c .before .before .e3 .given .1) (c .before .before .before .before .before .before .before .before .before .before .pre .0) (c .before .before .before .before .before .before .before .before .before .before .pre .1) (c .before .before .before .before .before .before .before .before .before .before .pre .2)
 
 -- src/lib.rt:82:1
 same-length : tie.Need-same-length
@@ -40,7 +40,7 @@ same-length c = search needs
 
 -- src/lib.rt:82:1
 returns : tie.Need-returns
-returns c = step-end _ (c .before .before .before .before .before .e .given .1) (c .before .before .before .before .before .before .before .before .before .before .before .before .pre .2 .kept .fit) (c .before .before .end-step .ensures)
+returns c = step-end _ (c .before .before .before .before .before .e .given .1) (c .before .before .before .before .before .before .before .before .before .before .before .before .before .pre .2 .kept .fit) (c .before .before .end-step .ensures)
 
 -- src/lib.rt:82:1
 same-length-2 : tie.Need-same-length-2
@@ -48,7 +48,7 @@ same-length-2 c = search needs
 
 -- src/lib.rt:82:1
 returns-2 : tie.Need-returns-2
-returns-2 c = step-text _ (c .before .before .before .before .before .e2 .given .1) (c .before .before .before .before .before .before .before .before .before .before .before .before .pre .2 .kept .fit) (c .before .before .text-in-step .ensures)
+returns-2 c = step-text _ (c .before .before .before .before .before .e2 .given .1) (c .before .before .before .before .before .before .before .before .before .before .before .before .before .pre .2 .kept .fit) (c .before .before .text-in-step .ensures)
 
 -- src/lib.rt:82:1
 same-length-3 : tie.Need-same-length-3

@@ -15,7 +15,7 @@ enum-known-c c = search needs
 
 -- src/lib.rt:72:45
 on-ingredient-requires : tie.Need-on-ingredient-requires
-on-ingredient-requires c κs = component-ready (c .before .before .before .before .before .before .before .before .before .pre .0) (c .before .before .before .before .before .before .before .before .before .pre .1) (c .before .before .before .before .before .before .before .before .before .pre .2) _ (c .before .before .c .given .1)
+on-ingredient-requires c κs = component-ready (c .before .before .before .before .before .before .before .before .before .before .pre .0) (c .before .before .before .before .before .before .before .before .before .before .pre .1) (c .before .before .before .before .before .before .before .before .before .before .pre .2) _ (c .before .before .c .given .1)
 
 -- src/lib.rt:73:34
 enum-known-c-2 : tie.Need-enum-known-c-2
@@ -23,7 +23,7 @@ enum-known-c-2 c = search needs
 
 -- src/lib.rt:73:40
 on-cookware-requires : tie.Need-on-cookware-requires
-on-cookware-requires c κs = component-ready (c .before .before .before .before .before .before .before .before .before .pre .0) (c .before .before .before .before .before .before .before .before .before .pre .1) (c .before .before .before .before .before .before .before .before .before .pre .2) _ (c .before .before .c2 .given .1)
+on-cookware-requires c κs = component-ready (c .before .before .before .before .before .before .before .before .before .before .pre .0) (c .before .before .before .before .before .before .before .before .before .before .pre .1) (c .before .before .before .before .before .before .before .before .before .before .pre .2) _ (c .before .before .c2 .given .1)
 
 -- src/lib.rt:74:31
 enum-known-c-3 : tie.Need-enum-known-c-3
@@ -31,7 +31,7 @@ enum-known-c-3 c = search needs
 
 -- src/lib.rt:75:17
 on-timer-requires : tie.Need-on-timer-requires
-on-timer-requires c κs = timer-ready (c .before .before .before .before .before .before .before .before .before .pre .0) (c .before .before .before .before .before .before .before .before .before .pre .1) (c .before .before .before .before .before .before .before .before .before .pre .2) _ _ _ (c .before .before .c3 .given .1)
+on-timer-requires c κs = timer-ready (c .before .before .before .before .before .before .before .before .before .before .pre .0) (c .before .before .before .before .before .before .before .before .before .before .pre .1) (c .before .before .before .before .before .before .before .before .before .before .pre .2) _ _ _ (c .before .before .c3 .given .1)
 
 -- src/lib.rt:56:1
 same-length : tie.Need-same-length
@@ -39,7 +39,7 @@ same-length c = search needs
 
 -- src/lib.rt:56:1
 returns : tie.Need-returns
-returns c = component-done (c .before .before .before .before .before .before .before .before .before .before .before .before .pre .1 .part) (c .before .before .before .before .before .c .given .1) (c .before .before .on-ingredient .ensures)
+returns c = component-done (c .before .before .before .before .before .before .before .before .before .before .before .before .before .pre .1 .part) (c .before .before .before .before .before .c .given .1) (c .before .before .on-ingredient .ensures)
 
 -- src/lib.rt:56:1
 same-length-2 : tie.Need-same-length-2
@@ -47,7 +47,7 @@ same-length-2 c = search needs
 
 -- src/lib.rt:56:1
 returns-2 : tie.Need-returns-2
-returns-2 c = component-done (c .before .before .before .before .before .before .before .before .before .before .before .before .pre .1 .part) (c .before .before .before .before .before .c2 .given .1) (c .before .before .on-cookware .ensures)
+returns-2 c = component-done (c .before .before .before .before .before .before .before .before .before .before .before .before .before .pre .1 .part) (c .before .before .before .before .before .c2 .given .1) (c .before .before .on-cookware .ensures)
 
 -- src/lib.rt:56:1
 same-length-3 : tie.Need-same-length-3
@@ -55,7 +55,7 @@ same-length-3 c = search needs
 
 -- src/lib.rt:56:1
 returns-3 : tie.Need-returns-3
-returns-3 c = timer-done _ _ _ (c .before .before .before .before .before .c3 .given .1) (c .before .before .before .before .before .before .before .before .before .before .before .before .pre .2 .kept .fit) (c .before .before .on-timer .ensures)
+returns-3 c = timer-done _ _ _ (c .before .before .before .before .before .c3 .given .1) (c .before .before .before .before .before .before .before .before .before .before .before .before .before .pre .2 .kept .fit) (c .before .before .on-timer .ensures)
 
 pub on-component-spec : {M : Type 1} → statement M
 on-component-spec =

@@ -25,7 +25,7 @@ returns c = event-open _ (c .before .before .before .v .given .1) (c .before .is
 
 -- src/lib.rt:175:17
 on-between-requires : tie.Need-on-between-requires
-on-between-requires c κs = between-ready _ (c .before .before .before .before .v .given .1) (c .before .before .before .before .before .before .before .before .before .before .before .pre .0) (c .before .before .before .before .before .before .before .before .before .before .before .pre .1) (c .before .before .before .before .before .before .before .before .before .before .before .pre .2)
+on-between-requires c κs = between-ready _ (c .before .before .before .before .v .given .1) (c .before .before .before .before .before .before .before .before .before .before .before .before .pre .0) (c .before .before .before .before .before .before .before .before .before .before .before .before .pre .1) (c .before .before .before .before .before .before .before .before .before .before .before .before .pre .2)
 
 -- src/lib.rt:178:27
 enum-known-v-2 : tie.Need-enum-known-v-2
@@ -33,7 +33,7 @@ enum-known-v-2 c = search needs
 
 -- src/lib.rt:178:33
 on-inside-requires : tie.Need-on-inside-requires
-on-inside-requires c κs = ((c .before .before .before .before .before .before .before .before .before .pre .0), here-as _ (c .before .before .v2 .given .1) (c .before .before .before .before .before .before .before .before .before .pre .1), (c .before .before .before .before .before .before .before .before .before .pre .2))
+on-inside-requires c κs = ((c .before .before .before .before .before .before .before .before .before .before .pre .0), here-as _ (c .before .before .v2 .given .1) (c .before .before .before .before .before .before .before .before .before .before .pre .1), (c .before .before .before .before .before .before .before .before .before .before .pre .2))
 
 -- src/lib.rt:179:28
 enum-known-v-3 : tie.Need-enum-known-v-3
@@ -41,7 +41,7 @@ enum-known-v-3 c = search needs
 
 -- src/lib.rt:180:17
 on-finding-requires : tie.Need-on-finding-requires
-on-finding-requires c κs = room-finding (c .before .before .before .before .before .before .before .before .before .pre .1) (c .before .before .before .before .before .before .before .before .before .pre .2)
+on-finding-requires c κs = room-finding (c .before .before .before .before .before .before .before .before .before .before .pre .1) (c .before .before .before .before .before .before .before .before .before .before .pre .2)
 
 -- src/lib.rt:155:1
 same-length : tie.Need-same-length
@@ -49,7 +49,7 @@ same-length c = search needs
 
 -- src/lib.rt:155:1
 returns-2 : tie.Need-returns-2
-returns-2 c = event-between _ (c .before .before .before .before .before .before .before .v .given .1) (c .before .before .before .before .before .is-open .ensures) (c .before .before .before .before .if1 .left) (c .before .before .before .before .before .before .before .before .before .before .before .before .before .before .pre .2 .kept .fit) (c .before .before .on-between .ensures)
+returns-2 c = event-between _ (c .before .before .before .before .before .before .before .v .given .1) (c .before .before .before .before .before .is-open .ensures) (c .before .before .before .before .if1 .left) (c .before .before .before .before .before .before .before .before .before .before .before .before .before .before .before .pre .2 .kept .fit) (c .before .before .on-between .ensures)
 
 -- src/lib.rt:155:1
 same-length-2 : tie.Need-same-length-2
@@ -65,7 +65,7 @@ same-length-3 c = search needs
 
 -- src/lib.rt:155:1
 returns-4 : tie.Need-returns-4
-returns-4 c = event-finding _ _ (c .before .before .before .before .before .v3 .given .1) (c .before .before .before .before .before .before .before .before .before .before .before .before .pre .2 .kept .fit) (c .before .before .on-finding .ensures)
+returns-4 c = event-finding _ _ (c .before .before .before .before .before .v3 .given .1) (c .before .before .before .before .before .before .before .before .before .before .before .before .before .pre .2 .kept .fit) (c .before .before .on-finding .ensures)
 
 pub on-event-spec : {M : Type 1} → statement M
 on-event-spec =

@@ -20,7 +20,7 @@ enum-told-2 c = search needs
 
 -- src/lib.rt:126:23
 in-step-block-requires : tie.Need-in-step-block-requires
-in-step-block-requires c κs = (c .before .before .before .before .before .before .before .before .pre)
+in-step-block-requires c κs = (c .before .before .before .before .before .before .before .before .before .pre)
 
 -- src/lib.rt:127:45
 enum-told-3 : tie.Need-enum-told-3
@@ -28,7 +28,7 @@ enum-told-3 c = search needs
 
 -- src/lib.rt:127:23
 in-text-block-requires : tie.Need-in-text-block-requires
-in-text-block-requires c κs = room-blocks (c .before .before .before .before .before .before .before .before .pre .1) (c .before .before .before .before .before .before .before .before .pre .2)
+in-text-block-requires c κs = room-blocks (c .before .before .before .before .before .before .before .before .before .pre .1) (c .before .before .before .before .before .before .before .before .before .pre .2)
 
 -- src/lib.rt:128:48
 enum-told-4 : tie.Need-enum-told-4
@@ -36,11 +36,11 @@ enum-told-4 c = search needs
 
 -- src/lib.rt:128:27
 in-text-mode-requires : tie.Need-in-text-mode-requires
-in-text-mode-requires c κs = room-mode (c .before .before .before .before .before .before .before .before .pre .1) (c .before .before .before .before .before .before .before .before .pre .2)
+in-text-mode-requires c κs = room-mode (c .before .before .before .before .before .before .before .before .before .pre .1) (c .before .before .before .before .before .before .before .before .before .pre .2)
 
 -- src/lib.rt:108:1
 returns : tie.Need-returns
-returns c = inside-none (c .enum-told .given .1) (c .before .before .before .before .before .before .before .pre .2 .kept .fit)
+returns c = inside-none (c .enum-told .given .1) (c .before .before .before .before .before .before .before .before .pre .2 .kept .fit)
 
 -- src/lib.rt:108:1
 same-length : tie.Need-same-length
@@ -56,7 +56,7 @@ same-length-2 c = search needs
 
 -- src/lib.rt:108:1
 returns-3 : tie.Need-returns-3
-returns-3 c = inside-text (c .before .before .before .before .enum-told3 .given .1) (c .before .before .before .before .before .before .before .before .before .before .before .pre .2 .kept .fit) (c .before .before .in-text-block .ensures)
+returns-3 c = inside-text (c .before .before .before .before .enum-told3 .given .1) (c .before .before .before .before .before .before .before .before .before .before .before .before .pre .2 .kept .fit) (c .before .before .in-text-block .ensures)
 
 -- src/lib.rt:108:1
 same-length-3 : tie.Need-same-length-3
@@ -64,7 +64,7 @@ same-length-3 c = search needs
 
 -- src/lib.rt:108:1
 returns-4 : tie.Need-returns-4
-returns-4 c = inside-mode (c .before .before .before .before .enum-told4 .given .1) (c .before .before .before .before .before .before .before .before .before .before .before .pre .2 .kept .fit) (c .before .before .in-text-mode .ensures)
+returns-4 c = inside-mode (c .before .before .before .before .enum-told4 .given .1) (c .before .before .before .before .before .before .before .before .before .before .before .before .pre .2 .kept .fit) (c .before .before .in-text-mode .ensures)
 
 pub on-inside-spec : {M : Type 1} → statement M
 on-inside-spec =

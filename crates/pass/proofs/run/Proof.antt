@@ -16,10 +16,10 @@ use Rattle.pass.proofs.step.Reads as step-reads
 use Rattle.sheet.proofs.line_end.Reads as line-end-reads
 
 abbrev Inv-loop : tie.InvT-loop
-Inv-loop t sheet text units flags words₀ h₀ at₀ number₀ words h at number = Passing (unitsOr (readUnits units)) flags sheet text words₀ words h at number
+Inv-loop t sheet text units index flags words₀ h₀ at₀ number₀ words h at number = Passing (unitsOr (readUnits units)) flags sheet text words₀ words h at number
 
 abbrev μ-loop : tie.MeasureT-loop
-μ-loop t sheet text units flags words₀ h₀ at₀ number₀ words h at number = length sheet - at
+μ-loop t sheet text units index flags words₀ h₀ at₀ number₀ words h at number = length sheet - at
 
 -- src/lib.rt:260:9
 first-held-requires : tie.Need-first-held-requires Inv-loop μ-loop
@@ -27,7 +27,7 @@ first-held-requires c κs = search needs
 
 -- src/lib.rt:263:5
 loop-holds : tie.Need-loop-holds Inv-loop μ-loop
-loop-holds c = passing-starts (c .first-held .ensures) (c .before .before .before .before .before .before .pre .1) (c .before .before .before .before .before .before .pre .2) (c .before .before .before .before .before .before .pre .3)
+loop-holds c = passing-starts (c .first-held .ensures) (c .before .before .before .before .before .before .before .pre .1) (c .before .before .before .before .before .before .before .pre .2) (c .before .before .before .before .before .before .before .pre .3)
 
 -- src/lib.rt:264:39
 line-end-requires : tie.Need-line-end-requires Inv-loop μ-loop
@@ -67,7 +67,7 @@ event-of-requires c κs = line-ready (c .before .before .before .before .before 
 
 -- src/lib.rt:269:15
 step-requires : tie.Need-step-requires Inv-loop μ-loop
-step-requires c κs = ((c .before .before .before .before .before .before .before .before .before .before .before .before .before .before .before .pre .0), event-here (c .before .before .before .before .before .before .before .before .loop .inv) (c .before .before .before .before .before .before .line-end .ensures) (c .before .before .before .before .end .given .1) (c .before .event-of .ensures), (c .before .before .before .before .before .before .before .before .loop .inv .running))
+step-requires c κs = ((c .before .before .before .before .before .before .before .before .before .before .before .before .before .before .before .before .pre .0), event-here (c .before .before .before .before .before .before .before .before .loop .inv) (c .before .before .before .before .before .before .line-end .ensures) (c .before .before .before .before .end .given .1) (c .before .event-of .ensures), (c .before .before .before .before .before .before .before .before .loop .inv .running))
 
 -- src/lib.rt:271:17
 enum-told-2 : tie.Need-enum-told-2 Inv-loop μ-loop

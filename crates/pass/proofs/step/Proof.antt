@@ -19,7 +19,7 @@ returns c = step-failed (c .before .is-error .ensures) (c .if1 .taken)
 
 -- src/lib.rt:225:11
 on-event-requires : tie.Need-on-event-requires
-on-event-requires c κs = (c .before .before .before .before .before .before .before .before .pre)
+on-event-requires c κs = (c .before .before .before .before .before .before .before .before .before .pre)
 
 -- src/lib.rt:226:22
 enum-known-n : tie.Need-enum-known-n
@@ -55,7 +55,7 @@ same-length-3 c = search needs
 
 -- src/lib.rt:207:1
 returns-4 : tie.Need-returns-4
-returns-4 c = step-going (c .before .before .before .before .before .before .before .before .before .before .is-error .ensures) (c .before .before .before .before .before .before .before .before .before .if1 .left) (c .before .before .before .before .before .before .before .on-event .ensures) _ (c .before .before .before .k .given .1) (c .before .over-limits .ensures) (c .if2 .left) (c .before .before .before .before .before .before .before .before .before .before .before .before .before .before .before .before .pre .1) (c .before .before .before .before .before .before .before .before .before .before .before .before .before .before .before .before .pre .2)
+returns-4 c = step-going (c .before .before .before .before .before .before .before .before .before .before .is-error .ensures) (c .before .before .before .before .before .before .before .before .before .if1 .left) (c .before .before .before .before .before .before .before .on-event .ensures) _ (c .before .before .before .k .given .1) (c .before .over-limits .ensures) (c .if2 .left) (c .before .before .before .before .before .before .before .before .before .before .before .before .before .before .before .before .before .pre .1) (c .before .before .before .before .before .before .before .before .before .before .before .before .before .before .before .before .before .pre .2)
 
 pub step-spec : {M : Type 1} → statement M
 step-spec =

@@ -14,7 +14,7 @@ use Rattle.recipe.proofs.tells_17.Reads as tells-17-reads
 
 -- src/lib.rt:157:17
 run-requires : tie.Need-run-requires
-run-requires c κs = run-given (c .before .before .before .before .before .before .before .pre)
+run-requires c κs = run-given (c .before .before .before .before .before .before .before .before .pre)
 
 -- src/lib.rt:157:8
 tells-17-requires : tie.Need-tells-17-requires
@@ -26,7 +26,7 @@ same-length c = search needs
 
 -- src/lib.rt:158:9
 returns : tie.Need-returns
-returns c = form-over (c .before .before .before .before .before .before .before .before .before .before .before .before .pre) (c .before .before .before .before .run .ensures) (c .before .tells-17 .ensures) _ refl (c .if1 .taken)
+returns c = form-over (c .before .before .before .before .before .before .before .before .before .before .before .before .before .pre) (c .before .before .before .before .run .ensures) (c .before .tells-17 .ensures) _ refl (c .if1 .taken)
 
 -- src/lib.rt:160:9
 put-bytes-requires : tie.Need-put-bytes-requires
@@ -46,7 +46,7 @@ same-length-3 c = search needs
 
 -- src/lib.rt:145:1
 returns-2 : tie.Need-returns-2
-returns-2 c = form-out (c .before .before .before .before .before .before .before .before .before .before .before .before .before .before .before .before .before .pre) (c .before .before .before .before .before .before .before .before .before .run .ensures) (c .before .before .before .before .before .before .tells-17 .ensures) (c .before .before .before .before .before .if1 .left) (c .before .before .before .put-bytes .ensures) (c .hand-out .ensures)
+returns-2 c = form-out (c .before .before .before .before .before .before .before .before .before .before .before .before .before .before .before .before .before .before .pre) (c .before .before .before .before .before .before .before .before .before .run .ensures) (c .before .before .before .before .before .before .tells-17 .ensures) (c .before .before .before .before .before .if1 .left) (c .before .before .before .put-bytes .ensures) (c .hand-out .ensures)
 
 pub give-form-spec : {M : Type 1} → statement M
 give-form-spec =

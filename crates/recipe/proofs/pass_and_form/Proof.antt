@@ -12,19 +12,19 @@ use Rattle.recipe.proofs.error_line.Reads as error-line-reads
 use Rattle.recipe.proofs.write_form.Reads as write-form-reads
 
 run-requires : tie.Need-run-requires
-run-requires c κs = run-given (c .before .before .before .before .before .before .before .before .pre)
+run-requires c κs = run-given (c .before .before .before .before .before .before .before .before .before .pre)
 
 enum-known-h : tie.Need-enum-known-h
 enum-known-h c = search needs
 
 write-form-requires : tie.Need-write-form-requires
-write-form-requires c κs = (page-given (c .before .before .before .before .before .before .before .before .before .before .before .before .before .before .before .before .before .pre) (c .before .before .before .before .before .before .before .before .run .ensures) refl (c .before .before .before .before .h .given .1), bytes-lent (c .before .before .before .before .before .before .before .before .before .before .before .before .before .before .before .before .before .pre))
+write-form-requires c κs = (page-given (c .before .before .before .before .before .before .before .before .before .before .before .before .before .before .before .before .before .before .pre) (c .before .before .before .before .before .before .before .before .run .ensures) refl (c .before .before .before .before .h .given .1), bytes-lent (c .before .before .before .before .before .before .before .before .before .before .before .before .before .before .before .before .before .before .pre))
 
 enum-told : tie.Need-enum-told
 enum-told c = search needs
 
 error-line-requires : tie.Need-error-line-requires
-error-line-requires c κs = (c .before .before .before .before .before .before .before .before .before .before .before .before .before .pre .inputs .sheet-short, c .before .before .before .before .before .before .before .before .before .before .before .before .before .pre .inputs .sheet-read)
+error-line-requires c κs = (c .before .before .before .before .before .before .before .before .before .before .before .before .before .before .pre .inputs .sheet-short, c .before .before .before .before .before .before .before .before .before .before .before .before .before .before .pre .inputs .sheet-read)
 
 enum-known-k : tie.Need-enum-known-k
 enum-known-k c = search needs
@@ -39,19 +39,19 @@ same-length-3 : tie.Need-same-length-3
 same-length-3 c = search needs
 
 returns : tie.Need-returns
-returns c = recipe-formed (c .before .before .before .before .before .before .before .before .before .before .before .before .before .before .before .before .before .before .before .before .before .before .before .before .pre) (c .before .before .before .before .before .before .before .before .before .before .before .before .before .before .before .run .ensures) (c .before .before .before .before .before .before .before .before .before .before .before .h .given .1) (c .before .before .before .before .before .before .write-form .ensures)
+returns c = recipe-formed (c .before .before .before .before .before .before .before .before .before .before .before .before .before .before .before .before .before .before .before .before .before .before .before .before .before .pre) (c .before .before .before .before .before .before .before .before .before .before .before .before .before .before .before .run .ensures) (c .before .before .before .before .before .before .before .before .before .before .before .h .given .1) (c .before .before .before .before .before .before .write-form .ensures)
 
 same-length-4 : tie.Need-same-length-4
 same-length-4 c = search needs
 
 returns-2 : tie.Need-returns-2
-returns-2 c = failed-formed (c .before .before .before .before .before .before .before .before .before .before .before .before .before .before .pre) (c .before .before .before .before .before .run .ensures) _ refl (c .before .enum-told .given .1) (c .error-line .ensures)
+returns-2 c = failed-formed (c .before .before .before .before .before .before .before .before .before .before .before .before .before .before .before .pre) (c .before .before .before .before .before .run .ensures) _ refl (c .before .enum-told .given .1) (c .error-line .ensures)
 
 same-length-5 : tie.Need-same-length-5
 same-length-5 c = search needs
 
 returns-3 : tie.Need-returns-3
-returns-3 c = refused-formed (c .before .before .before .before .before .before .before .before .before .before .before .before .before .before .pre) (c .before .before .before .before .before .run .ensures) _ refl (c .before .k .given .1)
+returns-3 c = refused-formed (c .before .before .before .before .before .before .before .before .before .before .before .before .before .before .before .pre) (c .before .before .before .before .before .run .ensures) _ refl (c .before .k .given .1)
 
 pub pass-and-form-spec : {M : Type 1} → statement M
 pass-and-form-spec =

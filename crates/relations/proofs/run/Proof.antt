@@ -1,6 +1,7 @@
 use borrow.Author.Needs.{needs}
 use native.Mathlib.Omega.{arith}
-use Rattle.relations.proofs.Runs.{run-given, recipe-counts, recipe-sound}
+use Rattle.relations.proofs.Runs.{recipe-counts, recipe-sound}
+use Rattle.pass.proofs.Given.{run-ready}
 use Rattle.relations.proofs.run.Statement.{statement}
 use Rattle.relations.proofs.run.Tie as tie
 use Rattle.relations.proofs.run.Reads as reads
@@ -13,7 +14,7 @@ use Rattle.relations.proofs.show_refusal.Reads as show-refusal-reads
 
 -- src/main.rt:122:11
 run-requires : tie.Need-run-requires
-run-requires c κs = run-given (c .before .before .before .before .before .before .pre .0) (c .before .before .before .before .before .before .pre .1)
+run-requires c κs = run-ready (c .before .before .before .before .before .before .before .pre .0) (c .before .before .before .before .before .before .before .pre .1) (c .before .before .before .before .before .before .before .pre .2)
 
 -- src/main.rt:123:21
 enum-known-h : tie.Need-enum-known-h
@@ -21,7 +22,7 @@ enum-known-h c = search needs
 
 -- src/main.rt:124:13
 show-counts-requires : tie.Need-show-counts-requires
-show-counts-requires c κs = recipe-counts (c .before .before .before .before .before .run .ensures) (c .before .h .given .1) (c .before .before .before .before .before .before .before .before .before .before .before .before .pre .1 .sheet-short)
+show-counts-requires c κs = recipe-counts (c .before .before .before .before .before .run .ensures) (c .before .h .given .1) (c .before .before .before .before .before .before .before .before .before .before .before .before .before .pre .1 .sheet-short)
 
 -- src/main.rt:125:13
 show-both-requires : tie.Need-show-both-requires

@@ -14,7 +14,7 @@ part-of-requires c κs = search needs
 
 -- src/lib.rt:231:9
 split-quantities-requires : tie.Need-split-quantities-requires
-split-quantities-requires c κs = (c .before .before .before .before .before .before .before .pre .0, c .before .before .before .before .before .before .before .pre .1, view-field _ _ (c .before .part-of .ensures) (c .before .before .before .before .before .before .before .pre .2), view-room _ _ _ (c .before .part-of .ensures) (c .before .before .before .before .before .before .before .pre .3))
+split-quantities-requires c κs = (c .before .before .before .before .before .before .before .before .pre .0, c .before .before .before .before .before .before .before .before .pre .1, view-field _ _ (c .before .part-of .ensures) (c .before .before .before .before .before .before .before .before .pre .2), view-room _ _ _ (c .before .part-of .ensures) (c .before .before .before .before .before .before .before .before .pre .3))
 
 -- src/lib.rt:231:9
 same-length : tie.Need-same-length
@@ -22,7 +22,7 @@ same-length c = search needs
 
 -- src/lib.rt:231:9
 returns : tie.Need-returns
-returns c = lines-split _ _ _ _ (c .before .before .before .before .part-of .ensures) (c .before .before .before .before .before .before .before .before .before .before .pre .2) (c .before .before .before .before .before .if1 .taken) (c .before .before .split-quantities .ensures)
+returns c = lines-split _ _ _ _ (c .before .before .before .before .part-of .ensures) (c .before .before .before .before .before .before .before .before .before .before .before .pre .2) (c .before .before .before .before .before .if1 .taken) (c .before .before .split-quantities .ensures)
 
 -- src/lib.rt:216:1
 returns-2 : tie.Need-returns-2

@@ -15,18 +15,18 @@ use Rattle.step_lines.proofs.put_item.Reads as put-item-reads
 use Rattle.step_lines.proofs.put_text.Reads as put-text-reads
 
 abbrev Inv-loop : tie.InvT-loop
-Inv-loop t units rest₀ s first n₀ quantities₀ at₀ rest n quantities at = Splitting itemText (unitsOr (readUnits units)) s first rest₀ rest at n quantities
+Inv-loop t units index rest₀ s first n₀ quantities₀ at₀ rest n quantities at = Splitting itemText (unitsOr (readUnits units)) s first rest₀ rest at n quantities
 
 abbrev μ-loop : tie.MeasureT-loop
-μ-loop t units rest₀ s first n₀ quantities₀ at₀ rest n quantities at = length s - at
+μ-loop t units index rest₀ s first n₀ quantities₀ at₀ rest n quantities at = length s - at
 
 -- src/lib.rt:104:5
 loop-holds : tie.Need-loop-holds Inv-loop μ-loop
-loop-holds c = split-start (c .before .before .before .before .pre .2)
+loop-holds c = split-start (c .before .before .before .before .before .pre .2)
 
 -- src/lib.rt:105:13
 find-inline-quantity-requires : tie.Need-find-inline-quantity-requires Inv-loop μ-loop
-find-inline-quantity-requires c κs = (c .before .before .before .before .before .pre .0, c .before .before .before .before .before .pre .1, split-at (c .loop .inv), split-left (c .loop .inv))
+find-inline-quantity-requires c κs = (c .before .before .before .before .before .before .pre .0, c .before .before .before .before .before .before .pre .1, split-at (c .loop .inv), split-left (c .loop .inv))
 
 -- src/lib.rt:108:38
 enum-told : tie.Need-enum-told Inv-loop μ-loop
@@ -78,7 +78,7 @@ put-text-requires-2 c κs = found-at (c .before .before .before .before .before 
 
 -- src/lib.rt:122:57
 add-put-item : tie.Need-add-put-item Inv-loop μ-loop
-add-put-item c = omega (arith, split-few (c .before .before .before .before .before .before .before .before .before .before .loop .inv), split-at (c .before .before .before .before .before .before .before .before .before .before .loop .inv), c .before .before .before .before .before .before .before .before .before .before .before .before .before .before .before .pre .3)
+add-put-item c = omega (arith, split-few (c .before .before .before .before .before .before .before .before .before .before .loop .inv), split-at (c .before .before .before .before .before .before .before .before .before .before .loop .inv), c .before .before .before .before .before .before .before .before .before .before .before .before .before .before .before .before .pre .3)
 
 -- src/lib.rt:122:17
 put-item-requires : tie.Need-put-item-requires Inv-loop μ-loop
@@ -86,7 +86,7 @@ put-item-requires c κs = search needs
 
 -- src/lib.rt:123:17
 add-quantities : tie.Need-add-quantities Inv-loop μ-loop
-add-quantities c = omega (arith, split-few (c .before .before .before .before .before .before .before .before .before .before .before .before .before .loop .inv), split-less (c .before .before .before .before .before .before .before .before .before .before .before .before .before .loop .inv) (c .before .before .before .before .before .before .before .before .before .before .before .before .find-inline-quantity .ensures) (c .before .before .before .before .before .before .before .before .before .before .f .given .1), split-to (c .before .before .before .before .before .before .before .before .before .before .before .before .before .loop .inv) (c .before .before .before .before .before .before .before .before .before .before .before .before .find-inline-quantity .ensures) (c .before .before .before .before .before .before .before .before .before .before .f .given .1), c .before .before .before .before .before .before .before .before .before .before .before .before .before .before .before .before .before .before .pre .3)
+add-quantities c = omega (arith, split-few (c .before .before .before .before .before .before .before .before .before .before .before .before .before .loop .inv), split-less (c .before .before .before .before .before .before .before .before .before .before .before .before .before .loop .inv) (c .before .before .before .before .before .before .before .before .before .before .before .before .find-inline-quantity .ensures) (c .before .before .before .before .before .before .before .before .before .before .f .given .1), split-to (c .before .before .before .before .before .before .before .before .before .before .before .before .before .loop .inv) (c .before .before .before .before .before .before .before .before .before .before .before .before .find-inline-quantity .ensures) (c .before .before .before .before .before .before .before .before .before .before .f .given .1), c .before .before .before .before .before .before .before .before .before .before .before .before .before .before .before .before .before .before .before .pre .3)
 
 -- src/lib.rt:104:5
 loop-less : tie.Need-loop-less Inv-loop μ-loop

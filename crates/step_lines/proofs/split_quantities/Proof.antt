@@ -14,18 +14,18 @@ use Rattle.inline.proofs.find_inline_quantity.Reads as find-inline-quantity-rea
 use Rattle.step_lines.proofs.put_inline.Reads as put-inline-reads
 
 abbrev Inv-loop : tie.InvT-loop
-Inv-loop t units rest₀ s first count₀ quantities₀ at₀ rest count quantities at = Splitting inlineText (unitsOr (readUnits units)) s first rest₀ rest at count quantities
+Inv-loop t units index rest₀ s first count₀ quantities₀ at₀ rest count quantities at = Splitting inlineText (unitsOr (readUnits units)) s first rest₀ rest at count quantities
 
 abbrev μ-loop : tie.MeasureT-loop
-μ-loop t units rest₀ s first count₀ quantities₀ at₀ rest count quantities at = length s - at
+μ-loop t units index rest₀ s first count₀ quantities₀ at₀ rest count quantities at = length s - at
 
 -- src/lib.rt:184:5
 loop-holds : tie.Need-loop-holds Inv-loop μ-loop
-loop-holds c = split-start (c .before .before .before .before .pre .2)
+loop-holds c = split-start (c .before .before .before .before .before .pre .2)
 
 -- src/lib.rt:185:13
 find-inline-quantity-requires : tie.Need-find-inline-quantity-requires Inv-loop μ-loop
-find-inline-quantity-requires c κs = (c .before .before .before .before .before .pre .0, c .before .before .before .before .before .pre .1, split-at (c .loop .inv), split-left (c .loop .inv))
+find-inline-quantity-requires c κs = (c .before .before .before .before .before .before .pre .0, c .before .before .before .before .before .before .pre .1, split-at (c .loop .inv), split-left (c .loop .inv))
 
 -- src/lib.rt:188:17
 enum-told : tie.Need-enum-told Inv-loop μ-loop
@@ -44,8 +44,8 @@ enum-known-f : tie.Need-enum-known-f Inv-loop μ-loop
 enum-known-f c = search needs
 
 -- src/lib.rt:200:29
-add-index : tie.Need-add-index Inv-loop μ-loop
-add-index c = omega (arith, split-few (c .before .before .before .before .loop .inv), split-at (c .before .before .before .before .loop .inv), c .before .before .before .before .before .before .before .before .before .pre .3)
+add-nth : tie.Need-add-nth Inv-loop μ-loop
+add-nth c = omega (arith, split-few (c .before .before .before .before .loop .inv), split-at (c .before .before .before .before .loop .inv), c .before .before .before .before .before .before .before .before .before .before .pre .3)
 
 -- src/lib.rt:205:21
 sub-put-inline : tie.Need-sub-put-inline Inv-loop μ-loop
@@ -77,7 +77,7 @@ put-inline-requires c κs = let p = found-at (c .before .before .before .before 
 
 -- src/lib.rt:208:17
 add-quantities : tie.Need-add-quantities Inv-loop μ-loop
-add-quantities c = omega (arith, split-few (c .before .before .before .before .before .before .before .before .before .before .loop .inv), split-less (c .before .before .before .before .before .before .before .before .before .before .loop .inv) (c .before .before .before .before .before .before .before .before .before .find-inline-quantity .ensures) (c .before .before .before .before .before .before .before .f .given .1), split-to (c .before .before .before .before .before .before .before .before .before .before .loop .inv) (c .before .before .before .before .before .before .before .before .before .find-inline-quantity .ensures) (c .before .before .before .before .before .before .before .f .given .1), c .before .before .before .before .before .before .before .before .before .before .before .before .before .before .before .pre .3)
+add-quantities c = omega (arith, split-few (c .before .before .before .before .before .before .before .before .before .before .loop .inv), split-less (c .before .before .before .before .before .before .before .before .before .before .loop .inv) (c .before .before .before .before .before .before .before .before .before .find-inline-quantity .ensures) (c .before .before .before .before .before .before .before .f .given .1), split-to (c .before .before .before .before .before .before .before .before .before .before .loop .inv) (c .before .before .before .before .before .before .before .before .before .find-inline-quantity .ensures) (c .before .before .before .before .before .before .before .f .given .1), c .before .before .before .before .before .before .before .before .before .before .before .before .before .before .before .before .pre .3)
 
 -- src/lib.rt:184:5
 loop-less : tie.Need-loop-less Inv-loop μ-loop
@@ -99,7 +99,7 @@ split-quantities-spec =
     same-length
     returns
     enum-known-f
-    add-index
+    add-nth
     sub-put-inline
     part-put-inline-start
     part-put-inline-end

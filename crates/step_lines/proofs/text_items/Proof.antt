@@ -15,7 +15,7 @@ part-of-requires c κs = search needs
 
 -- src/lib.rt:146:9
 split-items-requires : tie.Need-split-items-requires
-split-items-requires c κs = (c .before .before .before .before .before .before .before .pre .0, c .before .before .before .before .before .before .before .pre .1, view-field _ _ (c .before .before .part-of .ensures) (c .before .before .before .before .before .before .before .pre .2), view-room _ _ _ (c .before .before .part-of .ensures) (c .before .before .before .before .before .before .before .pre .3))
+split-items-requires c κs = (c .before .before .before .before .before .before .before .before .pre .0, c .before .before .before .before .before .before .before .before .pre .1, view-field _ _ (c .before .before .part-of .ensures) (c .before .before .before .before .before .before .before .before .pre .2), view-room _ _ _ (c .before .before .part-of .ensures) (c .before .before .before .before .before .before .before .before .pre .3))
 
 -- src/lib.rt:146:9
 same-length : tie.Need-same-length
@@ -23,11 +23,11 @@ same-length c = search needs
 
 -- src/lib.rt:146:9
 returns : tie.Need-returns
-returns c = lines-split _ _ _ _ (c .before .before .before .before .before .part-of .ensures) (c .before .before .before .before .before .before .before .before .before .before .pre .2) (c .before .before .before .before .if1 .taken) (c .before .before .split-items .ensures)
+returns c = lines-split _ _ _ _ (c .before .before .before .before .before .part-of .ensures) (c .before .before .before .before .before .before .before .before .before .before .before .pre .2) (c .before .before .before .before .if1 .taken) (c .before .before .split-items .ensures)
 
 -- src/lib.rt:148:9
 text-item-line-requires : tie.Need-text-item-line-requires
-text-item-line-requires c κs = view-field _ _ (c .before .before .part-of .ensures) (c .before .before .before .before .before .before .before .pre .2)
+text-item-line-requires c κs = view-field _ _ (c .before .before .part-of .ensures) (c .before .before .before .before .before .before .before .before .pre .2)
 
 -- src/lib.rt:131:1
 same-length-2 : tie.Need-same-length-2
@@ -35,7 +35,7 @@ same-length-2 c = search needs
 
 -- src/lib.rt:131:1
 returns-2 : tie.Need-returns-2
-returns-2 c = lines-whole _ _ _ _ (c .before .before .before .before .before .part-of .ensures) (c .before .before .before .before .before .before .before .before .before .before .pre .2) (c .before .before .before .before .if1 .left) (c .before .before .text-item-line .ensures)
+returns-2 c = lines-whole _ _ _ _ (c .before .before .before .before .before .part-of .ensures) (c .before .before .before .before .before .before .before .before .before .before .before .pre .2) (c .before .before .before .before .if1 .left) (c .before .before .text-item-line .ensures)
 
 pub text-items-spec : {M : Type 1} → statement M
 text-items-spec =

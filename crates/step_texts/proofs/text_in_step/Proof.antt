@@ -39,23 +39,23 @@ same-length c = search needs
 
 -- src/lib.rt:55:13
 returns : tie.Need-returns
-returns c = text-found (c .before .before .before .before .before .before .before .before .before .is-components .ensures) (c .before .before .before .before .before .before .before .before .before .before .before .before .before .before .before .pre .4) _ (c .before .before .before .before .before .before .before .before .before .before .before .before .before .before .before .pre .2) (c .before .before .before .before .before .before .before .before .before .before .part-of .ensures) (c .before .before .before .before .before .before .before .has-alphanumeric .ensures) (c .before .before .before .before .before .before .before .before .if1 .taken) (c .before .before .before .before .before .before .if2 .taken) (c .before .before .before .before .one-span .ensures) (c .before .before .push-finding .ensures)
+returns c = text-found (c .before .before .before .before .before .before .before .before .before .is-components .ensures) (c .before .before .before .before .before .before .before .before .before .before .before .before .before .before .before .before .pre .4) _ (c .before .before .before .before .before .before .before .before .before .before .before .before .before .before .before .before .pre .2) (c .before .before .before .before .before .before .before .before .before .before .part-of .ensures) (c .before .before .before .before .before .before .before .has-alphanumeric .ensures) (c .before .before .before .before .before .before .before .before .if1 .taken) (c .before .before .before .before .before .before .if2 .taken) (c .before .before .before .before .one-span .ensures) (c .before .before .push-finding .ensures)
 
 -- src/lib.rt:57:9
 returns-2 : tie.Need-returns-2
-returns-2 c = text-silent (c .before .before .before .is-components .ensures) (c .before .before .before .before .before .before .before .before .before .pre .4) _ (c .before .before .before .before .before .before .before .before .before .pre .2) (c .before .before .before .before .part-of .ensures) (c .before .has-alphanumeric .ensures) (c .before .before .if1 .taken) (c .if2 .left)
+returns-2 c = text-silent (c .before .before .before .is-components .ensures) (c .before .before .before .before .before .before .before .before .before .before .pre .4) _ (c .before .before .before .before .before .before .before .before .before .before .pre .2) (c .before .before .before .before .part-of .ensures) (c .before .has-alphanumeric .ensures) (c .before .before .if1 .taken) (c .if2 .left)
 
 -- src/lib.rt:61:13
 count-items-requires : tie.Need-count-items-requires
-count-items-requires c κs = ((c .before .before .before .before .before .before .before .before .pre .0), (c .before .before .before .before .before .before .before .before .pre .1), field-part (c .before .before .before .part-of .ensures) (c .before .before .before .before .before .before .before .before .pre .3))
+count-items-requires c κs = ((c .before .before .before .before .before .before .before .before .before .pre .0), (c .before .before .before .before .before .before .before .before .before .pre .1), field-part (c .before .before .before .part-of .ensures) (c .before .before .before .before .before .before .before .before .before .pre .3))
 
 -- src/lib.rt:62:9
 push-pieces-requires : tie.Need-push-pieces-requires
-push-pieces-requires c κs = pieces-room _ _ (c .before .before .before .before .before .before .before .before .before .pre .2) (c .before .before .before .before .part-of .ensures) (c .count-items .ensures) (c .before .before .before .before .before .before .before .before .before .pre .6) (c .before .before .before .before .before .before .before .before .before .pre .7)
+push-pieces-requires c κs = pieces-room _ _ (c .before .before .before .before .before .before .before .before .before .before .pre .2) (c .before .before .before .before .part-of .ensures) (c .count-items .ensures) (c .before .before .before .before .before .before .before .before .before .before .pre .6) (c .before .before .before .before .before .before .before .before .before .before .pre .7)
 
 -- src/lib.rt:62:9
 returns-3 : tie.Need-returns-3
-returns-3 c = text-inline (c .before .before .before .before .is-components .ensures) (c .before .before .before .before .before .before .before .before .before .before .pre .4) (c .before .before .before .if1 .left) (c .before .before .if3 .taken) (c .before .before .before .before .before .before .before .before .before .before .pre .2) (c .before .before .before .before .before .part-of .ensures) (c .before .count-items .ensures) (c .push-pieces .ensures)
+returns-3 c = text-inline (c .before .before .before .before .is-components .ensures) (c .before .before .before .before .before .before .before .before .before .before .before .pre .4) (c .before .before .before .if1 .left) (c .before .before .if3 .taken) (c .before .before .before .before .before .before .before .before .before .before .before .pre .2) (c .before .before .before .before .before .part-of .ensures) (c .before .count-items .ensures) (c .push-pieces .ensures)
 
 -- src/lib.rt:64:5
 push-pieces-requires-2 : tie.Need-push-pieces-requires-2
@@ -63,7 +63,7 @@ push-pieces-requires-2 c κs = search needs
 
 -- src/lib.rt:37:1
 returns-4 : tie.Need-returns-4
-returns-4 c = text-plain (c .before .before .before .is-components .ensures) (c .before .before .before .before .before .before .before .before .before .pre .4) (c .before .before .if1 .left) (c .before .if3 .left) (c .push-pieces2 .ensures)
+returns-4 c = text-plain (c .before .before .before .is-components .ensures) (c .before .before .before .before .before .before .before .before .before .before .pre .4) (c .before .before .if1 .left) (c .before .if3 .left) (c .push-pieces2 .ensures)
 
 pub text-in-step-spec : {M : Type 1} → statement M
 text-in-step-spec =

@@ -24,7 +24,7 @@ text-finding-requires c κs = search needs
 
 -- src/lib.rt:118:13
 unit-finding-requires : tie.Need-unit-finding-requires
-unit-finding-requires c κs = ((c .before .before .before .before .before .before .before .before .before .before .before .before .pre .0), (c .before .before .before .before .before .before .before .before .before .before .before .before .pre .1), unit-within _ _ _ (c .before .before .before .before .before .before .before .before .before .before .before .before .pre .2) (c .before .before .before .before .before .before .quantity .given .1), reported-sound (c .before .before .before .text-finding .ensures) (c .before .before .before .before .before .before .before .before .before .before .before .before .pre .3), when-room _ _ (c .before .before .before .text-finding .ensures) (c .before .before .before .before .before .before .before .before .before .before .before .before .pre .4))
+unit-finding-requires c κs = ((c .before .before .before .before .before .before .before .before .before .before .before .before .before .pre .0), (c .before .before .before .before .before .before .before .before .before .before .before .before .before .pre .1), unit-within _ _ _ (c .before .before .before .before .before .before .before .before .before .before .before .before .before .pre .2) (c .before .before .before .before .before .before .quantity .given .1), reported-sound (c .before .before .before .text-finding .ensures) (c .before .before .before .before .before .before .before .before .before .before .before .before .before .pre .3), when-room _ _ (c .before .before .before .text-finding .ensures) (c .before .before .before .before .before .before .before .before .before .before .before .before .before .pre .4))
 
 -- src/lib.rt:101:1
 returns : tie.Need-returns

@@ -1,12 +1,11 @@
 use borrow.Author.Needs.{needs}
 use native.Mathlib.Omega.{arith}
-use Rattle.units.proofs.Walks.{list-starts}
 use Rattle.timers.proofs.Timers.{unit-none, unit-time, unit-found}
 use Rattle.timers.proofs.unit_finding.Statement.{statement}
 use Rattle.timers.proofs.unit_finding.Tie as tie
 use Rattle.timers.proofs.unit_finding.Reads as reads
 use Rattle.timers.proofs.unit_finding.Lts as lts
-use Rattle.compatible.proofs.find_part.Reads as find-part-reads
+use Rattle.unit_index.proofs.find_named.Reads as find-named-reads
 use Rattle.compatible.proofs.text_part.Reads as text-part-reads
 use Rattle.timers.proofs.push_one.Reads as push-one-reads
 use Rattle.timers.proofs.time_code.Reads as time-code-reads
@@ -24,8 +23,8 @@ text-part-requires : tie.Need-text-part-requires
 text-part-requires c κs = search needs
 
 -- src/lib.rt:90:17
-find-part-requires : tie.Need-find-part-requires
-find-part-requires c κs = list-starts _ (c .before .before .before .before .before .before .before .before .pre .1)
+find-named-requires : tie.Need-find-named-requires
+find-named-requires c κs = c .before .before .before .before .before .before .before .before .before .pre .1
 
 -- src/lib.rt:91:17
 time-code-requires : tie.Need-time-code-requires
@@ -33,7 +32,7 @@ time-code-requires c κs = search needs
 
 -- src/lib.rt:93:17
 returns : tie.Need-returns
-returns c = unit-time _ _ _ (c .before .before .before .before .before .before .before .before .before .before .before .pre .1) (c .before .before .before .before .before .before .before .before .before .before .before .pre .2) (c .before .before .before .before .before .unit .given .1) _ (c .before .before .before .text-part .ensures) (c .before .before .find-part .ensures) (c .before .time-code .ensures) (c .if1 .taken)
+returns c = unit-time _ _ _ (c .before .before .before .before .before .before .before .before .before .before .before .before .pre .1 .list) (c .before .before .before .before .before .before .before .before .before .before .before .before .pre .2) (c .before .before .before .before .before .unit .given .1) _ (c .before .before .before .text-part .ensures) (c .before .before .find-named .ensures) (c .before .time-code .ensures) (c .if1 .taken)
 
 -- src/lib.rt:95:13
 push-one-requires : tie.Need-push-one-requires
@@ -49,7 +48,7 @@ same-length c = search needs
 
 -- src/lib.rt:75:1
 returns-3 : tie.Need-returns-3
-returns-3 c = unit-found _ _ _ (c .before .before .before .before .before .before .before .before .before .before .before .before .before .before .before .pre .1) (c .before .before .before .before .before .before .before .before .before .before .before .before .before .before .before .pre .2) (c .before .before .before .before .before .before .before .before .before .unit .given .1) _ (c .before .before .before .before .before .before .before .text-part .ensures) (c .before .before .before .before .before .before .find-part .ensures) (c .before .before .before .before .before .time-code .ensures) (c .before .before .before .before .if1 .left) (c .before .before .push-one .ensures)
+returns-3 c = unit-found _ _ _ (c .before .before .before .before .before .before .before .before .before .before .before .before .before .before .before .before .pre .1 .list) (c .before .before .before .before .before .before .before .before .before .before .before .before .before .before .before .before .pre .2) (c .before .before .before .before .before .before .before .before .before .unit .given .1) _ (c .before .before .before .before .before .before .before .text-part .ensures) (c .before .before .before .before .before .before .find-named .ensures) (c .before .before .before .before .before .time-code .ensures) (c .before .before .before .before .if1 .left) (c .before .before .push-one .ensures)
 
 pub unit-finding-spec : {M : Type 1} → statement M
 unit-finding-spec =
@@ -58,7 +57,7 @@ unit-finding-spec =
     enum-told
     enum-known-unit
     text-part-requires
-    find-part-requires
+    find-named-requires
     time-code-requires
     returns
     push-one-requires

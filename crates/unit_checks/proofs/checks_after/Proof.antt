@@ -19,11 +19,11 @@ enum-known-to c = search needs
 
 -- src/lib.rt:207:17
 units-after-requires : tie.Need-units-after-requires
-units-after-requires c κs = (c .before .before .before .before .before .before .before .before .before .pre .0, c .before .before .before .before .before .before .before .before .before .pre .1, c .before .before .before .before .before .before .before .before .before .pre .2 .quantity, c .before .before .before .before .before .before .before .before .before .pre .3, c .before .before .before .before .before .before .before .before .before .pre .4, c .before .before .before .before .before .before .before .before .before .pre .5 .below _ (c .before .before .to .given .1), omega (arith, c .before .before .before .before .before .before .before .before .before .pre .6))
+units-after-requires c κs = (c .before .before .before .before .before .before .before .before .before .before .pre .0, c .before .before .before .before .before .before .before .before .before .before .pre .1, c .before .before .before .before .before .before .before .before .before .before .pre .2 .quantity, c .before .before .before .before .before .before .before .before .before .before .pre .3, c .before .before .before .before .before .before .before .before .before .before .pre .4, c .before .before .before .before .before .before .before .before .before .before .pre .5 .below _ (c .before .before .to .given .1), omega (arith, c .before .before .before .before .before .before .before .before .before .before .pre .6))
 
 -- src/lib.rt:208:13
 entry-check-requires : tie.Need-entry-check-requires
-entry-check-requires c κs = (c .before .before .before .before .before .before .before .before .before .before .before .before .before .pre .2, after-sound (c .before .before .before .units-after .ensures) (c .before .before .before .before .before .before .before .before .before .before .before .before .before .pre .3), after-fit (c .before .before .before .units-after .ensures) (c .before .before .before .before .before .before .before .before .before .before .before .before .before .pre .4), after-below (c .before .before .before .units-after .ensures) (c .before .before .before .before .before .before .before .before .before .before .before .before .before .pre .5 .below _ (c .before .before .before .before .before .before .to .given .1)), after-room (c .before .before .before .units-after .ensures) (c .before .before .before .before .before .before .before .before .before .before .before .before .before .pre .6))
+entry-check-requires c κs = (c .before .before .before .before .before .before .before .before .before .before .before .before .before .before .pre .2, after-sound (c .before .before .before .units-after .ensures) (c .before .before .before .before .before .before .before .before .before .before .before .before .before .before .pre .3), after-fit (c .before .before .before .units-after .ensures) (c .before .before .before .before .before .before .before .before .before .before .before .before .before .before .pre .4), after-below (c .before .before .before .units-after .ensures) (c .before .before .before .before .before .before .before .before .before .before .before .before .before .before .pre .5 .below _ (c .before .before .before .before .before .before .to .given .1)), after-room (c .before .before .before .units-after .ensures) (c .before .before .before .before .before .before .before .before .before .before .before .before .before .before .pre .6))
 
 -- src/lib.rt:188:1
 returns : tie.Need-returns

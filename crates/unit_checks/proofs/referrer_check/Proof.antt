@@ -12,18 +12,18 @@ use Rattle.model.proofs.next_referrer.Reads as next-referrer-reads
 use Rattle.unit_checks.proofs.unit_against.Reads as unit-against-reads
 
 abbrev Inv-loop : tie.InvT-loop
-Inv-loop t units words₀ sheet line a d n definition k₀ from₀ words k from = Going (unitsOr (readUnits units)) sheet line a d words₀ k₀ words k from
+Inv-loop t units index words₀ sheet line a d n definition k₀ from₀ words k from = Going (unitsOr (readUnits units)) sheet line a d words₀ k₀ words k from
 
 abbrev μ-loop : tie.MeasureT-loop
-μ-loop t units words₀ sheet line a d n definition k₀ from₀ words k from = n - from
+μ-loop t units index words₀ sheet line a d n definition k₀ from₀ words k from = n - from
 
 -- src/lib.rt:93:22
 cast-definition : tie.Need-cast-definition Inv-loop μ-loop
-cast-definition c = omega (arith, c .before .before .before .before .before .pre .5, c .before .before .before .before .before .pre .3 .room .ingredients)
+cast-definition c = omega (arith, c .before .before .before .before .before .before .pre .5, c .before .before .before .before .before .before .pre .3 .room .ingredients)
 
 -- src/lib.rt:96:5
 loop-holds : tie.Need-loop-holds Inv-loop μ-loop
-loop-holds c = going-start (c .before .before .before .before .before .pre .3) (c .before .before .before .before .before .pre .4) (c .before .before .before .before .before .pre .6)
+loop-holds c = going-start (c .before .before .before .before .before .before .pre .3) (c .before .before .before .before .before .before .pre .4) (c .before .before .before .before .before .before .pre .6)
 
 -- src/lib.rt:98:34
 sub-next-referrer : tie.Need-sub-next-referrer Inv-loop μ-loop
@@ -39,7 +39,7 @@ part-next-referrer-end c = omega (arith, c .before .before .loop .inv .sound .lo
 
 -- src/lib.rt:98:13
 next-referrer-requires : tie.Need-next-referrer-requires Inv-loop μ-loop
-next-referrer-requires c κs = going-ready (c .before .before .before .loop .inv) (c .before .before .before .before .before .before .before .before .before .pre .3)
+next-referrer-requires c κs = going-ready (c .before .before .before .loop .inv) (c .before .before .before .before .before .before .before .before .before .before .pre .3)
 
 -- src/lib.rt:97:35
 enum-known-i : tie.Need-enum-known-i Inv-loop μ-loop
@@ -63,7 +63,7 @@ cast-unit-against c = search needs
 
 -- src/lib.rt:102:9
 unit-against-requires : tie.Need-unit-against-requires Inv-loop μ-loop
-unit-against-requires c κs = (c .before .before .before .before .before .before .before .before .before .before .before .before .before .before .pre .0, c .before .before .before .before .before .before .before .before .before .before .before .before .before .before .pre .1, c .before .before .before .before .before .before .before .before .before .before .before .before .before .before .pre .2, c .before .before .before .before .before .before .before .before .loop .inv .sound, c .before .before .before .before .before .before .before .before .loop .inv .fit, going-room (c .before .before .before .before .before .before .before .before .loop .inv) (c .before .before .before .before .before .before .before .loop-test .taken))
+unit-against-requires c κs = (c .before .before .before .before .before .before .before .before .before .before .before .before .before .before .before .pre .0, c .before .before .before .before .before .before .before .before .before .before .before .before .before .before .before .pre .1, c .before .before .before .before .before .before .before .before .before .before .before .before .before .before .before .pre .2, c .before .before .before .before .before .before .before .before .loop .inv .sound, c .before .before .before .before .before .before .before .before .loop .inv .fit, going-room (c .before .before .before .before .before .before .before .before .loop .inv) (c .before .before .before .before .before .before .before .loop-test .taken))
 
 -- src/lib.rt:96:5
 loop-less : tie.Need-loop-less Inv-loop μ-loop

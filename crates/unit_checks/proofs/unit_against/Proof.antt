@@ -41,35 +41,35 @@ cast-end c = search needs
 
 -- src/lib.rt:73:34
 sub-component-in : tie.Need-sub-component-in
-sub-component-in c = let f = window-fits _ (c .before .before .before .before .before .before .before .before .before .before .before .args .i) (c .before .before .before .before .before .before .before .before .before .before .before .pre .4) (c .before .before .before .before .before .if1 .left) (c .before .before .row-at .ensures) in omega (arith, f .line, f .lineEnd)
+sub-component-in c = let f = window-fits _ (c .before .before .before .before .before .before .before .before .before .before .before .before .args .i) (c .before .before .before .before .before .before .before .before .before .before .before .before .pre .4) (c .before .before .before .before .before .if1 .left) (c .before .before .row-at .ensures) in omega (arith, f .line, f .lineEnd)
 
 -- src/lib.rt:73:34
 part-component-in-start : tie.Need-part-component-in-start
-part-component-in-start c = let f = window-fits _ (c .before .before .before .before .before .before .before .before .before .before .before .args .i) (c .before .before .before .before .before .before .before .before .before .before .before .pre .4) (c .before .before .before .before .before .if1 .left) (c .before .before .row-at .ensures) in omega (arith, f .line, f .lineEnd)
+part-component-in-start c = let f = window-fits _ (c .before .before .before .before .before .before .before .before .before .before .before .before .args .i) (c .before .before .before .before .before .before .before .before .before .before .before .before .pre .4) (c .before .before .before .before .before .if1 .left) (c .before .before .row-at .ensures) in omega (arith, f .line, f .lineEnd)
 
 -- src/lib.rt:73:34
 part-component-in-end : tie.Need-part-component-in-end
-part-component-in-end c = let f = window-fits _ (c .before .before .before .before .before .before .before .before .before .before .before .args .i) (c .before .before .before .before .before .before .before .before .before .before .before .pre .4) (c .before .before .before .before .before .if1 .left) (c .before .before .row-at .ensures) in omega (arith, f .line, f .lineEnd)
+part-component-in-end c = let f = window-fits _ (c .before .before .before .before .before .before .before .before .before .before .before .before .args .i) (c .before .before .before .before .before .before .before .before .before .before .before .before .pre .4) (c .before .before .before .before .before .if1 .left) (c .before .before .row-at .ensures) in omega (arith, f .line, f .lineEnd)
 
 -- src/lib.rt:73:9
 component-in-requires : tie.Need-component-in-requires
-component-in-requires c κs = let f = window-fits _ (c .before .before .before .before .before .before .before .before .before .before .before .before .args .i) (c .before .before .before .before .before .before .before .before .before .before .before .before .pre .4) (c .before .before .before .before .before .before .if1 .left) (c .before .before .before .row-at .ensures) in let reads = line-reads ingredient f in let whole = line-whole ingredient f in search needs
+component-in-requires c κs = let f = window-fits _ (c .before .before .before .before .before .before .before .before .before .before .before .before .before .args .i) (c .before .before .before .before .before .before .before .before .before .before .before .before .before .pre .4) (c .before .before .before .before .before .before .if1 .left) (c .before .before .before .row-at .ensures) in let reads = line-reads ingredient f in let whole = line-whole ingredient f in search needs
 
 -- src/lib.rt:75:52
 sub-unit-pair : tie.Need-sub-unit-pair
-sub-unit-pair c = let f = window-fits _ (c .before .before .before .before .before .before .before .before .before .before .before .before .before .before .args .i) (c .before .before .before .before .before .before .before .before .before .before .before .before .before .before .pre .4) (c .before .before .before .before .before .before .before .before .if1 .left) (c .before .before .before .before .before .row-at .ensures) in omega (arith, f .line, f .lineEnd)
+sub-unit-pair c = let f = window-fits _ (c .before .before .before .before .before .before .before .before .before .before .before .before .before .before .before .args .i) (c .before .before .before .before .before .before .before .before .before .before .before .before .before .before .before .pre .4) (c .before .before .before .before .before .before .before .before .if1 .left) (c .before .before .before .before .before .row-at .ensures) in omega (arith, f .line, f .lineEnd)
 
 -- src/lib.rt:75:52
 part-unit-pair-start : tie.Need-part-unit-pair-start
-part-unit-pair-start c = let f = window-fits _ (c .before .before .before .before .before .before .before .before .before .before .before .before .before .before .args .i) (c .before .before .before .before .before .before .before .before .before .before .before .before .before .before .pre .4) (c .before .before .before .before .before .before .before .before .if1 .left) (c .before .before .before .before .before .row-at .ensures) in omega (arith, f .line, f .lineEnd)
+part-unit-pair-start c = let f = window-fits _ (c .before .before .before .before .before .before .before .before .before .before .before .before .before .before .before .args .i) (c .before .before .before .before .before .before .before .before .before .before .before .before .before .before .before .pre .4) (c .before .before .before .before .before .before .before .before .if1 .left) (c .before .before .before .before .before .row-at .ensures) in omega (arith, f .line, f .lineEnd)
 
 -- src/lib.rt:75:52
 part-unit-pair-end : tie.Need-part-unit-pair-end
-part-unit-pair-end c = let f = window-fits _ (c .before .before .before .before .before .before .before .before .before .before .before .before .before .before .args .i) (c .before .before .before .before .before .before .before .before .before .before .before .before .before .before .pre .4) (c .before .before .before .before .before .before .before .before .if1 .left) (c .before .before .before .before .before .row-at .ensures) in omega (arith, f .line, f .lineEnd)
+part-unit-pair-end c = let f = window-fits _ (c .before .before .before .before .before .before .before .before .before .before .before .before .before .before .before .args .i) (c .before .before .before .before .before .before .before .before .before .before .before .before .before .before .before .pre .4) (c .before .before .before .before .before .before .before .before .if1 .left) (c .before .before .before .before .before .row-at .ensures) in omega (arith, f .line, f .lineEnd)
 
 -- src/lib.rt:75:5
 unit-pair-requires : tie.Need-unit-pair-requires
-unit-pair-requires c κs = (c .before .before .before .before .before .before .before .before .before .before .before .before .before .before .before .pre .0, c .before .before .before .before .before .before .before .before .before .before .before .before .before .before .before .pre .1, c .before .before .before .before .before .before .before .before .before .before .before .before .before .before .before .pre .2, row-within (c .before .before .before .before .before .before .before .before .before .before .before .before .before .before .before .args .i) (c .before .before .before .before .before .before .before .before .before .before .before .before .before .before .before .pre .4) (c .before .before .before .before .before .before .before .before .before .if1 .left) (c .before .before .before .before .before .before .row-at .ensures) (c .before .before .component-in .ensures), c .before .before .before .before .before .before .before .before .before .before .before .before .before .before .before .pre .3, c .before .before .before .before .before .before .before .before .before .before .before .before .before .before .before .pre .5)
+unit-pair-requires c κs = (c .before .before .before .before .before .before .before .before .before .before .before .before .before .before .before .before .pre .0, c .before .before .before .before .before .before .before .before .before .before .before .before .before .before .before .before .pre .1, c .before .before .before .before .before .before .before .before .before .before .before .before .before .before .before .before .pre .2, row-within (c .before .before .before .before .before .before .before .before .before .before .before .before .before .before .before .before .args .i) (c .before .before .before .before .before .before .before .before .before .before .before .before .before .before .before .before .pre .4) (c .before .before .before .before .before .before .before .before .before .if1 .left) (c .before .before .before .before .before .before .row-at .ensures) (c .before .before .component-in .ensures), c .before .before .before .before .before .before .before .before .before .before .before .before .before .before .before .before .pre .3, c .before .before .before .before .before .before .before .before .before .before .before .before .before .before .before .before .pre .5)
 
 -- src/lib.rt:53:1
 same-length : tie.Need-same-length
@@ -77,7 +77,7 @@ same-length c = search needs
 
 -- src/lib.rt:53:1
 returns-2 : tie.Need-returns-2
-returns-2 c = row-checked (c .before .before .before .before .before .before .before .before .before .before .before .before .before .before .before .before .before .before .args .i) (c .before .before .before .before .before .before .before .before .before .before .before .before .before .before .before .before .before .before .pre .4) (c .before .before .before .before .before .before .before .before .before .before .before .before .if1 .left) (c .before .before .before .before .before .before .before .before .before .row-at .ensures) (c .before .before .before .before .before .component-in .ensures) (c .before .before .unit-pair .ensures)
+returns-2 c = row-checked (c .before .before .before .before .before .before .before .before .before .before .before .before .before .before .before .before .before .before .before .args .i) (c .before .before .before .before .before .before .before .before .before .before .before .before .before .before .before .before .before .before .before .pre .4) (c .before .before .before .before .before .before .before .before .before .before .before .before .if1 .left) (c .before .before .before .before .before .before .before .before .before .row-at .ensures) (c .before .before .before .before .before .component-in .ensures) (c .before .before .unit-pair .ensures)
 
 pub unit-against-spec : {M : Type 1} → statement M
 unit-against-spec =

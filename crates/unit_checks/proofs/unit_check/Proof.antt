@@ -35,7 +35,7 @@ enum-told c = search needs
 
 -- src/lib.rt:127:33
 referrer-check-requires : tie.Need-referrer-check-requires
-referrer-check-requires c κs = (c .before .before .before .before .before .before .before .before .before .before .before .before .before .before .before .before .pre .0, c .before .before .before .before .before .before .before .before .before .before .before .before .before .before .before .before .pre .1, c .before .before .before .before .before .before .before .before .before .before .before .before .before .before .before .before .pre .2, row-sound (c .before .before .before .before .before .unit-against .ensures) (c .before .before .before .before .before .before .before .before .before .before .before .before .before .before .before .before .pre .3), row-fit (c .before .before .before .before .before .unit-against .ensures) (c .before .before .before .before .before .before .before .before .before .before .before .before .before .before .before .before .pre .4), row-below (c .before .before .before .before .before .unit-against .ensures) (c .before .before .before .before .before .before .before .before .before .before .before .before .before .before .before .before .pre .5), row-left (c .before .before .before .before .before .unit-against .ensures) (c .before .before .before .before .before .before .before .before .before .before .before .before .before .before .before .before .pre .6))
+referrer-check-requires c κs = (c .before .before .before .before .before .before .before .before .before .before .before .before .before .before .before .before .before .pre .0, c .before .before .before .before .before .before .before .before .before .before .before .before .before .before .before .before .before .pre .1, c .before .before .before .before .before .before .before .before .before .before .before .before .before .before .before .before .before .pre .2, row-sound (c .before .before .before .before .before .unit-against .ensures) (c .before .before .before .before .before .before .before .before .before .before .before .before .before .before .before .before .before .pre .3), row-fit (c .before .before .before .before .before .unit-against .ensures) (c .before .before .before .before .before .before .before .before .before .before .before .before .before .before .before .before .before .pre .4), row-below (c .before .before .before .before .before .unit-against .ensures) (c .before .before .before .before .before .before .before .before .before .before .before .before .before .before .before .before .before .pre .5), row-left (c .before .before .before .before .before .unit-against .ensures) (c .before .before .before .before .before .before .before .before .before .before .before .before .before .before .before .before .before .pre .6))
 
 -- src/lib.rt:128:29
 enum-known-e : tie.Need-enum-known-e
