@@ -1,0 +1,9 @@
+pub mod Counts
+pub mod Lists
+pub mod StandTableSteps
+pub mod StandReferrers
+pub mod Rows
+pub mod Passes
+pub mod Leaves
+pub mod Shared
+pub mod Literal
