@@ -2,8 +2,10 @@ pub mod Counts
 pub mod Lists
 pub mod StandTableSteps
 pub mod StandReferrers
+pub mod StandLinkedRecipe
 pub mod Rows
 pub mod Passes
 pub mod Leaves
 pub mod Shared
 pub mod Literal
+pub mod Referrers

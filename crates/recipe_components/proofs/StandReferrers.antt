@@ -12,10 +12,9 @@ use Rattle.rules.specs.Basic.{pick, onSome}
 use Rattle.rules.specs.Words.{IntermediateTarget, targetStep, targetSection}
 use Rattle.rules.specs.Event.{Component, Intermediate, Event}
 use Rattle.rules.specs.Units.{NamedUnit}
-use Rattle.rules.specs.Modes.{Modes}
 use Rattle.rules.specs.Model.{Kind, ingredient, cookware, Target, toIngredient, toCookware, toStep, toSection, targetOf, Relation, definition, reference, Entry, entryWith, entryOf, setRelation, setModifiers}
 use Rattle.rules.specs.Reference.{Earlier, sameNameOf, entryAt, refersTo, asReferring, referredBy, setReferencedFrom, isDefinition}
-use Rattle.rules.specs.Checks.{resolveIntermediateRef, intermediateTarget, intermediateRelation}
+use Rattle.rules.specs.Checks.{intermediateTarget, intermediateRelation}
 use Rattle.rules.specs.State.{State, firstState, tableOf, going}
 use Rattle.rules.specs.Pass.{walk}
 use Rattle.rules.specs.Components.{Made, newEntry, foundSame, madeWith, madeByName, madeIntermediate, makeIngredient, referred, pushed, refersToReference}
@@ -60,7 +59,7 @@ pub record Linked (k : Kind) (es : List Entry) : Type 0 where
 
 -- ---- what refers
 
-own-target : (k : Kind) → isOwn k (targetOf k) ≡ true
+pub own-target : (k : Kind) → isOwn k (targetOf k) ≡ true
 unfolding isOwn targetOf
 own-target ingredient = refl
 own-target cookware = refl
@@ -372,7 +371,7 @@ module _ (units : List NamedUnit) (flags : ℕ) where
   unfolding makeIngredient madeIntermediate setRelation newEntry entryOf entryWith
   intermediate-linked c i st = made-intermediate (tableOf ingredient st) i _ _
 
-  made-linked : (k : Kind) (m : Made) (st : State) → MadeBy units flags st k m → refersToReference (m .refersTo) ≡ false
+  pub made-linked : (k : Kind) (m : Made) (st : State) → MadeBy units flags st k m → refersToReference (m .refersTo) ≡ false
       → MadeLinked k (tableOf k st) (m .entry .relation) (m .refersTo)
   made-linked k m st (by-name x c) n = by-name-linked x c st n
   made-linked k m st (by-place c i r) n = intermediate-linked c i st
