@@ -14,6 +14,7 @@ use Rattle.model.specs.declared.Held.{Held}
 use Rattle.component_records.specs.Records.{noComponent, componentIn, recordsIn}
 use Rattle.component_records.specs.Links.{isOwn, ownAt, ownCount}
 use Rattle.component_records.specs.declared.Component.{Component}
+use Rattle.component_records.proofs.Pairs.{count-snoc}
 use Rattle.recipe_components.specs.declared.Components.{Components}
 use Rattle.recipe_components.specs.declared.Components.the-variants.{Recipe, NoRecipe, Refused}
 use Rattle.recipe_components.specs.Components.{TableRoom}
@@ -51,12 +52,6 @@ own-few c = go (isOwn (c .relation .relation))
     go true = omega arith
     go false = omega arith
 
--- one record more
-pub own-more : (cs : List Component) (c : Component) → ownCount (cs ++ (c ∷ [])) ≡ ownCount cs + ownAt c
-unfolding ownCount
-own-more [] c = omega arith
-own-more (x ∷ xs) c = omega (arith, own-more xs c)
-
 -- ---- the loop over the rows
 pub own-start : (w : List ℕ) (from : ℕ) → OwnCounted w from 0 0
 unfolding recordsIn ownCount
@@ -68,7 +63,7 @@ unfolding recordsIn
 own-turn {w} {from} {count} {i} {n} {k} {c} o l e q =
     let d : c ≡ componentIn w from i = rw (lt-ltb i count l) at e in
     record {
-      is = rw (add-one i) (rw (o .is, q, d) (sym (own-more (recordsIn w from i) (componentIn w from i))));
+      is = rw (add-one i) (rw (o .is, q, d) (sym (count-snoc (recordsIn w from i) (componentIn w from i))));
       few = omega (arith, o .few, q, own-few c);
     }
 

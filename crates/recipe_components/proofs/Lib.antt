@@ -1,8 +1,4 @@
 pub mod Counts
-pub mod Lists
-pub mod StandTableSteps
-pub mod StandReferrers
-pub mod StandLinkedRecipe
 pub mod Rows
 pub mod Passes
 pub mod Leaves

@@ -18,6 +18,8 @@ use Rattle.rules.specs.State.{Tables, State, setKept, tableOf, report, Outcome,
 use Rattle.rules.specs.Pass.{isEmptySection, closeSection, ended, parseEvents}
 use Rattle.rules.specs.Answer.{wordsNeeded, bytesNeeded, isShort, collection, events, eventsOr, readSheet, unitsOr}
 use Rattle.rules.proofs.Basics.{pick-either, no-some, and-left, and-right}
+use Rattle.rules.proofs.Referrers.{Linked, walk-linked}
+use Rattle.rules.proofs.LinkedRecipe.{ownReferences}
 use Rattle.unicode.specs.Tables.{unicodeTables}
 use Rattle.inputs.specs.Inputs.{InputsChecked, GoodInputs}
 use Rattle.inputs.specs.declared.Inputs.{Inputs}
@@ -36,9 +38,8 @@ use Rattle.pass.specs.declared.Ran.{Ran}
 use Rattle.pass.specs.declared.Ran.the-variants as ran
 use Rattle.recipe_components.specs.declared.Components.{Components}
 use Rattle.recipe_components.specs.declared.Components.the-variants.{Recipe, NoRecipe, Refused}
-use Rattle.recipe_components.specs.Components.{RecordsOf, tablePairs, ownReferences, TableRoom, Room, tableFits, bothFit, countsOf, answerOf, tableLent, outcomeOf}
+use Rattle.recipe_components.specs.Components.{RecordsOf, tablePairs, TableRoom, Room, tableFits, bothFit, countsOf, answerOf, tableLent, outcomeOf}
 use Rattle.recipe_components.specs.Tables.{ingredientsOf, cookwareOf, Ready, isRoomFor, countsOr20, RowsOf, RowsCollected, Given}
-use Rattle.recipe_components.proofs.StandReferrers.{Linked, walk-linked}
 use Rattle.recipe_components.proofs.Rows.{tableIn, table-records, table-linkable, table-pairs, table-own}
 
 -- ---- no rows

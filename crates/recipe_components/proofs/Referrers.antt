@@ -4,33 +4,31 @@ use mathlib.Core.Path.{_≡_, refl, sym, ap, _∙_}
 use mathlib.Core.List.{List, [], _∷_, _++_, append-assoc}
 use mathlib.Core.Bool.{Bool, true, false, _&&_}
 use mathlib.Core.Option.{some}
-use native.Mathlib.Nat.{add-zero}
-use native.Mathlib.Numerals.{add-one}
+use native.Mathlib.Nat.{zero-add}
 use native.Mathlib.Omega.{arith}
 use lib.Dec.{eqb, ltb}
 use lib.ListN.{length, getD, replicate, length-append}
 use lib.Seq.{getD-at, getD-append-add}
 use Rattle.rules.specs.Basic.{pick}
-use Rattle.rules.specs.Model.{Kind, ingredient, cookware, Target, toIngredient, toCookware, toStep, toSection, Relation, definition, reference, Entry}
+use Rattle.rules.specs.Model.{Kind, ingredient, cookware, Relation, definition, reference, Entry}
 use Rattle.rules.specs.Reference.{entryAt, isDefinition, referrers}
 use Rattle.rules.specs.State.{State, tableOf, Outcome, recipe}
 use Rattle.rules.specs.Answer.{wordsNeeded, collection}
 use Rattle.rules.proofs.Basics.{pick-either, no-truth}
 use Rattle.rules.proofs.SimWalk.{no-recipe}
-use Rattle.recipe_components.proofs.StandReferrers as linked
-use Rattle.recipe_components.proofs.StandReferrers.{Linked, refersOwn, ownReferrers}
-use Rattle.recipe_components.proofs.StandLinkedRecipe.{collection-linked}
+use Rattle.rules.proofs.Referrers.{isOwn, Linked, refersOwn, ownReferrers}
+use Rattle.rules.proofs.LinkedRecipe.{collection-linked, isOwnReference, ownReferences}
 use Rattle.model.specs.Rows.{referrersIn, referrersFrom}
 use Rattle.model.proofs.Searches.{referrers-oldest}
 use Rattle.component_records.specs.declared.Component.{Component}
 use Rattle.recipe_components.specs.declared.Components.{Components}
 use Rattle.recipe_components.specs.declared.Components.the-variants.{Recipe, NoRecipe, Refused}
-use Rattle.recipe_components.specs.Components.{isOwn, pairOf, ownOne, tablePairs, ownReferences, Room, bothFit, countsOf, answerOf, tableLent, outcomeOf, ComponentsLeft}
+use Rattle.recipe_components.specs.Components.{pairOf, tablePairs, Room, bothFit, countsOf, answerOf, tableLent, outcomeOf, ComponentsLeft}
 
 -- ---- two numbers a pair
 
-pair-length : (k : Kind) (r : Relation) (i : ℕ) → length (pairOf k r i) ≡ ownOne k r * 2
-unfolding pairOf ownOne
+pair-length : (k : Kind) (r : Relation) (i : ℕ) → length (pairOf k r i) ≡ pick {X = ℕ} (isOwnReference k r) 1 0 * 2
+unfolding pairOf isOwnReference
 pair-length k (definition b by) i = refl
 pair-length k (reference t d) i = go (isOwn k t)
   where
@@ -47,17 +45,6 @@ pairs-length k (e ∷ es) =
 
 -- ---- the pairs of a definition, newest first
 
-same-own : (k : Kind) (t : Target) → linked.isOwn k t ≡ isOwn k t
-unfolding isOwn linked.isOwn
-same-own ingredient toIngredient = refl
-same-own ingredient toCookware = refl
-same-own ingredient toStep = refl
-same-own ingredient toSection = refl
-same-own cookware toIngredient = refl
-same-own cookware toCookware = refl
-same-own cookware toStep = refl
-same-own cookware toSection = refl
-
 -- one pair more
 module _ (d j i n : ℕ) (xs rest : List ℕ) (long : length xs ≡ n * 2) where
   pair-read : referrersIn (xs ++ (j ∷ i ∷ rest)) d (suc n) ≡ pick (eqb j d) (i ∷ referrersIn (xs ++ (j ∷ i ∷ rest)) d n) (referrersIn (xs ++ (j ∷ i ∷ rest)) d n)
@@ -70,24 +57,24 @@ module _ (d j i n : ℕ) (xs rest : List ℕ) (long : length xs ≡ n * 2) where
 
 module _ (k : Kind) (d : ℕ) (es : List Entry) (rest : List ℕ) where
   entry-pairs : ((rest′ : List ℕ) → referrersIn (tablePairs k es ++ rest′) d (ownReferences k es) ≡ ownReferrers k d es) → (r : Relation)
-      → referrersIn (tablePairs k es ++ (pairOf k r (length es) ++ rest)) d (ownReferences k es + ownOne k r)
+      → referrersIn (tablePairs k es ++ (pairOf k r (length es) ++ rest)) d (pick {X = ℕ} (isOwnReference k r) 1 0 + ownReferences k es)
       ≡ pick (refersOwn k d r) (length es ∷ ownReferrers k d es) (ownReferrers k d es)
-  unfolding pairOf ownOne refersOwn
-  entry-pairs ih (definition b by) = ap (λ (n : ℕ). referrersIn (tablePairs k es ++ rest) d n) (add-zero (ownReferences k es)) ∙ ih rest
-  entry-pairs ih (reference t j) = rw (same-own k t) (by (isOwn k t))
+  unfolding pairOf isOwnReference refersOwn
+  entry-pairs ih (definition b by) = ap (λ (n : ℕ). referrersIn (tablePairs k es ++ rest) d n) (zero-add (ownReferences k es)) ∙ ih rest
+  entry-pairs ih (reference t j) = by (isOwn k t)
     where
-      by : (b : Bool) → referrersIn (tablePairs k es ++ (pick b (j ∷ length es ∷ []) [] ++ rest)) d (ownReferences k es + pick {X = ℕ} b 1 0)
+      by : (b : Bool) → referrersIn (tablePairs k es ++ (pick b (j ∷ length es ∷ []) [] ++ rest)) d (pick {X = ℕ} b 1 0 + ownReferences k es)
           ≡ pick (b && eqb j d) (length es ∷ ownReferrers k d es) (ownReferrers k d es)
       by true =
-          ap (λ (n : ℕ). referrersIn (tablePairs k es ++ (j ∷ length es ∷ rest)) d n) (add-one (ownReferences k es))
+          ap (λ (n : ℕ). referrersIn (tablePairs k es ++ (j ∷ length es ∷ rest)) d n) (let z : 1 + ownReferences k es ≡ suc (ownReferences k es) = omega arith in z)
           ∙ pair-read d j (length es) (ownReferences k es) (tablePairs k es) rest (pairs-length k es) ∙ rw (ih (j ∷ length es ∷ rest))
-      by false = ap (λ (n : ℕ). referrersIn (tablePairs k es ++ rest) d n) (add-zero (ownReferences k es)) ∙ ih rest
+      by false = ap (λ (n : ℕ). referrersIn (tablePairs k es ++ rest) d n) (zero-add (ownReferences k es)) ∙ ih rest
 
 table-referrers : (k : Kind) (d : ℕ) (es : List Entry) (rest : List ℕ) → referrersIn (tablePairs k es ++ rest) d (ownReferences k es) ≡ ownReferrers k d es
 unfolding tablePairs ownReferences ownReferrers
 table-referrers k d [] rest = unfold referrersIn in refl
 table-referrers k d (e ∷ es) rest =
-    ap (λ (l : List ℕ). referrersIn l d (ownReferences k es + ownOne k (e .relation))) (append-assoc (tablePairs k es) (pairOf k (e .relation) (length es)) rest)
+    ap (λ (l : List ℕ). referrersIn l d (pick {X = ℕ} (isOwnReference k (e .relation)) 1 0 + ownReferences k es)) (append-assoc (tablePairs k es) (pairOf k (e .relation) (length es)) rest)
     ∙ entry-pairs k d es rest (λ rest′. table-referrers k d es rest′) (e .relation)
 
 -- the pairs of a table, whatever stands after them: the referrers of a definition, oldest first, are those that the rules keep

@@ -11,6 +11,8 @@ use Rattle.rules.specs.Basic.{pick}
 use Rattle.rules.specs.Model.{Kind, ingredient, cookware, toStep, toSection, Relation, definition, reference, targetOf, Entry, entryOf, setRelation, setModifiers}
 use Rattle.rules.specs.Reference.{entryAt, isDefinition}
 use Rattle.rules.proofs.Basics.{no-truth, some-inj}
+use Rattle.rules.proofs.Referrers.{isOwn, own-target, Linked, DefinedAt, entry-below}
+use Rattle.rules.proofs.LinkedRecipe.{isOwnReference, ownReferences}
 use Rattle.model.specs.Rows as rows
 use Rattle.model.specs.Rows.{rowAt, rowOf, modifiersIn, relationAs, relationIn, entryAs, referrersIn, entryIn, entriesIn}
 use Rattle.model.specs.Fits.{Fits, EachRow}
@@ -23,11 +25,9 @@ use Rattle.component_records.specs.Records.{noComponent, lentAs, lentRelation, 
 use Rattle.component_records.specs.Links as links
 use Rattle.component_records.specs.Links.{pairAt, pairsFrom, pairsOf, ownAt, ownCount, RefersBack, Linkable}
 use Rattle.component_records.specs.declared.Component.{Component}
-use Rattle.recipe_components.specs.Components.{relationRecordOf, modifiersOf, RecordOf, RecordsOf, isOwn, pairOf, ownOne, tablePairs, ownReferences}
-use Rattle.recipe_components.proofs.Counts.{own-more}
+use Rattle.recipe_components.specs.Components.{relationRecordOf, modifiersOf, RecordOf, RecordsOf, pairOf, tablePairs}
 use Rattle.component_records.proofs.Records.{length-records, getD-records}
-use Rattle.recipe_components.proofs.Lists.{pairs-more}
-use Rattle.recipe_components.proofs.StandReferrers.{Linked, DefinedAt, entry-below}
+use Rattle.component_records.proofs.Pairs.{count-snoc, pairs-snoc}
 
 -- ---- a row's window
 
@@ -66,11 +66,6 @@ module _ (k : Kind) (inStep : Bool) (index : ℕ) (by : List ℕ) where
   defines-is (Reference Step) q = no-truth q
   defines-is (Reference Section) q = no-truth q
 
-own-kind : (k : Kind) → isOwn k (targetOf k) ≡ true
-unfolding isOwn targetOf
-own-kind ingredient = refl
-own-kind cookware = refl
-
 no-step : (k : Kind) → isOwn k toStep ≡ false
 unfolding isOwn
 no-step ingredient = refl
@@ -85,14 +80,14 @@ module _ (k : Kind) (inStep : Bool) (index : ℕ) (by : List ℕ) (i : ℕ) wher
   pair-is : (x : memory.Relation) → pick (links.isOwn (lentAs x inStep index .relation)) (lentAs x inStep index .index ∷ i ∷ []) [] ≡ pairOf k (relationAs k x inStep index by) i
   unfolding lentAs relationAs pairOf
   pair-is Definition = refl
-  pair-is (Reference Ingredient) = rw (own-kind k)
+  pair-is (Reference Ingredient) = rw (own-target k)
   pair-is (Reference Step) = rw (no-step k)
   pair-is (Reference Section) = rw (no-section k)
 
-  one-is : (x : memory.Relation) → pick {X = ℕ} (links.isOwn (lentAs x inStep index .relation)) 1 0 ≡ ownOne k (relationAs k x inStep index by)
-  unfolding lentAs relationAs ownOne
+  one-is : (x : memory.Relation) → pick {X = ℕ} (links.isOwn (lentAs x inStep index .relation)) 1 0 ≡ pick {X = ℕ} (isOwnReference k (relationAs k x inStep index by)) 1 0
+  unfolding lentAs relationAs isOwnReference
   one-is Definition = refl
-  one-is (Reference Ingredient) = rw (own-kind k)
+  one-is (Reference Ingredient) = rw (own-target k)
   one-is (Reference Step) = rw (no-step k)
   one-is (Reference Section) = rw (no-section k)
 
@@ -119,7 +114,7 @@ module _ (k : Kind) (sheet : List ℕ) (r : Row) (by : List ℕ) where
   unfolding pairAt componentOf lentRelation entryAs setRelation setModifiers relationIn
   row-pair i = pair-is k (r .relation .«in_step») (r .relation .index) by i (r .relation .relation)
 
-  row-one : ownAt (componentOf r) ≡ ownOne k (entryAs k sheet r by .relation)
+  row-one : ownAt (componentOf r) ≡ pick {X = ℕ} (isOwnReference k (entryAs k sheet r by .relation)) 1 0
   unfolding ownAt componentOf lentRelation entryAs setRelation setModifiers relationIn
   row-one = one-is k (r .relation .«in_step») (r .relation .index) by 0 (r .relation .relation)
 
@@ -193,7 +188,7 @@ module _ (k : Kind) (sheet w : List ℕ) (from size : ℕ) (ps : List ℕ) (m : 
   unfolding recordsIn pairsOf pairsFrom tablePairs entriesIn entryIn
   table-pairs zero h = refl
   table-pairs (suc n) h =
-      pairs-more (recordsIn w from n) (componentIn w from n)
+      pairs-snoc (recordsIn w from n) (componentIn w from n)
       ∙ rw (table-pairs n (omega arith), length-records w from n, row-in k sheet w from size ps m (suc n) h n (omega arith), entries-length k sheet (take size (drop from w)) ps m n)
       (ap (λ (l : List ℕ). tablePairs k (tableIn k sheet w from size ps m n) ++ l) (row-pair k sheet (rowOf (rowAt 12 (take size (drop from w)) n)) (referrersIn ps n m) n))
 
@@ -201,5 +196,7 @@ module _ (k : Kind) (sheet w : List ℕ) (from size : ℕ) (ps : List ℕ) (m : 
   unfolding recordsIn ownCount ownReferences entriesIn entryIn
   table-own zero h = refl
   table-own (suc n) h =
-      own-more (recordsIn w from n) (componentIn w from n)
-      ∙ rw (table-own n (omega arith), row-in k sheet w from size ps m (suc n) h n (omega arith), row-one k sheet (rowOf (rowAt 12 (take size (drop from w)) n)) (referrersIn ps n m))
+      let a = count-snoc (recordsIn w from n) (componentIn w from n) in
+      let b = ap ownAt (row-in k sheet w from size ps m (suc n) h n (omega arith)) ∙ row-one k sheet (rowOf (rowAt 12 (take size (drop from w)) n)) (referrersIn ps n m) in
+      let c = table-own n (omega arith) in
+      omega (arith, a, b, c)

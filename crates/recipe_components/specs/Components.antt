@@ -1,6 +1,6 @@
 -- What `collect_components` answers and lends, read off the rules: how many ingredients and pieces of cookware the recipe has,
 -- a record for each, and the pairs of a definition and its referrer.
-use Prim.Native.Nat.{ℕ, _+_, _-_, _*_, _≤_}
+use Prim.Native.Nat.{ℕ, _-_, _*_, _≤_}
 use mathlib.Core.Path.{_≡_}
 use mathlib.Core.List.{List, [], _∷_, _++_}
 use mathlib.Core.Bool.{Bool, true, false, _&&_}
@@ -12,11 +12,13 @@ use Rattle.rules.specs.Basic.{pick, onSome, lf}
 use Rattle.rules.specs.Text.{retain}
 use Rattle.rules.specs.Event.{Modifiers}
 use Rattle.rules.specs.Read.{contentOf, parseLine}
-use Rattle.rules.specs.Model.{Kind, ingredient, cookware, Target, toIngredient, toCookware, toStep, toSection, Relation, definition, reference, Entry, entryOf, setRelation, setModifiers}
+use Rattle.rules.specs.Model.{Kind, ingredient, cookware, toIngredient, toCookware, toStep, toSection, Relation, definition, reference, Entry, entryOf, setRelation, setModifiers}
 use Rattle.rules.specs.Reference.{entryAt}
 use Rattle.rules.specs.State.{State, tableOf, Outcome, recipe, noRecipe, refusal}
 use Rattle.rules.specs.Answer.{wordsNeeded, collection, workAfter}
 use Rattle.rules.proofs.Fields.{Without}
+use Rattle.rules.proofs.Referrers.{isOwn}
+use Rattle.rules.proofs.LinkedRecipe.{ownReferences}
 use Rattle.model.specs.Rows.{componentOfLine}
 use Rattle.model.specs.Fits.{isOfKind}
 use Rattle.model.specs.declared.Target.the-variants.{Ingredient, Step, Section}
@@ -69,34 +71,15 @@ pub record RecordsOf (k : Kind) (sheet : List ℕ) (es : List Entry) (cs : List 
 
 -- ---- pairs: a definition's index and that of an entry of the same table that refers to it, in the order of the referrers
 
-unfoldable pub isOwn : Kind → Target → Bool
-isOwn ingredient toIngredient = true
-isOwn ingredient toCookware = false
-isOwn ingredient toStep = false
-isOwn ingredient toSection = false
-isOwn cookware toIngredient = false
-isOwn cookware toCookware = true
-isOwn cookware toStep = false
-isOwn cookware toSection = false
-
 -- of the entry at i
 unfoldable pub pairOf : Kind → Relation → ℕ → List ℕ
 pairOf k (definition inStep by) i = []
 pairOf k (reference t d) i = pick (isOwn k t) (d ∷ i ∷ []) []
 
-unfoldable pub ownOne : Kind → Relation → ℕ
-ownOne k (definition inStep by) = 0
-ownOne k (reference t d) = pick (isOwn k t) 1 0
-
-module _ (k : Kind) where
-  unfoldable pub tablePairs : List Entry → List ℕ
-  tablePairs [] = []
-  tablePairs (e ∷ es) = tablePairs es ++ pairOf k (e .relation) (length es)
-
-  -- how many they are
-  unfoldable pub ownReferences : List Entry → ℕ
-  ownReferences [] = 0
-  ownReferences (e ∷ es) = ownReferences es + ownOne k (e .relation)
+-- the newest entry's comes last
+unfoldable pub tablePairs : Kind → List Entry → List ℕ
+tablePairs k [] = []
+tablePairs k (e ∷ es) = tablePairs k es ++ pairOf k (e .relation) (length es)
 
 -- ---- what is lent: records, and words for pairs, of each kind; words of work memory
 
@@ -136,7 +119,7 @@ tableLent m k (refusal n l) = []
 
 -- of everything that is given: 1 also where work memory is short, as for `collect`
 unfoldable pub outcomeOf : List ℕ → List ℕ → List ℕ → ℕ → Room → Outcome
-outcomeOf sheet text units flags m = pick (ltb (m .words) wordsNeeded) (refusal 1 0) (collection sheet text units flags)
+outcomeOf sheet text units flags m = pick (ltb (m .words) wordsNeeded) (refusal 20 0) (collection sheet text units flags)
 
 -- ---- what `collect_components` leaves
 
