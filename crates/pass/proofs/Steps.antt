@@ -6,8 +6,7 @@ use mathlib.Core.Bool.{Bool, true, false}
 use native.Mathlib.Omega.{arith}
 use Rattle.rules.specs.Basic.{pick}
 use Rattle.rules.specs.Units.{NamedUnit}
-use Rattle.rules.specs.Model.{Kind, ingredient, cookware}
-use Rattle.rules.specs.State.{State, tableOf, overLimits, Step, next, stop, going, refused}
+use Rattle.rules.specs.State.{State, overLimits, Step, next, stop, going, refused}
 use Rattle.rules.specs.Pass.{settle, onEvent, step}
 use Rattle.rules.proofs.Chained as chained
 use Rattle.events.specs.Views.{eventIn}
@@ -68,10 +67,6 @@ unfolding blankStep
 after-counted n (stop m) x e p = no-step e
 after-counted n (next st) x e p = subst (Counted n) (sym (next-inj e)) (counted-blank st p)
 
-state-sound : (st : State) → ((k : Kind) → chained.Sound (tableOf k st)) → chained.SoundState st
-unfolding tableOf
-state-sound st d = (d ingredient, d cookware)
-
 module _ {us : List NamedUnit} {flags : ℕ} {sheet line w₀ w : List ℕ} {v : EventView} {h₀ : Held} where
   pub step-failed : {end : ℕ} {o : Bool} → ErrorView v o → o ≡ true → StepDone us flags sheet line end v w₀ h₀ w walked.Failed
   unfolding WalkedAs
@@ -109,7 +104,7 @@ module _ {us : List NamedUnit} {flags : ℕ} {sheet line w₀ w : List ℕ} {v :
 
       running-after : {at end : ℕ} → b ≡ false → EventHere sheet line at end v → Running sheet w₀ h₀ at → Running sheet w k (end + 1)
       running-after {at} t z g =
-          let s = after-sound _ (stateIn sheet w k) (after []) (chained.event-sound [] us flags (eventIn line v) (stateIn sheet w₀ h₀) (state-sound _ (g .kept .definitions))) in
+          let s = after-sound _ (stateIn sheet w k) (after []) (chained.event-sound [] us flags (eventIn line v) (stateIn sheet w₀ h₀) (chained.state-sound _ (g .kept .definitions))) in
           let c = after-counted (suc at) _ (stateIn sheet w k) (after []) (event-counted [] us flags (eventIn line v) (stateIn sheet w₀ h₀) (g .counted)) in
           record {
             kept = record { sound = sound-after (d .at [] .sound); fit = fit-after (d .at [] .fit); definitions = λ x. chained.table-sound x (stateIn sheet w k) s; limits = sym (l .is sheet w) ∙ t };

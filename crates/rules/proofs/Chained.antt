@@ -1,23 +1,21 @@
 -- In every state that the pass reaches an entry without REF is a definition; so no walk is refused with 18.
-use Prim.Native.Nat.{ℕ, suc}
+use Prim.Native.Nat.{ℕ}
 use mathlib.Core.Path.{_≡_, refl, sym, ap, _∙_, subst}
 use mathlib.Core.List.{List, [], _∷_}
-use mathlib.Core.Bool.{Bool, true, false, not}
+use mathlib.Core.Bool.{Bool, true, false}
 use mathlib.Core.Option.{Option, none, some}
 use lib.Dec.{eqb}
 use lib.ListN.{length}
-use Rattle.rules.specs.Basic.{pick}
-use Rattle.rules.specs.Words.{stepKind, textKind, defineKey, duplicateKey, DefineMode, DuplicateMode}
-use Rattle.rules.specs.Event.{Text, Component, Intermediate, ComponentEvent, ingredientEvent, cookwareEvent, timerEvent, Between, metaEvent, sectionEvent, startEvent, Inside, endEvent, textEvent, componentEvent, Event, between, inside, parserEvent}
+use Rattle.rules.specs.Event.{Component, Intermediate, Event}
 use Rattle.rules.specs.Units.{NamedUnit}
-use Rattle.rules.specs.Modes.{Modes, isComponents, Key, config, unknownConfig, ordinary}
-use Rattle.rules.specs.Model.{Kind, ingredient, cookware, withRef, Relation, definition, reference, Entry, Item, entryWith, entryOf, setRelation, setModifiers}
+use Rattle.rules.specs.Modes.{Modes}
+use Rattle.rules.specs.Model.{Kind, ingredient, cookware, withRef, Relation, definition, reference, Entry, entryWith, entryOf, setRelation, setModifiers}
 use Rattle.rules.specs.Reference.{Earlier, fits, sameNameIn, sameNameOf, treatAsReference, refersTo, asReferring, referredBy, setReferencedFrom, isDefinition}
-use Rattle.rules.specs.State.{Open, noBlock, stepOpen, textOpen, textModeOpen, State, firstState, setModes, setMetadata, setPlace, setBlock, setKept, setTables, tableOf, setTable, setTimers, setInline, report, overLimits, Step, next, stop, Walk, going, failed, refused}
-use Rattle.rules.specs.Metadata.{storeMeta, onDefine, onDuplicate, onKey, onMetadata}
-use Rattle.rules.specs.Components.{Made, newEntry, foundSame, madeWith, madeByName, madeIntermediate, makeIngredient, makeCookware, intermediateFault, referred, pushed, refersToReference}
-use Rattle.rules.specs.Pass.{isOpen, isEmptySection, closeSection, onSection, keepBlock, closeText, closeStep, pushItems, pushPieces, pushComponent, unlessChained, unlessFault, textInStep, pushTimer, onMade, onComponent, inStepBlock, inTextBlock, componentInText, inTextMode, isErrorEvent, settle, onInside, onBetween, onEvent, step, walk}
+use Rattle.rules.specs.State.{State, firstState, tableOf, Step, next, stop, going, refused}
+use Rattle.rules.specs.Components.{Made, newEntry, foundSame, madeWith, madeByName, madeIntermediate, makeIngredient, referred, pushed, refersToReference}
+use Rattle.rules.specs.Pass.{onEvent, walk}
 use Rattle.rules.proofs.Basics.{pick-either, no-some, no-truth, some-inj}
+use Rattle.rules.proofs.TableSteps.{MadeBy, by-name, by-place, TablesAfter, line-stops, line-chains, event-tables, OnStep, OnWalk, walk-keeps, Onward, line-related}
 
 pub data Sound : List Entry → Type 0 where
   sound-none : Sound []
@@ -93,56 +91,23 @@ pushed-sound m es h s = sound-more (h .entry-is) (referred-sound (m .refersTo) s
 abbrev pub SoundState : State → Type 0
 SoundState st = Sound (st .tables .ingredients) × Sound (st .tables .cookware)
 
+-- no line is refused with 18
+abbrev NotChained : ℕ → Type 0
+NotChained n = eqb n 18 ≡ false
+
 abbrev pub SoundStep : Step → Type 0
-SoundStep (next st) = SoundState st
-SoundStep (stop n) = eqb n 18 ≡ false
+SoundStep s = OnStep SoundState NotChained s
+
+pub state-sound : (st : State) → ((k : Kind) → Sound (tableOf k st)) → SoundState st
+unfolding tableOf
+state-sound st s = (s ingredient, s cookware)
 
 pub table-sound : (k : Kind) (st : State) → SoundState st → Sound (tableOf k st)
 unfolding tableOf
 table-sound ingredient st s = s .0
 table-sound cookware st s = s .1
 
-push-sound : (k : Kind) (m : Made) (is : List Item) (st : State) → SoundMade m → SoundState st → SoundState (pushComponent k m is st)
-unfolding pushComponent pushItems setTable setTables tableOf report setBlock setPlace setKept
-push-sound ingredient m is st h s = (pushed-sound m (st .tables .ingredients) h (s .0), s .1)
-push-sound cookware m is st h s = (s .0, pushed-sound m (st .tables .cookware) h (s .1))
-
-chained-sound : (m : Made) (st : State) → SoundMade m → SoundState st → SoundStep (unlessChained m st)
-unfolding unlessChained
-chained-sound m st h s = rw (h .to-is) s
-
--- ---- lines between blocks
-
-define-sound : (k v : Text) (o : Option DefineMode) (st : State) → SoundState st → SoundState (onDefine k v o st)
-unfolding onDefine report setModes
-define-sound k v none st s = s
-define-sound k v (some m) st s = s
-
-duplicate-sound : (k v : Text) (o : Option DuplicateMode) (st : State) → SoundState st → SoundState (onDuplicate k v o st)
-unfolding onDuplicate report setModes
-duplicate-sound k v none st s = s
-duplicate-sound k v (some m) st s = s
-
-key-sound : (key : Key) (k v : Text) (st : State) → SoundState st → SoundState (onKey key k v st)
-unfolding onKey storeMeta setMetadata report
-key-sound (config defineKey) k v st s = define-sound k v _ st s
-key-sound (config duplicateKey) k v st s = duplicate-sound k v _ st s
-key-sound unknownConfig k v st s = s
-key-sound ordinary k v st s = s
-
-section-sound : (name : Option Text) (st : State) → SoundState st → SoundState (onSection name st)
-unfolding onSection closeSection setPlace setKept
-section-sound name st s = pick-either SoundState (isEmptySection (st .place .section)) _ _ (λ b. s) (λ b. s)
-
 module _ (text : List ℕ) (units : List NamedUnit) (flags : ℕ) where
-  between-sound : (b : Between) (st : State) → SoundState st → SoundState (onBetween text units flags b st)
-  unfolding onBetween onMetadata setBlock setPlace
-  between-sound (metaEvent k v) st s = key-sound _ k v st s
-  between-sound (sectionEvent n) st s = section-sound n st s
-  between-sound (startEvent k) st s = s
-
-  -- ---- lines in a step
-
   pub by-name-sound : (k : Kind) (c : Component) (st : State) → Sound (tableOf k st) → SoundMade (madeByName units flags k c st)
   unfolding madeByName madeWith
   by-name-sound k c st s =
@@ -153,88 +118,42 @@ module _ (text : List ℕ) (units : List NamedUnit) (flags : ℕ) where
   unfolding makeIngredient madeIntermediate setRelation newEntry entryOf entryWith refersToReference
   intermediate-sound c i st r = record { entry-is = λ q. no-truth (sym q ∙ r); to-is = refl }
 
-  made-sound : (k : Kind) (m : Made) (is : List Item) (st : State) → SoundMade m → SoundState st → SoundStep (onMade units flags k m is st)
-  unfolding onMade
-  made-sound k m is st h s = chained-sound m _ h (push-sound k m is st h s)
+  made-sound : (k : Kind) (m : Made) (st : State) → MadeBy units flags st k m → Sound (tableOf k st) → SoundMade m
+  made-sound k m st (by-name x c) s = by-name-sound x c st s
+  made-sound k m st (by-place c i r) s = intermediate-sound c i st r
 
-  ingredient-sound : (c : Component) (i : Option Intermediate) (is : List Item) (st : State) → SoundState st
-      → SoundStep (unlessFault (intermediateFault c i) (onMade units flags ingredient (makeIngredient units flags c i st) is st))
-  unfolding intermediateFault unlessFault
-  ingredient-sound c none is st s =
-      made-sound ingredient _ is st (unfold makeIngredient in by-name-sound ingredient c st (table-sound ingredient st s)) s
-  ingredient-sound c (some i) is st s = go (c .modifiers .ref) refl (i .value .negative)
-    where
-      go : (b : Bool) → c .modifiers .ref ≡ b → (n : Bool)
-          → SoundStep (unlessFault (pick {X = Option ℕ} (not b) (some 15) (pick n (some 16) none))
-          (onMade units flags ingredient (makeIngredient units flags c (some i) st) is st))
-      go false r n = refl
-      go true r true = refl
-      go true r false = made-sound ingredient (makeIngredient units flags c (some i) st) is st (intermediate-sound c i st r) s
+  -- ---- every line, and the walk
 
-  component-sound : (c : ComponentEvent) (is : List Item) (st : State) → SoundState st → SoundStep (onComponent units flags c is st)
-  unfolding onComponent makeCookware pushTimer pushItems report setBlock setPlace setKept setTimers setTables
-  component-sound (ingredientEvent c i) is st s = ingredient-sound c i is st s
-  component-sound (cookwareEvent c) is st s = made-sound cookware _ is st (by-name-sound cookware c st (table-sound cookware st s)) s
-  component-sound (timerEvent a n q) is st s = s
+  abbrev SoundAfter : Kind → List Entry → List Entry → Type 0
+  SoundAfter k es fs = Sound es → Sound fs
 
-  in-step-sound : (e : Inside) (is : List Item) (st : State) → SoundState st → SoundStep (inStepBlock units flags e is st)
-  unfolding inStepBlock closeStep keepBlock textInStep pushPieces pushItems setInline report setBlock setPlace setKept setTables
-  in-step-sound (endEvent stepKind) is st s = pick-either SoundState (isComponents (st .modes .define)) _ _ (λ b. s) (λ b. s)
-  in-step-sound (endEvent textKind) is st s = refl
-  in-step-sound (textEvent t) is st s = pick-either SoundState (isComponents (st .modes .define)) _ _ (λ b. s) (λ b. s)
-  in-step-sound (componentEvent c) is st s = component-sound c is st s
-
-  -- ---- every line
-
-  inside-sound : (e : Inside) (o : Open) (st : State) → SoundState st → SoundStep (onInside text units flags e o st)
-  unfolding onInside inTextBlock inTextMode closeText keepBlock componentInText report setBlock setPlace setKept
-  inside-sound e noBlock st s = refl
-  inside-sound e (stepOpen is) st s = in-step-sound e is st s
-  inside-sound (endEvent stepKind) (textOpen ts) st s = refl
-  inside-sound (endEvent textKind) (textOpen ts) st s = s
-  inside-sound (textEvent t) (textOpen ts) st s = s
-  inside-sound (componentEvent c) (textOpen ts) st s = refl
-  inside-sound (endEvent k) (textModeOpen ts) st s = s
-  inside-sound (textEvent t) (textModeOpen ts) st s = s
-  inside-sound (componentEvent c) (textModeOpen ts) st s = s
+  sound-onward : Onward units flags SoundAfter
+  sound-onward =
+      record {
+        same = λ k es s. s;
+        further = λ f g s. g (f s);
+        more = λ k m st h n s. pushed-sound m (tableOf k st) (made-sound k m st h s) s;
+      }
 
   pub event-sound : (e : Event) (st : State) → SoundState st → SoundStep (onEvent text units flags e st)
-  unfolding onEvent report
-  event-sound (between b) st s = pick-either SoundStep (isOpen (st .place .block)) _ _ (λ h. refl) (λ h. between-sound b st s)
-  event-sound (inside i) st s = inside-sound i (st .place .block) st s
-  event-sound (parserEvent x n) st s = s
-
-  -- ---- the walk
-
-  abbrev pub SoundWalk : Walk → Type 0
-  SoundWalk (going st) = SoundState st
-  SoundWalk (failed fs) = Unit {0}
-  SoundWalk (refused n l) = eqb n 18 ≡ false
-
-  settle-sound : (line : ℕ) (s : Step) → SoundStep s → SoundWalk (settle line s)
-  unfolding settle
-  settle-sound line (next st) s = pick-either SoundWalk (overLimits st) _ _ (λ b. refl) (λ b. s)
-  settle-sound line (stop n) s = s
-
-  step-sound : (line : ℕ) (e : Event) (w : Walk) → SoundWalk w → SoundWalk (step text units flags line e w)
-  unfolding step
-  step-sound line e (going st) s = pick-either SoundWalk (isErrorEvent e) _ _ (λ b. tt) (λ b. settle-sound line _ (event-sound e st s))
-  step-sound line e (failed fs) s = tt
-  step-sound line e (refused n l) s = s
-
-  pub walk-sound : (es : List Event) (line : ℕ) (w : Walk) → SoundWalk w → SoundWalk (walk text units flags line w es)
-  unfolding walk
-  walk-sound [] line w s = s
-  walk-sound (e ∷ es) line w s = walk-sound es (suc line) (step text units flags line e w) (step-sound line e w s)
+  event-sound e st s = go (onEvent text units flags e st) (event-tables text units flags st e)
+    where
+      go : (a : Step) → TablesAfter units flags st a → SoundStep a
+      go (next after) t = state-sound after (λ k. line-related units flags SoundAfter sound-onward st (next after) t k (table-sound k st s))
+      go (stop n) (line-stops h) = h
+      go (stop n) (line-chains k m h b) = no-truth (sym (made-sound k m st h (table-sound k st s) .to-is) ∙ b)
 
   pub first-sound : SoundState firstState
   unfolding firstState
   first-sound = (sound-none, sound-none)
 
+  walk-sound : (es : List Event) → OnWalk SoundState NotChained (walk text units flags 1 (going firstState) es)
+  walk-sound es = walk-keeps SoundState NotChained text units flags refl event-sound es 1 (going firstState) first-sound
+
   -- in every state that the pass reaches, an entry without REF is a definition
   pub pass-sound : (es : List Event) (st : State) → walk text units flags 1 (going firstState) es ≡ going st → (k : Kind) → Sound (tableOf k st)
-  pass-sound es st q k = table-sound k st (subst SoundWalk q (walk-sound es 1 (going firstState) first-sound))
+  pass-sound es st q k = table-sound k st (subst (OnWalk SoundState NotChained) q (walk-sound es))
 
   -- no walk is refused with 18
   pub pass-never-18 : (es : List Event) (n l : ℕ) → walk text units flags 1 (going firstState) es ≡ refused n l → eqb n 18 ≡ false
-  pass-never-18 es n l q = subst SoundWalk q (walk-sound es 1 (going firstState) first-sound)
+  pass-never-18 es n l q = subst (OnWalk SoundState NotChained) q (walk-sound es)

@@ -13,7 +13,9 @@ pub mod Insides
 pub mod Escaped
 pub mod SameChars
 pub mod Walks
+pub mod TableSteps
 pub mod Chained
+pub mod Referrers
 pub mod Sim
 pub mod Search
 pub mod Parts
@@ -41,3 +43,4 @@ pub mod Answers
 pub mod Lost
 pub mod Refusals
 pub mod Limits
+pub mod LinkedRecipe
