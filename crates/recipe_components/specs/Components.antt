@@ -69,7 +69,8 @@ pub record RecordsOf (k : Kind) (sheet : List ℕ) (es : List Entry) (cs : List 
   pub long : length cs ≡ length es
   pub at : (i : ℕ) (e : Entry) → entryAt i es ≡ some e → RecordOf k sheet e (getD cs i noComponent)
 
--- ---- pairs: a definition's index and that of an entry of the same table that refers to it, in the order of the referrers
+-- ---- pairs: a definition's index and that of an entry of the same table that refers to it, in the order of the referrers.
+-- `ownReferences` counts them, `isOwn` tells a reference to the same table
 
 -- of the entry at i
 unfoldable pub pairOf : Kind → Relation → ℕ → List ℕ
@@ -119,7 +120,7 @@ tableLent m k (refusal n l) = []
 
 -- of everything that is given: 1 also where work memory is short, as for `collect`
 unfoldable pub outcomeOf : List ℕ → List ℕ → List ℕ → ℕ → Room → Outcome
-outcomeOf sheet text units flags m = pick (ltb (m .words) wordsNeeded) (refusal 20 0) (collection sheet text units flags)
+outcomeOf sheet text units flags m = pick (ltb (m .words) wordsNeeded) (refusal 1 0) (collection sheet text units flags)
 
 -- ---- what `collect_components` leaves
 
