@@ -47,6 +47,11 @@ pub length-pairs : (cs : List Component) → length (pairsOf cs) ≡ ownCount cs
 unfolding pairsOf
 length-pairs cs = length-from 0 cs
 
+pub count-le : (cs : List Component) → ownCount cs ≤ length cs
+unfolding ownCount
+count-le [] = omega arith
+count-le (c ∷ cs) = let o = own-one c in let h = count-le cs in omega (arith, o, h)
+
 -- ---- one record more
 pub count-snoc : (cs : List Component) (c : Component) → ownCount (cs ++ (c ∷ [])) ≡ ownCount cs + ownAt c
 unfolding ownCount

@@ -1,7 +1,6 @@
 // The component records of a recipe, lent as slices of structs: records after the pass, and pairs of a definition and its
 // referrer.
 ghost use mathlib.Core.Path.{_≡_};
-ghost use mathlib.Core.Bool.{true};
 ghost use mathlib.Core.List.{_++_};
 ghost use Prim.Native.Nat.{_+_, _-_, _*_, _<_, _≤_};
 ghost use lib.Dec.{ltb};
@@ -54,7 +53,7 @@ pub fn no_component() -> Component
 }
 
 // A definition has no index, and a reference does not say whether it stands in a step.
-pub fn lent_relation(g: RelationRecord) -> RelationRecord
+fn lent_relation(g: RelationRecord) -> RelationRecord
     ensures { λ r. ⌜ r ≡ lentRelation g ⌝ }
 {
     let k = g.relation;
@@ -126,7 +125,7 @@ pub fn lend_records(words: &[u32], from: usize, count: usize, all: &mut [Compone
 pub enum Linked {
     // The pair stands.
     Pair,
-    // What is referred to is itself a reference.
+    // What is referred to is itself a reference: the Rust's panic, refusal 18.
     Reference,
 }
 
@@ -170,7 +169,7 @@ pub fn set_referenced_from(
 }
 
 // Whether a component refers to one of its own kind.
-pub fn is_own_reference(g: RelationRecord) -> bool
+fn is_own_reference(g: RelationRecord) -> bool
     ensures { λ r. ⌜ r ≡ isOwn (g .relation) ⌝ }
 {
     let k = g.relation;
@@ -185,7 +184,7 @@ pub fn is_own_reference(g: RelationRecord) -> bool
 }
 
 // The place of the next pair.
-pub fn place_after(l: Linked, n: usize) -> usize
+fn place_after(l: Linked, n: usize) -> usize
     requires { ⌜ n < 513 ⌝ }
     ensures { λ r. ⌜ r ≡ placeAfter l n ⌝ }
 {
@@ -196,7 +195,7 @@ pub fn place_after(l: Linked, n: usize) -> usize
 }
 
 // The pair of the component at i, at n, where it has one; the place of the next pair.
-pub fn link_record(all: &mut [Component], i: usize, pairs: &mut [u32], n: usize) -> usize
+fn link_record(all: &mut [Component], i: usize, pairs: &mut [u32], n: usize) -> usize
     requires { ⌜ (i < length (now all)) × (i < 513) × (n < 513) × LinkableAt (now all) i n (length (now pairs)) ⌝ }
     ensures { λ r. ⌜ (now (all .exit) ≡ now (all .entry))
         × (now (pairs .exit) ≡ sets (now (pairs .entry)) (n * 2) (pairAt i (getD (now (all .entry)) i noComponent)))
