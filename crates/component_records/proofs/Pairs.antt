@@ -53,7 +53,7 @@ count-le [] = omega arith
 count-le (c ∷ cs) = let o = own-one c in let h = count-le cs in omega (arith, o, h)
 
 -- ---- one record more
-count-snoc : (cs : List Component) (c : Component) → ownCount (cs ++ (c ∷ [])) ≡ ownCount cs + ownAt c
+pub count-snoc : (cs : List Component) (c : Component) → ownCount (cs ++ (c ∷ [])) ≡ ownCount cs + ownAt c
 unfolding ownCount
 count-snoc [] c = add-zero (ownAt c) ∙ sym (zero-add (ownAt c))
 count-snoc (d ∷ cs) c = let h = count-snoc cs c in omega (arith, h)
@@ -65,6 +65,10 @@ from-snoc k (d ∷ cs) c =
     let e : suc k + length cs ≡ k + suc (length cs) = omega arith in
     ap (λ (l : List ℕ). pairAt k d ++ l) (from-snoc (suc k) cs c ∙ ap (λ (j : ℕ). pairsFrom (suc k) cs ++ pairAt j c) e)
     ∙ sym (append-assoc (pairAt k d) (pairsFrom (suc k) cs) (pairAt (k + suc (length cs)) c))
+
+pub pairs-snoc : (cs : List Component) (c : Component) → pairsOf (cs ++ (c ∷ [])) ≡ pairsOf cs ++ pairAt (length cs) c
+unfolding pairsOf
+pairs-snoc cs c = from-snoc 0 cs c ∙ ap (λ (j : ℕ). pairsFrom 0 cs ++ pairAt j c) (zero-add (length cs))
 
 -- ---- the loop
 module _ (all : List Component) where

@@ -169,7 +169,7 @@ pub fn set_referenced_from(
 }
 
 // Whether a component refers to one of its own kind.
-fn is_own_reference(g: RelationRecord) -> bool
+pub fn is_own_reference(g: RelationRecord) -> bool
     ensures { λ r. ⌜ r ≡ isOwn (g .relation) ⌝ }
 {
     let k = g.relation;

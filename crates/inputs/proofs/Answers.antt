@@ -110,23 +110,28 @@ module _ (sheet text units : List ℕ) (flags : ℕ) (m : Lent) where
   unfolding isShort
   short-lent = refl
 
-  refused-answer : {n l : ℕ} (a : Answer) → (filesFault sheet text units flags ≡ some (n, l) → a ≡ declined n l)
-      → inputsFault sheet text units flags (m .words) (m .bytes) ≡ some (n, l) → pick (isShort m) (declined 1 0) a ≡ declined n l
-  refused-answer {n} {l} a f e = by (isShort m) (rw (fault-split sheet text units flags (m .words) (m .bytes), ← short-lent) at e)
+  refused-as : {X : Type 0} {n l : ℕ} (f : ℕ → ℕ → X) (a : X) → (filesFault sheet text units flags ≡ some (n, l) → a ≡ f n l)
+      → inputsFault sheet text units flags (m .words) (m .bytes) ≡ some (n, l) → pick (isShort m) (f 1 0) a ≡ f n l
+  refused-as {n = n} {l = l} f a g e = by (isShort m) (rw (fault-split sheet text units flags (m .words) (m .bytes), ← short-lent) at e)
     where
-      by : (b : Bool) → pick b (refused 1) (filesFault sheet text units flags) ≡ some (n, l) → pick b (declined 1 0) a ≡ declined n l
-      by true q = unfold refused in ap (λ (p : ℕ × ℕ). declined (p .0) (p .1)) (some-inj q)
-      by false q = f q
+      by : (b : Bool) → pick b (refused 1) (filesFault sheet text units flags) ≡ some (n, l) → pick b (f 1 0) a ≡ f n l
+      by true q = unfold refused in ap (λ (p : ℕ × ℕ). f (p .0) (p .1)) (some-inj q)
+      by false q = g q
+
+  -- what the whole comes to
+  pub refused-outcome : {n l : ℕ} → inputsFault sheet text units flags (m .words) (m .bytes) ≡ some (n, l)
+      → pick (isShort m) (refusal 1 0) (collection sheet text units flags) ≡ refusal n l
+  refused-outcome e = refused-as refusal _ (λ q. collection-refused sheet text units flags q) e
 
   pub refused-collect : {n l : ℕ} → inputsFault sheet text units flags (m .words) (m .bytes) ≡ some (n, l)
       → collectAnswer sheet text units flags m ≡ declined n l
   unfolding collectAnswer written
-  refused-collect e = refused-answer _ (λ q. rw (collection-refused sheet text units flags q)) e
+  refused-collect e = refused-as declined _ (λ q. rw (collection-refused sheet text units flags q)) e
 
   pub refused-plain : {n l : ℕ} → inputsFault sheet text units flags (m .words) (m .bytes) ≡ some (n, l)
       → plainAnswer sheet text units flags m ≡ declined n l
   unfolding plainAnswer plainOf
-  refused-plain e = refused-answer _ (λ q. rw (collection-refused sheet text units flags q)) e
+  refused-plain e = refused-as declined _ (λ q. rw (collection-refused sheet text units flags q)) e
 
 -- ---- good
 or-left : (a b : Bool) → (a || b) ≡ false → a ≡ false
