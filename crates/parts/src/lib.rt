@@ -123,8 +123,7 @@ pub enum GotNumber {
     Ill,
 }
 
-// A number, digit by digit.
-fn far_number(line: &[u8], at: usize) -> GotNumber
+pub fn read_number(line: &[u8], at: usize) -> GotNumber
     ensures { λ r. ⌜ NumberRead (now (line .entry)) at r ⌝ }
 {
     if line.len() <= at {
@@ -226,33 +225,9 @@ fn near_number(line: &[u8], at: usize) -> GotNumber
     number_end(y, q, x + 1)
 }
 
-pub fn read_number(line: &[u8], at: usize) -> GotNumber
-    ensures { λ r. ⌜ NumberRead (now (line .entry)) at r ⌝ }
-{
-    if at < line.len() {
-        if 5 < line.len() - at {
-            return near_number(line, at);
-        }
-    }
-    far_number(line, at)
-}
-
 pub enum GotSpan {
     Got(Span, usize),
     Ill,
-}
-
-// A span, digit by digit.
-fn far_span(line: &[u8], at: usize) -> GotSpan
-    ensures { λ r. ⌜ SpanRead (now (line .entry)) at r ⌝ }
-{
-    let GotNumber::Got(start, a1) = far_number(line, at) else {
-        return GotSpan::Ill;
-    };
-    let GotNumber::Got(end, a2) = far_number(line, a1) else {
-        return GotSpan::Ill;
-    };
-    GotSpan::Got(Span { start, end }, a2)
 }
 
 pub fn read_span(line: &[u8], at: usize) -> GotSpan
@@ -269,7 +244,13 @@ pub fn read_span(line: &[u8], at: usize) -> GotSpan
             return GotSpan::Got(Span { start, end }, a2);
         }
     }
-    far_span(line, at)
+    let GotNumber::Got(start, a1) = read_number(line, at) else {
+        return GotSpan::Ill;
+    };
+    let GotNumber::Got(end, a2) = read_number(line, a1) else {
+        return GotSpan::Ill;
+    };
+    GotSpan::Got(Span { start, end }, a2)
 }
 
 pub enum GotContent {

@@ -4,10 +4,10 @@ use Prim.Native.Nat.{_-_}
 use lib.ListN.{length}
 use Rattle.parts.proofs.Bytes.{at-tab, at-end}
 use Rattle.parts.proofs.Numbers.{NumberFrom, number-ends, number-below, number-above, number-large, number-on, number-past, first-below, first-above, first-on, zero-got, zero-bad}
-use Rattle.parts.proofs.far_number.Statement.{statement}
-use Rattle.parts.proofs.far_number.Tie as tie
-use Rattle.parts.proofs.far_number.Reads as reads
-use Rattle.parts.proofs.far_number.Lts as lts
+use Rattle.parts.proofs.read_number.Statement.{statement}
+use Rattle.parts.proofs.read_number.Tie as tie
+use Rattle.parts.proofs.read_number.Reads as reads
+use Rattle.parts.proofs.read_number.Lts as lts
 use Rattle.parts.proofs.ends_at.Reads as ends-at-reads
 
 abbrev Inv-loop : tie.InvT-loop
@@ -116,8 +116,8 @@ add-t7 c = omega (arith, c .before .loop .inv .inside)
 returns-10 : tie.Need-returns-10 Inv-loop μ-loop
 returns-10 c = number-ends (c .before .loop .inv) (at-end _ _ (c .loop-test .left))
 
-pub far-number-spec : {M : Type 1} → statement M
-far-number-spec =
+pub read-number-spec : {M : Type 1} → statement M
+read-number-spec =
     tie.close
     (tie.spec
     Inv-loop
