@@ -28,7 +28,7 @@ pub enum Passed {
     Stop(u32),
 }
 
-pub fn with_block(h: Held, block: Open) -> Held
+fn with_block(h: Held, block: Open) -> Held
     ensures { λ r. ⌜ r ≡ withBlock block h ⌝ }
 {
     let define = h.define;
@@ -150,7 +150,7 @@ pub fn push_items(mut h: Held, n: usize) -> Held
 }
 
 // A step closed: components mode drops it.
-pub fn close_step(words: &mut [u32], h: Held) -> Held
+fn close_step(words: &mut [u32], h: Held) -> Held
     requires { ⌜ Sound (now words) h × (h .counts .here < 1025) × (h .counts .blocks < 100000) × (h .counts .counter < 100000) ⌝ }
     ensures { λ r. ⌜ Went (closeStep []) (now (words .entry)) h (now (words .exit)) r ⌝ }
 {
@@ -174,7 +174,7 @@ pub fn end_step(words: &mut [u32], h: Held, kind: BlockKind) -> Passed
     }
 }
 
-pub fn close_text(words: &mut [u32], h: Held) -> Held
+fn close_text(words: &mut [u32], h: Held) -> Held
     requires { ⌜ Sound (now words) h × (h .counts .here < 1025) × (h .counts .blocks < 100000) ⌝ }
     ensures { λ r. ⌜ Went (closeText []) (now (words .entry)) h (now (words .exit)) r ⌝ }
 {
@@ -213,7 +213,7 @@ pub fn component_span(c: ComponentEvent) -> Span
 }
 
 // 5, component in text mode.
-pub fn component_in_text(words: &mut [u32], h: Held, c: ComponentEvent) -> Held
+fn component_in_text(words: &mut [u32], h: Held, c: ComponentEvent) -> Held
     requires { ⌜ Sound (now words) h × (h .counts .findings < 1544) ⌝ }
     ensures { λ r. ⌜ ComponentInText c (now (words .entry)) h (now (words .exit)) r ⌝ }
 {

@@ -44,7 +44,7 @@ fn widened_span(s: Span) -> Span
 }
 
 // A note of a component that refers to one of the span and the note `old`.
-pub fn note_check(
+fn note_check(
     words: &mut [u32],
     h: Held,
     implicit: bool,
@@ -143,7 +143,7 @@ fn pair_check(
 }
 
 // A quantity of a component that refers to one of the span and the quantity `b`, which is defined in a step or not.
-pub fn quantity_check(
+fn quantity_check(
     words: &mut [u32],
     h: Held,
     implicit: bool,

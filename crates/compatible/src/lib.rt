@@ -28,7 +28,7 @@ fn physical_code(p: Physical) -> u32
 }
 
 // The code for two units, or 0 where they fit. The same unit fits, known or not.
-pub fn known_units(units: &[u8], index: &[u32], a: &[u8], b: &[u8]) -> u32
+fn known_units(units: &[u8], index: &[u32], a: &[u8], b: &[u8]) -> u32
     requires { ⌜ Indexed (now units) (now index) ⌝ }
     ensures { λ r. ⌜ r ≡ knownOf (unitsFrom (now (units .entry)) 0) (keptIn (now (a .entry))) (keptIn (now (b .entry))) ⌝ }
 {

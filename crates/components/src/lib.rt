@@ -122,7 +122,7 @@ pub enum GotModifiers {
     Ill,
 }
 
-pub fn read_modifiers(line: &[u8], at: usize) -> GotModifiers
+fn read_modifiers(line: &[u8], at: usize) -> GotModifiers
     ensures { λ r. ⌜ ModifiersRead (now (line .entry)) at r ⌝ }
 {
     if line.len() < at {
@@ -183,7 +183,7 @@ pub enum GotSigned {
     Ill,
 }
 
-pub fn read_value(line: &[u8], at: usize) -> GotSigned
+fn read_value(line: &[u8], at: usize) -> GotSigned
     ensures { λ r. ⌜ SignedRead (now (line .entry)) at r ⌝ }
 {
     if line.len() < at {
@@ -211,7 +211,7 @@ pub fn read_value(line: &[u8], at: usize) -> GotSigned
 }
 
 // How an intermediate is counted: `n`, from the start, or `r`, relative.
-pub fn read_reference(line: &[u8], at: usize) -> parts::GotFlag
+fn read_reference(line: &[u8], at: usize) -> parts::GotFlag
     ensures { λ r. ⌜ ReferenceRead (now (line .entry)) at r ⌝ }
 {
     if line.len() < at {
@@ -232,7 +232,7 @@ pub enum GotTarget {
     Ill,
 }
 
-pub fn read_target(line: &[u8], at: usize) -> GotTarget
+fn read_target(line: &[u8], at: usize) -> GotTarget
     ensures { λ r. ⌜ TargetRead (now (line .entry)) at r ⌝ }
 {
     if line.len() < at {
@@ -253,7 +253,7 @@ pub enum GotIntermediate {
     Ill,
 }
 
-pub fn read_intermediate(line: &[u8], at: usize) -> GotIntermediate
+fn read_intermediate(line: &[u8], at: usize) -> GotIntermediate
     ensures { λ r. ⌜ IntermediateRead (now (line .entry)) at r ⌝ }
 {
     let parts::GotFlag::Got(relative, a1) = read_reference(line, at) else {

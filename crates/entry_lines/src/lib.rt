@@ -261,7 +261,7 @@ fn marks_of(row: Row) -> Modifiers
 
 // The line of the i-th row at the front of the unwritten rest of the output: how many bytes it took, or one more than the
 // rest has where it does not fit.
-pub fn entry_line(
+fn entry_line(
     t: &[u32],
     sheet: &[u8],
     rows: &[u32],

@@ -44,7 +44,7 @@ pub enum GotBlock {
     Ill,
 }
 
-pub fn read_block(line: &[u8], at: usize) -> GotBlock
+fn read_block(line: &[u8], at: usize) -> GotBlock
     ensures { λ r. ⌜ BlockRead (now (line .entry)) at r ⌝ }
 {
     if line.len() < at {

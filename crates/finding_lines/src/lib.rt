@@ -128,7 +128,7 @@ fn put_spans(out: &mut [u8], at: usize, x: Noted) -> usize
 }
 
 // The line of a finding of the parser.
-pub fn parse_line(rest: &mut [u8], error: bool, number: u32) -> usize
+fn parse_line(rest: &mut [u8], error: bool, number: u32) -> usize
     ensures { λ r. ⌜ ParsePut (pick error severe mild) number (now (rest .entry)) 0 (now (rest .exit)) r ⌝ }
 {
     let a = output::put_bytes(rest, 0, b"parse");
@@ -150,7 +150,7 @@ fn pass_line(rest: &mut [u8], x: Noted) -> usize
     output::put_byte(rest, e, b'\n')
 }
 
-pub fn finding_line(rest: &mut [u8], x: Noted) -> usize
+fn finding_line(rest: &mut [u8], x: Noted) -> usize
     ensures { λ r. ⌜ FindingPut x (now (rest .entry)) 0 (now (rest .exit)) r ⌝ }
 {
     if x.parse {

@@ -188,7 +188,7 @@ pub fn is_reference(d: Duplicate) -> bool
     }
 }
 
-pub fn is_found(s: Same) -> bool
+fn is_found(s: Same) -> bool
     ensures { λ r. ⌜ r ≡ isSome (sameOf s) ⌝ }
 {
     match s {

@@ -42,7 +42,7 @@ pub fn first_held() -> Held
     }
 }
 
-pub fn push_ingredient(words: &mut [u32], mut h: Held, row: Row) -> Held
+fn push_ingredient(words: &mut [u32], mut h: Held, row: Row) -> Held
     requires { ⌜ Sound (now words) h × (h .counts .ingredients < 513) ⌝ }
     ensures { λ r. ⌜ RowPushed ingredient (now (words .entry)) h row (now (words .exit)) r ⌝ }
 {
@@ -53,7 +53,7 @@ pub fn push_ingredient(words: &mut [u32], mut h: Held, row: Row) -> Held
     h
 }
 
-pub fn push_cookware(words: &mut [u32], mut h: Held, row: Row) -> Held
+fn push_cookware(words: &mut [u32], mut h: Held, row: Row) -> Held
     requires { ⌜ Sound (now words) h × (h .counts .cookware < 257) ⌝ }
     ensures { λ r. ⌜ RowPushed cookware (now (words .entry)) h row (now (words .exit)) r ⌝ }
 {
@@ -65,7 +65,7 @@ pub fn push_cookware(words: &mut [u32], mut h: Held, row: Row) -> Held
 }
 
 // `set_referenced_from`: one more that refers to the ingredient at `definition`.
-pub fn refer_ingredient(words: &mut [u32], mut h: Held, definition: u32, referrer: u32) -> Held
+fn refer_ingredient(words: &mut [u32], mut h: Held, definition: u32, referrer: u32) -> Held
     requires { ⌜ Sound (now words) h × (h .counts .«ingredient_pairs» < h .counts .ingredients) × (definition < h .counts .ingredients) ⌝ }
     ensures { λ r. ⌜ PairPushed ingredient (now (words .entry)) h definition referrer (now (words .exit)) r ⌝ }
 {
@@ -76,7 +76,7 @@ pub fn refer_ingredient(words: &mut [u32], mut h: Held, definition: u32, referre
     h
 }
 
-pub fn refer_cookware(words: &mut [u32], mut h: Held, definition: u32, referrer: u32) -> Held
+fn refer_cookware(words: &mut [u32], mut h: Held, definition: u32, referrer: u32) -> Held
     requires { ⌜ Sound (now words) h × (h .counts .«cookware_pairs» < h .counts .cookware) × (definition < h .counts .cookware) ⌝ }
     ensures { λ r. ⌜ PairPushed cookware (now (words .entry)) h definition referrer (now (words .exit)) r ⌝ }
 {
@@ -124,7 +124,7 @@ pub fn push_finding(words: &mut [u32], mut h: Held, x: Noted) -> Held
 }
 
 // The small state with no open block.
-pub fn closed(h: Held, named: bool, counts: Counts) -> Held
+fn closed(h: Held, named: bool, counts: Counts) -> Held
     ensures { λ r. ⌜ r ≡ withBlock Nothing (withNamed named (withCounts counts h)) ⌝ }
 {
     let define = h.define;
@@ -219,7 +219,7 @@ pub fn over_limits(h: Held) -> bool
     1024 < h.counts.findings
 }
 
-pub fn is_open(b: Open) -> bool
+fn is_open(b: Open) -> bool
     ensures { λ r. ⌜ r ≡ isOpenBlock b ⌝ }
 {
     match b {

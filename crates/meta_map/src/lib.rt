@@ -52,7 +52,7 @@ fn head_at(m: &[u32], b: usize) -> usize
 }
 
 // The row of a key with the hash b among the first n rows: the chain of b from its head on.
-pub fn find_row(sheet: &[u8], m: &[u32], n: usize, key: &[u8], b: usize) -> KeyRow
+fn find_row(sheet: &[u8], m: &[u32], n: usize, key: &[u8], b: usize) -> KeyRow
     requires { ⌜ Indexed (now sheet) (now m) n × Hashed (keptIn (now key)) b ⌝ }
     ensures { λ r. ⌜ RowFound (now (sheet .entry)) (now (m .entry)) n (now (key .entry)) r ⌝ }
 {
@@ -92,7 +92,7 @@ fn push_key(m: &mut [u32], n: usize, b: usize, ka: u32, ke: u32, va: u32, ve: u3
 }
 
 // A key and its value, both trimmed, by their places in the sheet.
-pub fn insert_meta(
+fn insert_meta(
     sheet: &[u8],
     m: &mut [u32],
     n: usize,
@@ -258,7 +258,7 @@ pub fn index_metadata(t: &[u32], flags: u32, sheet: &[u8], text: &[u8], words: &
 // ---- the page's lines
 
 // The line of a key and its value, which are fields as they stand in the sheet.
-pub fn meta_line(rest: &mut [u8], key: &[u8], value: &[u8]) -> usize
+fn meta_line(rest: &mut [u8], key: &[u8], value: &[u8]) -> usize
     requires { ⌜ Field (now key) × Field (now value) ⌝ }
     ensures { λ r. ⌜ MetaPut (now (key .entry)) (now (value .entry)) (now (rest .entry)) 0 (now (rest .exit)) r ⌝ }
 {

@@ -46,7 +46,7 @@ fn with_duplicate(h: Held, duplicate: Duplicate) -> Held
 }
 
 // `[mode]` and `[define]`, with what the value chooses; 1, config value.
-pub fn set_define(words: &mut [u32], h: Held, key: Span, value: Span, m: DefineWord) -> Held
+fn set_define(words: &mut [u32], h: Held, key: Span, value: Span, m: DefineWord) -> Held
     requires { ⌜ Sound (now words) h × (h .counts .findings < 1544) ⌝ }
     ensures { λ r. ⌜ DefineSet key value m (now (words .entry)) h (now (words .exit)) r ⌝ }
 {
@@ -63,7 +63,7 @@ pub fn set_define(words: &mut [u32], h: Held, key: Span, value: Span, m: DefineW
 }
 
 // `[duplicate]`, with what the value chooses; 1, config value.
-pub fn set_duplicate(words: &mut [u32], h: Held, key: Span, value: Span, m: DuplicateWord) -> Held
+fn set_duplicate(words: &mut [u32], h: Held, key: Span, value: Span, m: DuplicateWord) -> Held
     requires { ⌜ Sound (now words) h × (h .counts .findings < 1544) ⌝ }
     ensures { λ r. ⌜ DuplicateSet key value m (now (words .entry)) h (now (words .exit)) r ⌝ }
 {
@@ -78,7 +78,7 @@ pub fn set_duplicate(words: &mut [u32], h: Held, key: Span, value: Span, m: Dupl
 }
 
 // 2, config key.
-pub fn note_unknown(words: &mut [u32], h: Held, key: Span) -> Held
+fn note_unknown(words: &mut [u32], h: Held, key: Span) -> Held
     requires { ⌜ Sound (now words) h × (h .counts .findings < 1544) ⌝ }
     ensures { λ r. ⌜ UnknownNoted key (now (words .entry)) h (now (words .exit)) r ⌝ }
 {
@@ -87,7 +87,7 @@ pub fn note_unknown(words: &mut [u32], h: Held, key: Span) -> Held
 }
 
 // An ordinary line, which counts for 3.
-pub fn count_ordinary(mut h: Held) -> Held
+fn count_ordinary(mut h: Held) -> Held
     requires { ⌜ h .counts .old < 100000 ⌝ }
     ensures { λ r. ⌜ OrdinaryCounted h r ⌝ }
 {

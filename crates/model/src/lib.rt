@@ -122,13 +122,13 @@ pub fn copy_words(words: &mut [u32], at: usize, row: &[u32])
     }
 }
 
-pub fn bit(b: bool) -> u32
+fn bit(b: bool) -> u32
     ensures { λ r. ⌜ r ≡ bitOf b ⌝ }
 {
     if b { 1 } else { 0 }
 }
 
-pub fn relation_word(r: Relation) -> u32
+fn relation_word(r: Relation) -> u32
     ensures { λ n. ⌜ n ≡ relationWord r ⌝ }
 {
     match r {
@@ -141,7 +141,7 @@ pub fn relation_word(r: Relation) -> u32
     }
 }
 
-pub fn relation_of(n: u32) -> Relation
+fn relation_of(n: u32) -> Relation
     ensures { λ r. ⌜ r ≡ relationOf n ⌝ }
 {
     if n == 0 {
@@ -180,7 +180,7 @@ pub fn put_row(rows: &mut [u32], i: usize, r: Row)
     copy_words(rows, at, &w);
 }
 
-pub fn row_of(w: &[u32]) -> Row
+fn row_of(w: &[u32]) -> Row
     requires { ⌜ length (now w) ≡ 12 ⌝ }
     ensures { λ r. ⌜ r ≡ rowOf (now (w .entry)) ⌝ }
 {
@@ -258,7 +258,7 @@ pub fn put_finding(findings: &mut [u32], n: usize, x: Noted)
     copy_words(findings, at, &w);
 }
 
-pub fn noted_of(w: &[u32]) -> Noted
+fn noted_of(w: &[u32]) -> Noted
     requires { ⌜ length (now w) ≡ 8 ⌝ }
     ensures { λ r. ⌜ r ≡ notedOf (now (w .entry)) ⌝ }
 {
@@ -341,7 +341,7 @@ pub fn put_kind(kinds: &mut [u32], n: usize, step: bool)
 }
 
 // The step that is the value-th, counted back from the newest of n blocks.
-pub fn step_back(kinds: &[u32], n: usize, value: u32) -> Found
+fn step_back(kinds: &[u32], n: usize, value: u32) -> Found
     requires { ⌜ (n ≤ 1025) × (n ≤ length (now kinds)) ⌝ }
     ensures { λ r. ⌜ foundOf r ≡ nth value (stepIndices (blocksIn (now (kinds .entry)) n)) ⌝ }
 {
@@ -366,7 +366,7 @@ pub fn step_back(kinds: &[u32], n: usize, value: u32) -> Found
 }
 
 // The step that is the value-th, counted from the first.
-pub fn step_ahead(kinds: &[u32], n: usize, value: u32) -> Found
+fn step_ahead(kinds: &[u32], n: usize, value: u32) -> Found
     requires { ⌜ (n ≤ 1025) × (n ≤ length (now kinds)) ⌝ }
     ensures { λ r. ⌜ foundOf r ≡ nth value (reverse (stepIndices (blocksIn (now (kinds .entry)) n))) ⌝ }
 {

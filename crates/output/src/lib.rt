@@ -87,7 +87,7 @@ fn put_pair(out: &mut [u8], at: usize, letter: u8) -> usize
 }
 
 // One byte of a field, escaped.
-pub fn put_escaped_byte(out: &mut [u8], at: usize, c: u8) -> usize
+fn put_escaped_byte(out: &mut [u8], at: usize, c: u8) -> usize
     ensures { λ r. ⌜ Put (escapeChar c) (now (out .entry)) at (now (out .exit)) r ⌝ }
 {
     if c == b'\\' {

@@ -52,7 +52,7 @@ fn put_lead(out: &mut [u8], at: usize, counter: u32, b: Open) -> usize
 }
 
 // A `start` that opens the block b.
-pub fn start_line(rest: &mut [u8], f: Follow, b: Open) -> usize
+fn start_line(rest: &mut [u8], f: Follow, b: Open) -> usize
     ensures { λ r. ⌜ Put (startAdds f b) (now (rest .entry)) 0 (now (rest .exit)) r ⌝ }
 {
     let define = f.define;
@@ -68,7 +68,7 @@ pub fn start_line(rest: &mut [u8], f: Follow, b: Open) -> usize
 }
 
 // A `section`: one without a name is drawn with its first block.
-pub fn named_line(t: &[u32], rest: &mut [u8], line: &[u8], name: OptText) -> usize
+fn named_line(t: &[u32], rest: &mut [u8], line: &[u8], name: OptText) -> usize
     requires { ⌜ (now t ≡ unicodeTables) × OptTextField (now line) name ⌝ }
     ensures { λ r. ⌜ Put (pick (isSome (optTextIn (now (line .entry)) name)) (sectionLine (onSome trimmedText (optTextIn (now (line .entry)) name))) []) (now (rest .entry)) 0 (now (rest .exit)) r ⌝ }
 {
@@ -78,7 +78,7 @@ pub fn named_line(t: &[u32], rest: &mut [u8], line: &[u8], name: OptText) -> usi
     }
 }
 
-pub fn end_line(rest: &mut [u8], b: Open) -> usize
+fn end_line(rest: &mut [u8], b: Open) -> usize
     ensures { λ r. ⌜ EndDrawn b (now (rest .entry)) (now (rest .exit)) r ⌝ }
 {
     match b {
@@ -109,7 +109,7 @@ fn item_line(rest: &mut [u8], c: ComponentEvent, f: Follow) -> usize
 }
 
 // A component: an item in a step, its source in text mode.
-pub fn component_line(rest: &mut [u8], text: &[u8], c: ComponentEvent, f: Follow) -> usize
+fn component_line(rest: &mut [u8], text: &[u8], c: ComponentEvent, f: Follow) -> usize
     requires { ⌜ (isUtf8 (now text) ≡ true) × (isGoodSpan (now text) (length (now text)) (componentSpan (componentEventIn [] c)) ≡ true) ⌝ }
     ensures { λ r. ⌜ ComponentDrawn (now (text .entry)) c f (now (rest .entry)) (now (rest .exit)) r ⌝ }
 {
@@ -132,7 +132,7 @@ pub fn component_line(rest: &mut [u8], text: &[u8], c: ComponentEvent, f: Follow
 }
 
 // A text: the items of a step, or a piece of a text block.
-pub fn text_line(
+fn text_line(
     t: &[u32],
     units: &[u8],
     index: &[u32],

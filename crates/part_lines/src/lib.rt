@@ -51,7 +51,7 @@ fn timer_of(t: &[u32], rest: &mut [u8], line: &[u8], c: ComponentEvent, f: Follo
 }
 
 // What a line adds to the page's timers.
-pub fn timers_line(t: &[u32], rest: &mut [u8], line: &[u8], e: EventView, f: Follow) -> usize
+fn timers_line(t: &[u32], rest: &mut [u8], line: &[u8], e: EventView, f: Follow) -> usize
     requires { ⌜ (now t ≡ unicodeTables) × EventFields (now line) e ⌝ }
     ensures { λ r. ⌜ TimersDrawn (now (line .entry)) e f (now (rest .entry)) (now (rest .exit)) r ⌝ }
 {
@@ -108,7 +108,7 @@ fn quantities_of(
 }
 
 // What a line adds to the page's inline quantities, and how many they are.
-pub fn inline_line(
+fn inline_line(
     t: &[u32],
     units: &[u8],
     index: &[u32],
@@ -176,7 +176,7 @@ fn meta_line(
 }
 
 // What a line adds to the spans of finding 3.
-pub fn old_line(
+fn old_line(
     t: &[u32],
     flags: u32,
     rest: &mut [u8],

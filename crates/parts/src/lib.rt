@@ -276,7 +276,7 @@ fn past_plain(line: &[u8], at: usize) -> usize
     i
 }
 
-pub fn read_content(line: &[u8], at: usize) -> GotContent
+fn read_content(line: &[u8], at: usize) -> GotContent
     ensures { λ r. ⌜ ContentRead (now (line .entry)) at r ⌝ }
 {
     if line.len() < at {
@@ -346,7 +346,7 @@ pub enum GotKind {
     Ill,
 }
 
-pub fn read_kind(line: &[u8], at: usize) -> GotKind
+fn read_kind(line: &[u8], at: usize) -> GotKind
     ensures { λ r. ⌜ KindRead (now (line .entry)) at r ⌝ }
 {
     if line.len() < at {
@@ -368,7 +368,7 @@ pub enum GotFlag {
 }
 
 // The lock of a quantity: `l` or `-`.
-pub fn read_lock(line: &[u8], at: usize) -> GotFlag
+fn read_lock(line: &[u8], at: usize) -> GotFlag
     ensures { λ r. ⌜ LockRead (now (line .entry)) at r ⌝ }
 {
     if line.len() < at {
@@ -389,7 +389,7 @@ pub enum GotQuantity {
     Ill,
 }
 
-pub fn read_quantity(line: &[u8], at: usize) -> GotQuantity
+fn read_quantity(line: &[u8], at: usize) -> GotQuantity
     ensures { λ r. ⌜ QuantityRead (now (line .entry)) at r ⌝ }
 {
     let GotSpan::Got(span, a1) = read_span(line, at) else {

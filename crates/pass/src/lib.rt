@@ -212,7 +212,7 @@ pub enum Walked {
 }
 
 // One line, and 17 after it.
-pub fn step(
+fn step(
     t: &[u32],
     units: &[u8],
     index: &[u32],

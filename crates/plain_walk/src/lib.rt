@@ -131,7 +131,7 @@ fn inside_fault(t: &[u32], sheet: &[u8], words: &[u32], i: Inside, f: Follow) ->
 }
 
 // The number of the fault of a line, 0 for none.
-pub fn line_fault(t: &[u32], sheet: &[u8], words: &[u32], e: EventView, f: Follow) -> u32
+fn line_fault(t: &[u32], sheet: &[u8], words: &[u32], e: EventView, f: Follow) -> u32
     requires { ⌜ (now t ≡ unicodeTables) × (24157 ≤ length (now words)) × EventReady (now sheet) (now words) e f ⌝ }
     ensures { λ r. ⌜ LineFault (now (sheet .entry)) (now (words .entry)) e f r ⌝ }
 {
@@ -265,7 +265,7 @@ fn inside_plain(words: &[u32], i: Inside, f: Follow) -> Plain
     }
 }
 
-pub fn plain_of(t: &[u32], flags: u32, line: &[u8], words: &[u32], e: EventView, f: Follow) -> Plain
+fn plain_of(t: &[u32], flags: u32, line: &[u8], words: &[u32], e: EventView, f: Follow) -> Plain
     requires { ⌜ (now t ≡ unicodeTables) × EventWithin (now line) e × (24157 ≤ length (now words)) × Few f ⌝ }
     ensures { λ r. ⌜ EventTold flags (now (words .entry)) (now (line .entry)) e f r ⌝ }
 {
@@ -292,7 +292,7 @@ fn plain_line(rest: &mut [u8], text: &[u8], line: &[u8], p: Plain) -> usize
     }
 }
 
-pub fn put_plain(out: &mut [u8], at: usize, text: &[u8], line: &[u8], p: Plain) -> usize
+fn put_plain(out: &mut [u8], at: usize, text: &[u8], line: &[u8], p: Plain) -> usize
     requires { ⌜ (isUtf8 (now text) ≡ true) × PlainFit (now text) (now line) p ⌝ }
     ensures { λ r. ⌜ PlainWritten (now (text .entry)) (now (line .entry)) p (now (out .entry)) at (now (out .exit)) r ⌝ }
 {

@@ -126,7 +126,7 @@ pub fn event_in(line: &[u8]) -> ReadEvent
 }
 
 // The event of a line without its LF; an ill-formed line has none.
-pub fn event_at(line: &[u8]) -> ReadEvent
+fn event_at(line: &[u8]) -> ReadEvent
     ensures { λ r. ⌜ LineOf (now (line .entry)) r ⌝ }
 {
     match utf8::first_fault(line) {
@@ -141,7 +141,7 @@ pub enum LineFault {
 }
 
 // The refusal of a line with its number: 8, 9 or 10.
-pub fn line_fault(text: &[u8], number: u32, line: &[u8]) -> LineFault
+fn line_fault(text: &[u8], number: u32, line: &[u8]) -> LineFault
     ensures { λ r. ⌜ LineChecked (now (text .entry)) number (now (line .entry)) r ⌝ }
 {
     let ReadEvent::Event(v) = event_at(line) else {

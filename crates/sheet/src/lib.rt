@@ -279,7 +279,7 @@ pub enum Number {
 }
 
 // A number in decimal, without leading zeros, of at most `most`.
-pub fn read_up_to(f: &[u8], most: u16) -> Number
+fn read_up_to(f: &[u8], most: u16) -> Number
     ensures { λ r. ⌜ r ≡ numberAs (numberUpTo most (now (f .entry))) ⌝ }
 {
     if f.len() == 0 {

@@ -20,7 +20,7 @@ fn both(a: bool, b: bool) -> bool
     false
 }
 
-pub fn is_good_span(text: &[u8], s: parts::Span) -> bool
+fn is_good_span(text: &[u8], s: parts::Span) -> bool
     ensures { λ r. ⌜ r ≡ isGoodSpan (now (text .entry)) (length (now (text .entry))) (spanIn s) ⌝ }
 {
     let start = s.start as usize;
@@ -38,7 +38,7 @@ pub fn is_good_span(text: &[u8], s: parts::Span) -> bool
 }
 
 // Whether all spans of a part are good; they do not depend on the line that the contents stand in.
-pub fn opt_text_good(text: &[u8], t: parts::OptText) -> bool
+fn opt_text_good(text: &[u8], t: parts::OptText) -> bool
     ensures { λ r. ⌜ GoodsIn (now (text .entry)) (λ (line : List ℕ). textSpans (optTextIn line t)) r ⌝ }
 {
     match t {
@@ -50,7 +50,7 @@ pub fn opt_text_good(text: &[u8], t: parts::OptText) -> bool
     }
 }
 
-pub fn opt_quantity_good(text: &[u8], q: parts::OptQuantity) -> bool
+fn opt_quantity_good(text: &[u8], q: parts::OptQuantity) -> bool
     ensures { λ r. ⌜ GoodsIn (now (text .entry)) (λ (line : List ℕ). quantitySpans (optQuantityIn line q)) r ⌝ }
 {
     match q {
@@ -67,7 +67,7 @@ pub fn opt_quantity_good(text: &[u8], q: parts::OptQuantity) -> bool
     }
 }
 
-pub fn opt_intermediate_good(text: &[u8], i: components::OptIntermediate) -> bool
+fn opt_intermediate_good(text: &[u8], i: components::OptIntermediate) -> bool
     ensures { λ r. ⌜ Goods (now (text .entry)) (intermediateSpans (optIntermediateIn i)) r ⌝ }
 {
     match i {
@@ -79,7 +79,7 @@ pub fn opt_intermediate_good(text: &[u8], i: components::OptIntermediate) -> boo
     }
 }
 
-pub fn component_good(text: &[u8], v: components::ComponentView) -> bool
+fn component_good(text: &[u8], v: components::ComponentView) -> bool
     ensures { λ r. ⌜ GoodsIn (now (text .entry)) (λ (line : List ℕ). namedSpans (componentIn line v)) r ⌝ }
 {
     let span = v.span;
@@ -98,7 +98,7 @@ pub fn component_good(text: &[u8], v: components::ComponentView) -> bool
     both(both(both(both(both(a, b), c), d), e), f)
 }
 
-pub fn component_event_good(text: &[u8], v: events::ComponentEvent) -> bool
+fn component_event_good(text: &[u8], v: events::ComponentEvent) -> bool
     ensures { λ r. ⌜ GoodsIn (now (text .entry)) (λ (line : List ℕ). componentSpans (componentEventIn line v)) r ⌝ }
 {
     match v {
@@ -117,7 +117,7 @@ pub fn component_event_good(text: &[u8], v: events::ComponentEvent) -> bool
     }
 }
 
-pub fn between_good(text: &[u8], v: events::Between) -> bool
+fn between_good(text: &[u8], v: events::Between) -> bool
     ensures { λ r. ⌜ GoodsIn (now (text .entry)) (λ (line : List ℕ). spansOf (betweenRule (betweenIn line v))) r ⌝ }
 {
     match v {
@@ -133,7 +133,7 @@ pub fn between_good(text: &[u8], v: events::Between) -> bool
     }
 }
 
-pub fn inside_good(text: &[u8], v: events::Inside) -> bool
+fn inside_good(text: &[u8], v: events::Inside) -> bool
     ensures { λ r. ⌜ GoodsIn (now (text .entry)) (λ (line : List ℕ). spansOf (insideRule (insideIn line v))) r ⌝ }
 {
     match v {

@@ -48,7 +48,7 @@ pub fn unicode_tables() -> [u32; 8050]
 }
 
 // The place of the first element of an ascending slice that is at least c.
-pub fn lower_bound(t: &[u32], c: u32) -> usize
+fn lower_bound(t: &[u32], c: u32) -> usize
     requires { ⌜ Ascending (now t) ⌝ }
     ensures { λ r. ⌜ Place (now (t .entry)) c r ⌝ }
 {
@@ -66,7 +66,7 @@ pub fn lower_bound(t: &[u32], c: u32) -> usize
 }
 
 // Whether c lies in one of the ranges with these starts and these ends.
-pub fn in_ranges(starts: &[u32], ends: &[u32], c: u32) -> bool
+fn in_ranges(starts: &[u32], ends: &[u32], c: u32) -> bool
     requires { ⌜ Ascending (now starts) × Ascending (now ends) × length (now starts) ≡ length (now ends) ⌝ }
     ensures { λ r. ⌜ r ≡ member c (zipped (now (starts .entry)) (now (ends .entry))) ⌝ }
 {

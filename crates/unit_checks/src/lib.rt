@@ -111,7 +111,7 @@ fn referrer_check(
 }
 
 // Against that of the definition at d, then those of all that refer to it.
-pub fn unit_check(
+fn unit_check(
     t: &[u32],
     units: &[u8],
     index: &[u32],

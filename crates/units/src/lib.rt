@@ -21,7 +21,7 @@ pub enum Physical {
     Unknown,
 }
 
-pub fn is_known(p: Physical) -> bool
+fn is_known(p: Physical) -> bool
     ensures { λ r. ⌜ r ≡ isKnown p ⌝ }
 {
     match p {
@@ -35,7 +35,7 @@ pub fn is_known(p: Physical) -> bool
 }
 
 // The second field of a line.
-pub fn physical_word(f: &[u8]) -> Physical
+fn physical_word(f: &[u8]) -> Physical
     ensures { λ r. ⌜ r ≡ physicalAs (wordIn (now (f .entry)) physicalWords) ⌝ }
 {
     if sheet::same_bytes(f, b"volume") {
@@ -89,7 +89,7 @@ fn unit_fields(line: &[u8]) -> UnitLine
 }
 
 // One line without its LF.
-pub fn unit_line(line: &[u8]) -> UnitLine
+fn unit_line(line: &[u8]) -> UnitLine
     ensures { λ r. ⌜ r ≡ unitLineAs (now (line .entry)) (unitOf (now (line .entry))) ⌝ }
 {
     let c = utf8::first_fault(line);

@@ -162,7 +162,7 @@ fn first(s: &[u8]) -> Decoded
 }
 
 // The character that starts at a place.
-pub fn decode(s: &[u8], at: usize) -> Decoded
+fn decode(s: &[u8], at: usize) -> Decoded
     requires { ⌜ at ≤ length (now s) ⌝ }
     ensures { λ r. ⌜ r ≡ decodedOf (drop at (now (s .entry))) ⌝ }
 {
