@@ -1,22 +1,20 @@
 -- From what the functions on work memory leave to the rules' lines.
 use Prim.Native.Nat.{ℕ, suc, _+_, _≤_, _<_}
 use mathlib.Core.Path.{_≡_, refl, sym, ap, _∙_}
-use mathlib.Core.List.{List, [], _∷_, _++_, reverse, reverseAux}
+use mathlib.Core.List.{List, [], _∷_}
 use mathlib.Core.Bool.{Bool, true, false}
-use mathlib.Core.Option.{Option, none, some}
 use native.Mathlib.Omega.{arith}
 use native.Mathlib.Numerals.{add-one}
 use lib.ListN.{length}
 use Rattle.rules.specs.Basic.{pick, concat, isSome, each}
 use Rattle.rules.specs.Words as words
 use Rattle.rules.specs.Event as rules
-use Rattle.rules.specs.Units.{NamedUnit}
 use Rattle.rules.specs.Finding.{Finding, parsed, found}
 use Rattle.rules.specs.Model.{Item, Block, stepBlock, textBlock}
 use Rattle.rules.specs.Modes.{isComponents, isText}
 use Rattle.rules.specs.State as state
-use Rattle.rules.specs.State.{State, setPlace, setBlock, setKept, report, noBlock, stepOpen, textOpen, textModeOpen, Step, next, stop}
-use Rattle.rules.specs.Pass.{isOpen, opened, onSection, keepBlock, closeText, closeStep, pushItems, inStepBlock, inTextBlock, sourceText, componentInText, inTextMode}
+use Rattle.rules.specs.State.{State, setPlace, setBlock, setKept, report, noBlock, stepOpen, Step, next, stop}
+use Rattle.rules.specs.Pass.{isOpen, opened, keepBlock, closeText, closeStep, pushItems, inStepBlock, inTextBlock, componentInText, inTextMode}
 use Rattle.parts.specs.Views.{spanIn, optTextIn}
 use Rattle.parts.specs.declared.Span.{Span}
 use Rattle.parts.specs.declared.TextView.{TextView}
@@ -35,7 +33,7 @@ use Rattle.components.specs.declared.OptIntermediate.{OptIntermediate}
 use Rattle.parts.specs.declared.OptQuantity.{OptQuantity}
 use Rattle.events.specs.declared.Inside.{Inside}
 use Rattle.events.specs.declared.Inside.the-variants as inside
-use Rattle.model.specs.Blank.{blank, blankStep, blankPlace, blankKept, blankTables, blankMetadata, blankOpen, blankBlock}
+use Rattle.model.specs.Blank.{blank, blankStep, blankPlace, blankKept, blankOpen, blankBlock}
 use Rattle.model.specs.Rows.{findingOf, blockOf}
 use Rattle.model.specs.Memory.{defineOf, openOf, stateOf, stateIn, Sound}
 use Rattle.model.specs.Fits.{AllFit}
@@ -50,7 +48,6 @@ use Rattle.model.proofs.Blanks.{blank-report}
 use Rattle.memory.specs.Pushes.{FindingPushed, BlockKept, SectionBegun}
 use Rattle.memory.proofs.Smalls.{state-blank, with-block}
 use Rattle.memory.proofs.Bounds.{fit-block}
-use Rattle.blocks.specs.declared.Passed.{Passed}
 use Rattle.blocks.specs.declared.Passed.the-variants.{Next, Stop}
 use Rattle.blocks.specs.Lined.{Told, Went, stepIn, SoundStep, FitStep, Stepped, startBlock, OpenNow, SectionDone, ItemsPushed, SpanOf, InTextBlock, InTextMode, kindOpen, StepEnded, ComponentInText}
 

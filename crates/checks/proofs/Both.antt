@@ -1,14 +1,14 @@
 -- The checks of notes and quantities together.
 use Prim.Native.Nat.{ℕ, _+_, _<_, _≤_}
-use mathlib.Core.Path.{_≡_, refl, ap, sym, _∙_}
+use mathlib.Core.Path.{refl}
 use mathlib.Core.Bool.{Bool}
 use mathlib.Core.Option.{Option, none, some}
-use mathlib.Core.List.{List, [], _∷_, _++_}
+use mathlib.Core.List.{List, []}
 use native.Mathlib.Omega.{arith}
 use lib.ListN.{length}
 use Rattle.rules.specs.Event as rules
 use Rattle.rules.specs.Model.{Source}
-use Rattle.rules.specs.Checks.{noteCheck, quantityCheck, referenceChecks}
+use Rattle.rules.specs.Checks.{noteCheck, referenceChecks}
 use Rattle.parts.specs.declared.Span.{Span}
 use Rattle.parts.specs.declared.OptText.{OptText}
 use Rattle.parts.specs.declared.OptQuantity.{OptQuantity}

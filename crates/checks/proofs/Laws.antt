@@ -1,8 +1,8 @@
 -- One law for each way through a check.
 use Prim.Native.Nat.{ℕ, zero, suc, _+_, _-_, _<_, _≤_}
-use mathlib.Core.Path.{_≡_, refl, ap, sym, _∙_}
+use mathlib.Core.Path.{_≡_, refl, _∙_}
 use mathlib.Core.Bool.{Bool, true, false, not}
-use mathlib.Core.Option.{Option, none, some}
+use mathlib.Core.Option.{some}
 use mathlib.Core.List.{List, [], _∷_, _++_}
 use native.Mathlib.Omega.{arith}
 use lib.ListN.{length}
@@ -10,7 +10,7 @@ use Rattle.rules.specs.Basic.{onSome, when}
 use Rattle.rules.specs.Units.{NamedUnit}
 use Rattle.rules.specs.Event as rules
 use Rattle.rules.specs.Finding.{Finding, diag, foundTwo}
-use Rattle.rules.specs.Model.{Source, Entry, Amount, amountOf, isTextual, trimmedText}
+use Rattle.rules.specs.Model.{Source, Entry, amountOf, isTextual}
 use Rattle.rules.specs.Checks.{noteCheck, notePlace, widened, quantityCheck, quantitySpan, textCheck, isDefinedInStep, unitPair, unitFinding, unitPlace, quantityPlace, compatibleUnit}
 use Rattle.parts.specs.declared.Span.{Span}
 use Rattle.parts.specs.declared.TextView.{TextView}
@@ -20,11 +20,10 @@ use Rattle.parts.specs.declared.QuantityView.{QuantityView}
 use Rattle.parts.specs.declared.OptQuantity.{OptQuantity}
 use Rattle.parts.specs.declared.OptQuantity.the-variants as quantity
 use Rattle.parts.specs.Views.{spanIn, SpanWithin, textIn, optTextIn, OptTextWithin, kindIn, quantityIn, optQuantityIn, QuantityWithin, OptQuantityWithin}
-use Rattle.model.specs.Memory.{Sound}
 use Rattle.model.specs.declared.Held.{Held}
 use Rattle.compatible.specs.Fitting.{unitIn}
-use Rattle.checks.specs.Reports.{Reported, nothing, more, NoteWithin, NoteChecked, QuantityChecked, placeWith, placeOf, UnitsChecked}
-use Rattle.checks.proofs.Reports.{reported-seq, reported-count, reported-sound}
+use Rattle.checks.specs.Reports.{Reported, nothing, NoteWithin, NoteChecked, QuantityChecked, placeWith, placeOf, UnitsChecked}
+use Rattle.checks.proofs.Reports.{reported-seq, reported-count}
 
 -- nothing was found, or what was found is said otherwise
 pub none-found : {fs : List Finding} {w : List ℕ} {h : Held} → fs ≡ [] → Reported fs w h w h

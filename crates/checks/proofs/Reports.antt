@@ -1,11 +1,11 @@
 -- Findings that were pushed one after another.
 use Prim.Native.Nat.{ℕ, _+_}
-use mathlib.Core.Path.{_≡_, refl, ap, sym, _∙_}
-use mathlib.Core.List.{List, [], _∷_, _++_, reverseAux}
+use mathlib.Core.Path.{_≡_, refl, ap, _∙_}
+use mathlib.Core.List.{List, [], _∷_, _++_}
 use native.Mathlib.Omega.{arith}
 use lib.ListN.{length}
 use Rattle.rules.specs.Finding.{Finding}
-use Rattle.rules.specs.State.{State, report}
+use Rattle.rules.specs.State.{report}
 use Rattle.model.specs.Memory.{stateIn, Sound}
 use Rattle.model.specs.Fits.{AllFit}
 use Rattle.model.specs.Rows.{findingOf}

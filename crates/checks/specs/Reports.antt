@@ -2,8 +2,7 @@
 use Prim.Native.Nat.{ℕ}
 use mathlib.Core.Path.{_≡_}
 use mathlib.Core.Bool.{Bool}
-use mathlib.Core.List.{List, [], _∷_, _++_}
-use mathlib.Core.Option.{Option, some}
+use mathlib.Core.List.{List, [], _∷_}
 use Rattle.rules.specs.Basic.{onSome}
 use Rattle.rules.specs.Units.{NamedUnit}
 use Rattle.rules.specs.Finding.{Finding}

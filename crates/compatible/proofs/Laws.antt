@@ -1,37 +1,29 @@
 -- Searching a unit by its content, and comparing two.
-use Prim.Native.Nat.{ℕ, _≤_}
+use Prim.Native.Nat.{ℕ}
 use mathlib.Core.Path.{_≡_, refl, ap, sym, _∙_}
 use mathlib.Core.Bool.{Bool, true, false}
 use mathlib.Core.Option.{Option, none, some}
-use mathlib.Core.List.{List, []}
+use mathlib.Core.List.{List}
 use native.Mathlib.Omega.{arith}
 use borrow.Author.Tests.{eq-eqb, ne-eqb}
-use lib.Dec.{eqb}
-use lib.ListN.{length}
-use Rattle.rules.specs.Basic.{pick, eqList, isSome, onSome}
-use Rattle.rules.specs.Utf8.{chars}
+use Rattle.rules.specs.Basic.{eqList, isSome, onSome}
 use Rattle.rules.specs.Units.{NamedUnit, PhysicalQuantity, volume, mass, len, temperature, time, physicalNumber, samePhysical, readUnits, findUnit}
 use Rattle.rules.specs.Answer.{unitsOr}
 use Rattle.rules.specs.Model.{trimmedText}
 use Rattle.rules.specs.Checks.{knownUnits, compatibleUnit}
 use Rattle.rules.proofs.SameChars.{eq-true, eq-itself}
 use Rattle.content.specs.Contents.{keptIn}
-use Rattle.content.specs.Contents as content
 use Rattle.content.proofs.Plains as plains
 use Rattle.content.proofs.Retains.{kept-trimmed}
 use Rattle.text.specs.Trims.{TrimmedTo}
 use Rattle.units.specs.declared.Physical.{Physical}
-use Rattle.units.specs.declared.Physical.the-variants.{Unknown}
-use Rattle.units.specs.declared.UnitAt.{UnitAt}
-use Rattle.units.specs.declared.UnitAt.the-variants.{End}
 use Rattle.units.specs.Quantities.{physicalAs}
-use Rattle.units.specs.Lists.{isListFrom, unitsFrom, part, namedAs, UnitTurn, UnitHere}
-use Rattle.units.proofs.Turns.{units-end}
+use Rattle.units.specs.Lists.{unitsFrom}
 use Rattle.units.proofs.Walks.{units-start}
 use Rattle.parts.specs.declared.OptText.{OptText}
 use Rattle.parts.specs.declared.OptText.the-variants.{Absent, Present}
 use Rattle.parts.specs.declared.TextView.{TextView}
-use Rattle.parts.specs.Views.{partOf, contentIn, textIn, optTextIn, TextWithin, OptTextWithin}
+use Rattle.parts.specs.Views.{partOf, textIn, optTextIn, TextWithin, OptTextWithin}
 use Rattle.parts.proofs.Contents.{content-of}
 use Rattle.compatible.specs.Fitting.{codeOf, knownOf, unitIn}
 

@@ -11,7 +11,7 @@ ghost use Rattle.content.specs.Contents.{keptIn};
 ghost use Rattle.text.specs.Trims.{TrimmedTo};
 ghost use Rattle.unit_index.specs.Index.{Indexed};
 ghost use Rattle.units.specs.Lists.{unitsFrom};
-ghost use Rattle.parts.specs.Views.{partOf, OptTextWithin, TextWithin};
+ghost use Rattle.parts.specs.Views.{partOf, OptTextWithin};
 ghost use Rattle.compatible.specs.Fitting.{codeOf, knownOf, unitIn};
 
 fn physical_code(p: Physical) -> u32

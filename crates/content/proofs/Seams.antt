@@ -1,19 +1,18 @@
 -- Bytes joined at a place where a character starts: their contents, and their kept contents, are joined as they are.
-use Prim.Native.Nat.{ℕ, zero, suc, _+_, _≤_, _<_}
+use Prim.Native.Nat.{ℕ, zero, suc, _+_, _≤_}
 use mathlib.Core.Path.{_≡_, refl, sym, ap, _∙_}
-use mathlib.Core.List.{List, [], _∷_, _++_, append-assoc}
+use mathlib.Core.List.{List, [], _∷_, _++_}
 use mathlib.Core.Bool.{Bool, true, false, _&&_, and-false}
 use mathlib.Core.Option.{Option, none, some}
 use native.Mathlib.Omega.{arith}
 use lib.Dec.{eqb}
-use lib.ListN.{length, getD, take, drop, take-append-drop}
-use lib.Seq.{take-suc, getD-drop}
+use lib.ListN.{length, getD}
 use borrow.Author.Tests.{eqb-true, eqb-false, eq-eqb}
 use Rattle.rules.specs.Basic.{pick, eqList}
 use Rattle.rules.specs.Sheet.{escaped}
 use Rattle.rules.specs.Text.{retain}
 use Rattle.rules.specs.Unicode.{foldName, sameName}
-use Rattle.rules.specs.Utf8.{sizeOf, second, later, sized, firstOf, charOr, followers, charsFrom, chars}
+use Rattle.rules.specs.Utf8.{sizeOf, second, later, sized, firstOf, followers, charsFrom, chars}
 use Rattle.rules.proofs.Basics.{by-order, no-truth}
 use Rattle.rules.proofs.Begins.{second-later, second-ascii, later-ascii}
 use Rattle.rules.proofs.Chars.{fits}

@@ -1,6 +1,6 @@
 -- The first two bytes of a line tell the kind of its event.
 use Prim.Native.Nat.{ℕ}
-use mathlib.Core.Path.{_≡_, refl, sym, _∙_, subst}
+use mathlib.Core.Path.{_≡_, refl, subst}
 use mathlib.Core.List.{List, [], _∷_, _++_}
 use mathlib.Core.Option.{some}
 use Rattle.rules.specs.Basic.{tab, lf, each, joinBy}

@@ -1,25 +1,24 @@
 -- Lines between blocks, and every line: what they add to the page and to the small state.
-use Prim.Native.Nat.{ℕ, suc}
+use Prim.Native.Nat.{ℕ}
 use mathlib.Core.Path.{_≡_, refl, sym, ap, _∙_, subst}
-use mathlib.Core.List.{List, [], _∷_, _++_, append-nil, append-assoc, reverse}
-use mathlib.Core.Bool.{Bool, true, false, _&&_, _||_, not}
+use mathlib.Core.List.{List, [], _∷_, _++_, append-nil}
+use mathlib.Core.Bool.{Bool, false, _||_}
 use mathlib.Core.Option.{Option, none, some}
 use lib.ListN.{length}
-use Rattle.rules.specs.Basic.{pick, isEmpty, isSome, onSome, wordIn, each, concat}
+use Rattle.rules.specs.Basic.{pick, isEmpty, isSome, onSome, wordIn, concat}
 use Rattle.rules.specs.Utf8.{encode}
 use Rattle.rules.specs.Sheet.{escape}
 use Rattle.rules.specs.Words.{BlockKind, stepKind, textKind, DefineMode, DuplicateMode, modeAll, modeComponents, modeSteps, modeText, defineKey, duplicateKey, defineWords, duplicateWords}
-use Rattle.rules.specs.Event.{Span, Text, Between, metaEvent, sectionEvent, startEvent, Event, between, inside, parserEvent}
+use Rattle.rules.specs.Event.{Text, Between, metaEvent, sectionEvent, startEvent, Event, between, inside, parserEvent}
 use Rattle.rules.specs.Units.{NamedUnit}
 use Rattle.rules.specs.Finding.{Finding}
-use Rattle.rules.specs.Model.{trimmedText, InlineQuantity, Block, Section}
+use Rattle.rules.specs.Model.{trimmedText, InlineQuantity, Block}
 use Rattle.rules.specs.Modes.{isComponents, isText, hasModes, Key, config, unknownConfig, ordinary, keyOf, keyText, valueText}
-use Rattle.rules.specs.Metadata.{storeMeta, onDefine, onDuplicate, onKey, onMetadata, oldMetadata}
+use Rattle.rules.specs.Metadata.{storeMeta, onDefine, onDuplicate, onKey, onMetadata}
 use Rattle.rules.specs.State as state
-use Rattle.rules.specs.State.{State, firstState, Metadata, Kept, Tables, noBlock, stepOpen, textOpen, textModeOpen, setModes, setMetadata, setPlace, setBlock, setKept, report, Step, next, stop}
-use Rattle.rules.specs.Pass.{isOpen, isEmptySection, closeSection, onSection, opened, onInside, onBetween, onEvent, ended}
-use Rattle.rules.specs.Page.{linesOnto, tableLines, blockLines, sectionLines, timerLine, inlineLine}
-use Rattle.rules.proofs.Basics.{pick-either}
+use Rattle.rules.specs.State.{State, Metadata, Kept, Tables, noBlock, stepOpen, textOpen, textModeOpen, setModes, setMetadata, setPlace, setBlock, setKept, report, next}
+use Rattle.rules.specs.Pass.{isOpen, isEmptySection, closeSection, onSection, opened, onBetween, onEvent}
+use Rattle.rules.specs.Page.{linesOnto, tableLines, blockLines, sectionLines}
 use Rattle.content.specs.Contents.{spell}
 use Rattle.model.specs.Memory.{defineOf}
 use Rattle.model.specs.declared.Open.{Open}

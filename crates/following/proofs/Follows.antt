@@ -7,16 +7,14 @@ use mathlib.Core.Option.{Option, none, some}
 use native.Mathlib.Numerals.{add-one}
 use borrow.Author.Tests.{ne-eqb}
 use Rattle.rules.specs.Basic.{pick, isSome, wordIn}
-use Rattle.rules.specs.Words as words
 use Rattle.rules.specs.Words.{DefineMode, modeAll, modeComponents, modeSteps, modeText, defineWords}
-use Rattle.rules.specs.Event as rules
 use Rattle.rules.specs.Text.{textTrimmed, textOuterTrimmed}
 use Rattle.rules.specs.Modes as modes
-use Rattle.rules.specs.Modes.{isComponents, isText, hasModes, keyOf, keyText, valueText}
+use Rattle.rules.specs.Modes.{isComponents, isText, hasModes, keyOf, valueText}
 use Rattle.sheet.specs.Words.{defineAs}
 use Rattle.sheet.specs.declared.DefineWord.{DefineWord}
 use Rattle.content.specs.Contents as contents
-use Rattle.parts.specs.Views.{partOf, spanIn, textIn, TextWithin, optTextIn, optQuantityIn}
+use Rattle.parts.specs.Views.{partOf, textIn, TextWithin, optTextIn}
 use Rattle.parts.specs.declared.Span.{Span}
 use Rattle.parts.specs.declared.TextView.{TextView}
 use Rattle.parts.specs.declared.OptText.{OptText}
@@ -38,7 +36,7 @@ use Rattle.events.specs.declared.EventView.{EventView}
 use Rattle.events.specs.declared.EventView.the-variants as event
 use Rattle.config_keys.specs.Keys.{keyIn}
 use Rattle.config_keys.specs.declared.Key.{Key}
-use Rattle.config_keys.specs.declared.Key.the-variants.{Define as DefineKey, Duplicate, Unknown, Ordinary as OrdinaryKey}
+use Rattle.config_keys.specs.declared.Key.the-variants.{Define as DefineKey}
 use Rattle.model.specs.Memory.{defineOf}
 use Rattle.model.specs.declared.Define.{Define}
 use Rattle.model.specs.declared.Open.{Open}
@@ -46,9 +44,9 @@ use Rattle.model.specs.declared.Open.the-variants as block
 use Rattle.metadata.proofs.Whole.{key-at, value-at}
 use Rattle.following.specs.declared.Follow.{Follow}
 use Rattle.following.specs.declared.Meta.{Meta}
-use Rattle.following.specs.declared.Meta.the-variants.{Defines, Ordinary, Other}
+use Rattle.following.specs.declared.Meta.the-variants.{Ordinary}
 use Rattle.following.specs.Drawn.{defineIn, keeps, opensAs}
-use Rattle.following.specs.Follow.{Follows, wordMeta, defineMeta, keyMeta, metaOf, metaFollow, sectionFollow, startFollow, closeFollow, counterAfter, countComponent, componentFollow, insideFollow, betweenFollow, nextFollow, withInline, MetaRead, BetweenFollowed, EventFollowed, ComponentCounted, InsideFollowed, Followed}
+use Rattle.following.specs.Follow.{wordMeta, defineMeta, keyMeta, metaOf, metaFollow, sectionFollow, startFollow, closeFollow, counterAfter, countComponent, componentFollow, insideFollow, betweenFollow, nextFollow, withInline, MetaRead, BetweenFollowed, EventFollowed, ComponentCounted, InsideFollowed, Followed}
 use Rattle.following.proofs.Laws.{follows-next}
 
 -- what is said of a variant is said of a value that is the variant

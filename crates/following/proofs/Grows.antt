@@ -1,27 +1,22 @@
 -- What a line adds to each part of the page, and to the small state: blocks opened, filled and closed.
-use Prim.Native.Nat.{ℕ, suc}
+use Prim.Native.Nat.{ℕ}
 use mathlib.Core.Path.{_≡_, refl, sym, ap, _∙_}
 use mathlib.Core.List.{List, [], _∷_, _++_, reverseAux, append-nil, append-assoc}
 use mathlib.Core.Bool.{Bool, true, false, _||_, not}
 use mathlib.Core.Option.{Option, none, some}
 use lib.ListN.{length}
-use Rattle.rules.specs.Basic.{pick, tab, lf, codes, joinBy, each, isEmpty, isSome}
-use Rattle.rules.specs.Sheet.{lineOf, escape, escapeChar}
+use Rattle.rules.specs.Basic.{pick, isEmpty, isSome}
 use Rattle.rules.specs.Words.{DefineMode, DuplicateMode, modeAll, modeComponents, modeSteps, modeText}
 use Rattle.rules.specs.Finding.{Finding}
-use Rattle.rules.specs.Model.{InlineQuantity, Item, Block, stepBlock, textBlock, Section}
-use Rattle.rules.specs.Modes.{isComponents}
+use Rattle.rules.specs.Model.{InlineQuantity, Block}
 use Rattle.rules.specs.State as state
-use Rattle.rules.specs.State.{State, Metadata, Kept, Tables, noBlock, stepOpen, textOpen, textModeOpen, setPlace, setBlock, setKept}
+use Rattle.rules.specs.State.{State, Metadata, Kept, Tables, noBlock, setPlace, setBlock, setKept}
 use Rattle.rules.specs.Pass.{keepBlock}
-use Rattle.rules.specs.Page.{linesOnto, tableLines, optional, itemLine, blockLines, sectionLines, timerLine, inlineLine, spanWord}
-use Rattle.content.specs.Contents.{spell}
+use Rattle.rules.specs.Page.{linesOnto, tableLines, blockLines, sectionLines, timerLine, inlineLine}
 use Rattle.model.specs.Memory.{defineOf}
-use Rattle.model.specs.declared.Define.{Define}
 use Rattle.model.specs.declared.Open.{Open}
-use Rattle.model.specs.declared.Open.the-variants as block
 use Rattle.following.specs.declared.Follow.{Follow}
-use Rattle.following.specs.Drawn.{defineIn, kindOf, keeps, sectionLine, stepLine, textLead, openDrawn, isShown, sectionsDrawn, oldDrawn, followOf, lead, startAdds}
+use Rattle.following.specs.Drawn.{defineIn, kindOf, keeps, sectionLine, openDrawn, isShown, sectionsDrawn, oldDrawn, followOf, lead, startAdds}
 use Rattle.following.specs.Follow.{startFollow, closeFollow}
 use Rattle.following.proofs.Lists.{table-more}
 

@@ -1,21 +1,21 @@
 -- Lines in a block: what they add to the page and to the small state.
 use Prim.Native.Nat.{ℕ, suc}
 use mathlib.Core.Path.{_≡_, refl, sym, ap, _∙_}
-use mathlib.Core.List.{List, [], _∷_, _++_, reverseAux, append-nil, append-assoc, reverse}
-use mathlib.Core.Bool.{Bool, true, false}
+use mathlib.Core.List.{List, [], _∷_, _++_, reverseAux, append-assoc, reverse}
+use mathlib.Core.Bool.{Bool, false}
 use mathlib.Core.Option.{Option, none, some}
 use lib.Dec.{eqb}
 use lib.ListN.{length}
-use Rattle.rules.specs.Basic.{pick, tab, lf, joinBy, each, concat, isEmpty, isSome}
+use Rattle.rules.specs.Basic.{pick, lf, joinBy, each, concat}
 use Rattle.rules.specs.Sheet.{lineOf, escape, escapeChar}
 use Rattle.rules.specs.Words.{BlockKind, stepKind, textKind, DefineMode, DuplicateMode, modeAll, modeComponents, modeSteps, modeText}
 use Rattle.rules.specs.Event.{Span, Text, Quantity, Component, Intermediate, Inside, endEvent, textEvent, componentEvent, ComponentEvent, ingredientEvent, cookwareEvent, timerEvent, Event, inside, componentSpan}
 use Rattle.rules.specs.Units.{NamedUnit}
 use Rattle.rules.specs.Finding.{Finding}
-use Rattle.rules.specs.Model.{Kind, ingredient, cookware, Entry, Item, ingredientItem, cookwareItem, timerItem, Block, stepBlock, textBlock}
+use Rattle.rules.specs.Model.{ingredient, cookware, Entry, Item, ingredientItem, cookwareItem, timerItem, Block, stepBlock, textBlock}
 use Rattle.rules.specs.Modes.{isComponents}
 use Rattle.rules.specs.Reference.{Earlier, setReferencedFrom}
-use Rattle.rules.specs.Components.{Made, timerOf, intermediateFault, referred, pushed, refersToReference, makeIngredient, makeCookware}
+use Rattle.rules.specs.Components.{Made, timerOf, intermediateFault, referred, pushed, refersToReference}
 use Rattle.rules.specs.State as state
 use Rattle.rules.specs.State.{State, Metadata, Kept, Tables, noBlock, stepOpen, textOpen, textModeOpen, setPlace, setBlock, setKept, setTables, setTable, setTimers, setInline, tableOf, report, overLimits, Step, next, stop}
 use Rattle.rules.specs.Pass.{closeStep, closeText, keepBlock, pushItems, itemsOf, quantitiesOf, pushPieces, itemOf, pushComponent, unlessChained, unlessFault, pieces, textInStep, pushTimer, onMade, onComponent, inStepBlock, inTextBlock, sourceText, componentInText, inTextMode, onInside}
@@ -25,7 +25,6 @@ use Rattle.content.specs.Contents.{spell}
 use Rattle.step_lines.specs.Lines.{itemText, inlineText}
 use Rattle.step_lines.proofs.Lines.{item-more, text-items-more, quantities-more, pieces-more}
 use Rattle.model.specs.Memory.{defineOf}
-use Rattle.following.specs.declared.Follow.{Follow}
 use Rattle.following.specs.Drawn.{defineIn, kindOf, keeps, sectionLine, stepLine, textLead, openDrawn, isShown, sectionsDrawn, oldDrawn, followOf, componentItem, unlessComponents, insideAdds, sectionsAdd, timerAdds, timersAdd, inlineAdds, inlineAdd, quantitiesIn, quantitiesAdded, oldAdd}
 use Rattle.following.specs.Follow.{closeFollow, counterAfter, countComponent, componentFollow, insideFollow, nextFollow, withInline}
 use Rattle.following.proofs.Lists.{table-more}

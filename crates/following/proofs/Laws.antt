@@ -1,15 +1,15 @@
 -- The laws of what is drawn: at the start, line by line, at the end.
-use Prim.Native.Nat.{ℕ, zero, suc, _+_, _/_, _%_, _≤_}
-use mathlib.Core.Path.{_≡_, refl, sym, ap, _∙_, subst}
+use Prim.Native.Nat.{ℕ, zero, suc, _+_, _/_, _≤_}
+use mathlib.Core.Path.{_≡_, refl, sym, ap, _∙_}
 use mathlib.Core.List.{List, [], _∷_, _++_, reverse, reverseAux, append-nil, append-assoc}
-use mathlib.Core.Bool.{Bool, true, false}
-use mathlib.Core.Option.{Option, none, some}
+use mathlib.Core.Bool.{false}
+use mathlib.Core.Option.{Option}
 use native.Mathlib.Omega.{arith}
 use lib.Dec.{ltb}
 use borrow.Author.Tests.{ne-eqb, ltb-true}
 use lib.ListN.{length, length-reverseAux}
 use native.Mathlib.Nat.{add-comm}
-use Rattle.rules.specs.Basic.{pick, codes, tab, lf, comma, isEmpty, isSome, joinBy, each, digits, decimal}
+use Rattle.rules.specs.Basic.{pick, codes, comma, isEmpty, isSome, joinBy, each, digits, decimal}
 use Rattle.rules.specs.Sheet.{escape, escapeChar, lineOf}
 use Rattle.rules.specs.Words.{DefineMode, DuplicateMode}
 use Rattle.rules.specs.Event.{Span, Event}
@@ -19,18 +19,17 @@ use Rattle.rules.specs.Model.{Block}
 use Rattle.rules.specs.Modes.{firstModes}
 use Rattle.rules.specs.Metadata.{oldMetadata}
 use Rattle.rules.specs.State as state
-use Rattle.rules.specs.State.{State, firstState, Metadata, Kept, Tables, noBlock, stepOpen, textOpen, textModeOpen, setKept, report, Step, next, stop}
+use Rattle.rules.specs.State.{State, firstState, Metadata, Kept, Tables, noBlock, stepOpen, textOpen, textModeOpen, setKept, report, next}
 use Rattle.rules.specs.Pass.{isOpen, isEmptySection, closeSection, onEvent, ended}
 use Rattle.rules.specs.Page.{linesOnto, tableLines, sectionLines, timerLine, inlineLine, findingLine, spanWord}
 use Rattle.rules.proofs.Basics.{pick-either, no-truth}
 use Rattle.following.specs.declared.Part.{Part}
 use Rattle.following.specs.declared.Part.the-variants.{Sections, Timers, Inline, Old}
 use Rattle.following.specs.declared.Follow.{Follow}
-use Rattle.following.specs.Drawn.{defineIn, kindOf, keeps, openDrawn, isShown, sectionsDrawn, oldDrawn, drawn, oldLine, followOf, firstFollow, sectionsAdd, timersAdd, inlineAdd, quantitiesAdded, oldAdd, added, appended}
+use Rattle.following.specs.Drawn.{defineIn, kindOf, keeps, openDrawn, isShown, sectionsDrawn, oldDrawn, drawn, oldLine, followOf, firstFollow, quantitiesAdded, added, appended}
 use Rattle.following.specs.Follow.{Follows, nextFollow, withInline}
 use Rattle.following.proofs.Lists.{table-more}
-use Rattle.following.proofs.Grows.{Grows, made}
-use Rattle.following.proofs.Insides.{EventGrows}
+use Rattle.following.proofs.Grows.{made}
 use Rattle.following.proofs.Betweens.{sections-closed, line-grows}
 
 -- ---- at the start

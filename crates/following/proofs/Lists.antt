@@ -2,7 +2,7 @@
 use Prim.Native.Nat.{ℕ}
 use mathlib.Core.Path.{_≡_, refl, sym, ap, _∙_}
 use mathlib.Core.List.{List, [], _∷_, _++_, reverse, append-nil, append-assoc, reverse-cons}
-use mathlib.Core.Bool.{Bool, true, false, not}
+use mathlib.Core.Bool.{Bool, false, not}
 use lib.ListN.{length}
 use Rattle.rules.specs.Basic.{pick, comma, joinBy, each, isEmpty}
 use Rattle.rules.specs.Event.{Span}

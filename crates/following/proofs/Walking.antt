@@ -8,14 +8,11 @@ use native.Mathlib.Numerals.{add-one}
 use lib.Dec.{ltb}
 use borrow.Author.Tests.{ltb-false}
 use lib.ListN.{length}
-use Rattle.rules.specs.Basic.{pick, isSome, wordIn}
-use Rattle.rules.specs.Words.{defineWords}
-use Rattle.rules.specs.Event as rules
+use Rattle.rules.specs.Basic.{pick, isSome}
 use Rattle.rules.specs.Event.{Event, metaEvent, sectionEvent, startEvent, endEvent, textEvent, componentEvent, ComponentEvent, ingredientEvent, cookwareEvent, timerEvent, between, inside, parserEvent}
 use Rattle.rules.specs.Units.{NamedUnit}
-use Rattle.rules.specs.Modes.{firstModes, isComponents}
-use Rattle.rules.specs.State as state
-use Rattle.rules.specs.State.{State, firstState, overLimits, Step, next, stop, Walk, going, refused, failed, Outcome, recipe, refusal, noRecipe}
+use Rattle.rules.specs.Modes.{isComponents}
+use Rattle.rules.specs.State.{State, firstState, overLimits, Step, next, Walk, going, refused, failed, recipe, refusal}
 use Rattle.rules.specs.Pass.{isOpen, onEvent, walk, ended, unlessOver, finish, parseEvents}
 use Rattle.rules.proofs.Basics.{pick-either, no-truth}
 use Rattle.rules.proofs.Walks.{no-walk, step-next}
@@ -28,7 +25,6 @@ use Rattle.following.specs.declared.Meta.{Meta}
 use Rattle.following.specs.declared.Meta.the-variants.{Defines, Ordinary, Other}
 use Rattle.following.specs.Drawn.{followOf, firstFollow, opensAs}
 use Rattle.following.specs.Follow.{Follows, metaOf, metaFollow, sectionFollow, startFollow, closeFollow, counterAfter, countComponent, componentFollow, insideFollow, betweenFollow, nextFollow, withInline, Room}
-use Rattle.following.proofs.Grows.{Grows}
 use Rattle.following.proofs.Betweens.{line-grows}
 use Rattle.following.proofs.Laws.{follows-first}
 

@@ -3,14 +3,14 @@
 use Prim.Native.Nat.{ℕ}
 use mathlib.Core.List.{List, [], _∷_, _++_, reverse}
 use mathlib.Core.Bool.{Bool, true, false, _||_, not}
-use mathlib.Core.Option.{Option, none, some}
+use mathlib.Core.Option.{Option, none}
 use lib.ListN.{length}
 use Rattle.rules.specs.Basic.{pick, codes, tab, lf, comma, decimal, joinBy, each, concat, isEmpty, isSome, onSome}
 use Rattle.rules.specs.Sheet.{lineOf}
 use Rattle.rules.specs.Words.{BlockKind, stepKind, textKind, DefineMode, modeAll, modeComponents, modeSteps, modeText}
-use Rattle.rules.specs.Event.{Span, Text, Between, metaEvent, sectionEvent, startEvent, ComponentEvent, ingredientEvent, cookwareEvent, timerEvent, Inside, endEvent, textEvent, componentEvent, Event, between, inside, parserEvent, componentSpan}
+use Rattle.rules.specs.Event.{Span, Text, metaEvent, sectionEvent, startEvent, ComponentEvent, ingredientEvent, cookwareEvent, timerEvent, Inside, endEvent, textEvent, componentEvent, Event, between, inside, parserEvent, componentSpan}
 use Rattle.rules.specs.Units.{NamedUnit}
-use Rattle.rules.specs.Model.{trimmedText, InlineQuantity, Item, ingredientItem, cookwareItem, timerItem, Section}
+use Rattle.rules.specs.Model.{trimmedText, InlineQuantity, Item, ingredientItem, cookwareItem, timerItem}
 use Rattle.rules.specs.Modes.{isComponents, isText, hasModes, Key, config, unknownConfig, ordinary, keyOf, keyText}
 use Rattle.rules.specs.State as state
 use Rattle.rules.specs.State.{State, noBlock, stepOpen, textOpen, textModeOpen}

@@ -1,12 +1,12 @@
 -- How the small state follows the walk.
-use Prim.Native.Nat.{ℕ, suc, _+_, _≤_, _<_}
+use Prim.Native.Nat.{ℕ, suc, _+_, _≤_}
 use mathlib.Core.Path.{_≡_}
 use mathlib.Core.List.{List}
 use mathlib.Core.Bool.{Bool, true, _||_}
 use mathlib.Core.Option.{Option, none, some}
 use lib.ListN.{length}
 use Rattle.rules.specs.Basic.{pick, isSome, wordIn}
-use Rattle.rules.specs.Words.{BlockKind, DefineMode, defineKey, duplicateKey, defineWords}
+use Rattle.rules.specs.Words.{DefineMode, defineKey, duplicateKey, defineWords}
 use Rattle.rules.specs.Event as rules
 use Rattle.rules.specs.Event.{metaEvent, sectionEvent, startEvent, endEvent, textEvent, componentEvent, ingredientEvent, cookwareEvent, timerEvent, between, inside, parserEvent}
 use Rattle.rules.specs.Units.{NamedUnit}
@@ -24,7 +24,6 @@ use Rattle.events.specs.declared.ComponentEvent.{ComponentEvent}
 use Rattle.events.specs.declared.Inside.{Inside}
 use Rattle.events.specs.declared.EventView.{EventView}
 use Rattle.model.specs.Memory.{defineOf}
-use Rattle.model.specs.declared.Define.{Define}
 use Rattle.model.specs.declared.Define.the-variants as define
 use Rattle.model.specs.declared.Open.{Open}
 use Rattle.model.specs.declared.Open.the-variants as block

@@ -1,7 +1,7 @@
 // The state that a second walk over an accepted sheet carries: what the bytes of the page that work memory does not hold
 // depend on. specs/Drawn.antt says what each line adds to them.
 ghost use mathlib.Core.Path.{_≡_};
-ghost use Prim.Native.Nat.{_+_, _<_, _≤_};
+ghost use Prim.Native.Nat.{_+_, _≤_};
 ghost use Rattle.unicode.specs.Tables.{unicodeTables};
 ghost use Rattle.parts.specs.Views.{TextWithin};
 ghost use Rattle.events.specs.Views.{blockIn, BetweenWithin, EventWithin};

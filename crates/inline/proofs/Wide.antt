@@ -1,17 +1,17 @@
 -- Characters beyond ASCII in a field: their first byte tells how many bytes they take, and none is a digit.
 use Prim.Native.Nat.{ℕ, suc, pred, _+_, _≤_, _<_}
 use mathlib.Core.Path.{_≡_, refl, sym, _∙_}
-use mathlib.Core.Bool.{true, false, not}
+use mathlib.Core.Bool.{true}
 use mathlib.Core.List.{List, _∷_}
 use native.Mathlib.Omega.{arith}
 use lib.ListN.{length, getD, drop}
 use lib.Seq.{drop-cons}
 use borrow.Author.Tests.{lt-ltb, le-ltb}
 use Rattle.rules.specs.Inline.{isNoDigit}
-use Rattle.rules.specs.Utf8.{sizeOf, charOr, followers}
+use Rattle.rules.specs.Utf8.{sizeOf, followers}
 use Rattle.rules.proofs.Ascii.{char-beyond}
 use Rattle.rules.proofs.Basics.{within-high}
-use Rattle.rules.proofs.Begins.{Begins, one, two, three, four, first-some, size-1, size-2, size-3, size-4}
+use Rattle.rules.proofs.Begins.{Begins, one, two, three, four, first-some, size-2, size-3, size-4}
 use Rattle.rules.proofs.Chars.{starts, well-utf8}
 use Rattle.utf8.specs.declared.Char.{Char}
 use Rattle.utf8.specs.Reading.{charOf}

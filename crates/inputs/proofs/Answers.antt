@@ -1,5 +1,5 @@
 -- What the answer of `check_inputs` says of the collection and of the plain form.
-use Prim.Native.Nat.{ℕ, _≤_, _<_}
+use Prim.Native.Nat.{ℕ}
 use mathlib.Core.Path.{_≡_, refl, ap, sym, _∙_}
 use mathlib.Core.Bool.{Bool, true, false, _||_}
 use mathlib.Core.List.{List}
@@ -9,14 +9,12 @@ use lib.ListN.{length}
 use borrow.Author.Tests.{ltb-false}
 use Rattle.rules.specs.Basic.{pick, isSome}
 use Rattle.rules.specs.Utf8.{isUtf8}
-use Rattle.rules.specs.Event.{Event}
 use Rattle.rules.specs.Units.{NamedUnit, readUnits, nameTwice}
 use Rattle.rules.specs.State.{Outcome, refusal}
 use Rattle.rules.specs.Pass.{parseEvents}
-use Rattle.rules.specs.Answer.{Answer, declined, Reading, events, unread, readSheet, eventsOr, unitsOr, passed, withUnits, collection, Lent, wordsNeeded, bytesNeeded, isShort, written, collectAnswer, plainOf, plainAnswer}
+use Rattle.rules.specs.Answer.{declined, Reading, events, unread, readSheet, eventsOr, unitsOr, passed, withUnits, collection, Lent, wordsNeeded, bytesNeeded, isShort, written, collectAnswer, plainOf, plainAnswer}
 use Rattle.rules.proofs.Basics.{no-some, no-truth, some-inj}
 use Rattle.reading.specs.Answers.{faultOf}
-use Rattle.inputs.specs.declared.Inputs.{Inputs}
 use Rattle.inputs.specs.declared.Inputs.the-variants.{Good, Refused}
 use Rattle.inputs.specs.Inputs.{inputsAs, refused, lent, sheetFault, unitsFault, contentsFault, inputsFault, InputsChecked, GoodInputs}
 

@@ -1,15 +1,14 @@
 -- One law for each way through the checks.
 use Prim.Native.Nat.{ℕ, _≤_, _<_}
-use mathlib.Core.Path.{_≡_, refl, ap, sym, _∙_}
-use mathlib.Core.Bool.{Bool, true, false, _||_}
+use mathlib.Core.Path.{_≡_, ap, sym, _∙_}
 use mathlib.Core.List.{List}
-use mathlib.Core.Option.{Option, none, some}
+use mathlib.Core.Option.{Option}
 use native.Mathlib.Omega.{arith}
 use borrow.Author.Tests.{lt-ltb, le-ltb}
 use lib.ListN.{length}
-use Rattle.rules.specs.Utf8.{isUtf8, firstFault}
-use Rattle.rules.specs.Units.{NamedUnit, readUnits}
-use Rattle.rules.specs.Answer.{isShort, wordsNeeded, bytesNeeded, readSheet, unitsOr}
+use Rattle.rules.specs.Utf8.{firstFault}
+use Rattle.rules.specs.Units.{readUnits}
+use Rattle.rules.specs.Answer.{isShort, wordsNeeded, bytesNeeded}
 use Rattle.utf8.specs.declared.Checked.{Checked}
 use Rattle.utf8.specs.declared.Checked.the-variants as checked
 use Rattle.utf8.specs.Checking.{checkedOf}
@@ -18,10 +17,10 @@ use Rattle.units.specs.declared.UnitsChecked.{UnitsChecked}
 use Rattle.units.specs.declared.UnitsChecked.the-variants as list
 use Rattle.units.specs.Lists.{unitsCheckedOf}
 use Rattle.unit_index.specs.Index.{UnitsIndexed}
-use Rattle.units.proofs.Answers.{Read, ill-units, twice-units, good-units}
+use Rattle.units.proofs.Answers.{ill-units, twice-units, good-units}
 use Rattle.reading.specs.declared.SheetRead.{SheetRead}
 use Rattle.reading.specs.declared.SheetRead.the-variants as read
-use Rattle.reading.specs.Answers.{faultOf, readAs, SheetChecked}
+use Rattle.reading.specs.Answers.{readAs, SheetChecked}
 use Rattle.inputs.specs.declared.Inputs.{Inputs}
 use Rattle.inputs.specs.declared.Inputs.the-variants.{Good, Refused}
 use Rattle.inputs.specs.Inputs.{inputsAs, refused, sheetFault, unitsFault, contentsFault, inputsFault, SheetFlagsChecked, ContentsChecked, InputsChecked, UnitsReady}

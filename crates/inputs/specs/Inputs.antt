@@ -1,17 +1,16 @@
 -- What is refused before the pass (document 01, "Numbers by place", the first three rows), read off the rules.
 use Prim.Native.Nat.{ℕ, _≤_}
 use mathlib.Core.Path.{_≡_}
-use mathlib.Core.Bool.{Bool, true, false, _||_}
+use mathlib.Core.Bool.{true, false, _||_}
 use mathlib.Core.List.{List}
 use mathlib.Core.Option.{Option, none, some}
 use lib.Dec.{ltb}
 use lib.ListN.{length}
 use Rattle.rules.specs.Basic.{pick, isSome}
 use Rattle.rules.specs.Utf8.{isUtf8}
-use Rattle.rules.specs.Event.{Event}
 use Rattle.rules.specs.Units.{NamedUnit, readUnits, nameTwice}
 use Rattle.rules.specs.Pass.{parseEvents}
-use Rattle.rules.specs.Answer.{Lent, wordsNeeded, bytesNeeded, isShort, Reading, events, readSheet, eventsOr, unitsOr, collection}
+use Rattle.rules.specs.Answer.{Lent, wordsNeeded, bytesNeeded, isShort, events, readSheet, eventsOr, unitsOr, collection}
 use Rattle.unit_index.specs.Index.{Indexed}
 use Rattle.reading.specs.Answers.{faultOf}
 use Rattle.inputs.specs.declared.Inputs.{Inputs}

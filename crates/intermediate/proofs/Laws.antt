@@ -1,15 +1,14 @@
 -- One law for each way through.
-use Prim.Native.Nat.{ℕ, zero, suc, _≤_}
-use mathlib.Core.Path.{_≡_, refl, ap, sym, _∙_}
+use Prim.Native.Nat.{ℕ, zero, suc}
+use mathlib.Core.Path.{_≡_, refl, ap, _∙_}
 use mathlib.Core.Bool.{Bool, true, false, not}
-use mathlib.Core.List.{List, [], _∷_, reverse}
-use mathlib.Core.Option.{Option, none, some}
+use mathlib.Core.List.{List, [], _∷_}
 use borrow.Author.Tests.{eq-eqb, ne-eqb}
 use lib.ListN.{length, take, drop, replicate}
-use Rattle.rules.specs.Basic.{pick, when}
+use Rattle.rules.specs.Basic.{when}
 use Rattle.rules.specs.Event as rules
 use Rattle.rules.specs.Finding.{found}
-use Rattle.rules.specs.Model.{ingredient, definition, Entry}
+use Rattle.rules.specs.Model.{Entry}
 use Rattle.rules.specs.Checks.{stepIndices, sectionIndices, candidates, resolveIntermediateRef, intermediateModifiers, intermediateFindings, intermediateTarget, intermediateRelation}
 use Rattle.rules.specs.Units.{NamedUnit}
 use Rattle.rules.specs.Components.{intermediateFault, lockFindings, madeIntermediate}

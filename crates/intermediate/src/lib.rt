@@ -1,6 +1,5 @@
 // An intermediate reference of an ingredient: the refusals 15 and 16, the step or section that it is to, the findings 7 to 9,
 // and the relation that it gives.
-ghost use mathlib.Core.Path.{_≡_};
 ghost use Prim.Native.Nat.{_<_};
 ghost use Rattle.rules.specs.Checks.{intermediateFindings};
 ghost use Rattle.components.specs.Views.{intermediateIn};

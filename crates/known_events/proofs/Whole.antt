@@ -6,7 +6,7 @@ use mathlib.Core.List.{List, [], _∷_, _++_}
 use mathlib.Core.Option.{Option, none, some}
 use Rattle.rules.specs.Basic.{pick, lf, isSome}
 use Rattle.rules.specs.Utf8.{isUtf8}
-use Rattle.rules.specs.Sheet.{fieldsOf, unescape}
+use Rattle.rules.specs.Sheet.{fieldsOf}
 use Rattle.rules.specs.Event.{Event}
 use Rattle.rules.specs.Read.{Fields, firstRead, readEvent, parseLine}
 use Rattle.rules.proofs.Basics.{no-truth}
@@ -32,7 +32,7 @@ use Rattle.events.specs.declared.Inside.{Inside}
 use Rattle.events.specs.declared.Inside.the-variants as inside
 use Rattle.events.specs.declared.EventView.{EventView}
 use Rattle.events.specs.declared.EventView.the-variants as event
-use Rattle.events.specs.Views.{eventIn, BetweenWithin, ComponentEventWithin, InsideWithin, EventWithin, rawBetween, rawComponentEvent, rawInside, rawEvent}
+use Rattle.events.specs.Views.{BetweenWithin, ComponentEventWithin, InsideWithin, EventWithin, rawBetween, rawComponentEvent, rawInside, rawEvent}
 use Rattle.reading.specs.declared.ReadEvent.{ReadEvent}
 use Rattle.reading.specs.declared.ReadEvent.the-variants as answer
 use Rattle.reading.specs.Answers.{eventAs, IfEvent, IfWhole, EventOf}

@@ -2,19 +2,19 @@
 use Prim.Native.Nat.{ℕ, zero, suc, _+_, _-_, _*_, _≤_, _<_}
 use mathlib.Core.Path.{_≡_, refl, sym, ap, _∙_}
 use mathlib.Core.List.{List, [], _∷_}
-use mathlib.Core.Bool.{Bool, true, false, _&&_, _||_, not}
+use mathlib.Core.Bool.{Bool, true, false, _||_, not}
 use mathlib.Core.Option.{Option, none, some}
 use native.Mathlib.Omega.{arith}
 use borrow.Author.Tests.{eq-eqb, ne-eqb, not-true, not-false}
 use lib.Dec.{eqb}
 use lib.ListN.{length, getD, take, drop}
 use lib.Seq.{slice, take-nil}
-use Rattle.rules.specs.Basic.{pick, eqList, onSome}
+use Rattle.rules.specs.Basic.{pick, onSome}
 use Rattle.rules.specs.Text.{retain}
 use Rattle.rules.specs.Read.{contentOf}
 use Rattle.rules.specs.Unicode.{foldName, sameName}
 use Rattle.rules.specs.Model.{Kind, ingredient, cookware, Entry, setRelation, setModifiers}
-use Rattle.rules.specs.Reference.{Earlier, eqBool, fits, sameNameIn, sameNameOf}
+use Rattle.rules.specs.Reference.{eqBool, fits, sameNameIn, sameNameOf}
 use Rattle.rules.specs.State.{tableOf}
 use Rattle.rules.proofs.Basics.{no-some, some-inj}
 use Rattle.content.specs.Contents.{contentIn, keptIn}
@@ -22,7 +22,7 @@ use Rattle.content.specs.Parts.{Field}
 use Rattle.content.proofs.Plains.{content-of}
 use Rattle.content.proofs.Lines.{field-content}
 use Rattle.model.specs.Rows.{rowAt, rowOf, componentOfLine, modifiersIn, entryAs, entryIn, entriesIn}
-use Rattle.model.specs.Memory.{windowsOf, stateIn, stateOf, Room, Sound}
+use Rattle.model.specs.Memory.{windowsOf, stateIn, stateOf, Sound}
 use Rattle.model.specs.Fits.{Fits, EachRow, AllFit}
 use Rattle.model.specs.declared.Row.{Row}
 use Rattle.model.specs.declared.Held.{Held}

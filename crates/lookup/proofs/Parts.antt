@@ -1,6 +1,6 @@
 -- The name of a new component: parts of parts.
-use Prim.Native.Nat.{ℕ, zero, suc, _+_, _-_, _≤_, _<_}
-use mathlib.Core.Path.{_≡_, refl, sym, ap, _∙_}
+use Prim.Native.Nat.{ℕ, zero, suc, _+_, _-_, _≤_}
+use mathlib.Core.Path.{_≡_, sym, ap, _∙_}
 use mathlib.Core.List.{List, [], _∷_}
 use mathlib.Core.Bool.{Bool, true, false, not}
 use native.Mathlib.Omega.{arith}
@@ -9,8 +9,7 @@ use lib.ListN.{length, take, drop, length-drop}
 use lib.Seq.{slice, drop-drop, take-take, take-all, take-nil, length-slice}
 use Rattle.rules.specs.Text.{trimEnd, trimMatches, textOuterTrimmed, textTrimmed}
 use Rattle.rules.specs.Unicode.{isWhiteSpace}
-use Rattle.rules.specs.Event.{Component}
-use Rattle.rules.specs.Model.{Kind, ingredient, cookware, trimmedText, nameOf, referenceIn, entryWith, entryOf}
+use Rattle.rules.specs.Model.{trimmedText, nameOf, referenceIn, entryWith, entryOf}
 use Rattle.content.specs.Contents.{contentIn, keptIn}
 use Rattle.content.specs.Names.{NameAt}
 use Rattle.content.specs.declared.NamePlace.{NamePlace}

@@ -8,7 +8,7 @@ use lib.Seq.{sets}
 use Rattle.rules.specs.Model.{Kind, ingredient, cookware, Entry}
 use Rattle.rules.specs.Reference.{setReferencedFrom}
 use Rattle.rules.specs.State.{State, tableOf, setTable}
-use Rattle.model.specs.Rows.{rowWords, entryAs}
+use Rattle.model.specs.Rows.{entryAs}
 use Rattle.model.specs.Memory.{windowsOf, stateOf, stateIn, Sound}
 use Rattle.model.specs.declared.Found.{Found}
 use Rattle.model.specs.declared.Found.the-variants.{At, Nothing}
@@ -16,7 +16,7 @@ use Rattle.model.specs.declared.Row.{Row}
 use Rattle.model.specs.declared.Held.{Held}
 use Rattle.model.proofs.Tables.{entries-length}
 use Rattle.model.proofs.Entries.{referred-later, table-set, set-table-twice}
-use Rattle.memory.specs.Pushes.{rowsFrom, pairsFrom, countOf, pairsOf, withCount, withPairs, RowPushed, PairPushed, referredTo, FoundBelow, heldWith, wordsWith, ComponentAdded}
+use Rattle.memory.specs.Pushes.{pairsFrom, countOf, pairsOf, withCount, withPairs, RowPushed, PairPushed, FoundBelow, ComponentAdded}
 
 -- a table has as many entries as are counted
 pub table-count : (k : Kind) (sheet w : List ℕ) (h : Held) → length (tableOf k (stateIn sheet w h)) ≡ countOf k h

@@ -4,7 +4,7 @@ use mathlib.Core.List.{List}
 use native.Mathlib.Omega.{arith}
 use lib.ListN.{length}
 use Rattle.rules.specs.Model.{ingredient, cookware}
-use Rattle.model.specs.Memory.{windowsOf, Room, Sound, firstHeld}
+use Rattle.model.specs.Memory.{windowsOf, Sound, firstHeld}
 use Rattle.model.specs.Fits.{Fits, AllFit}
 use Rattle.model.specs.Small.{withDefine, withDuplicate, withBlock, withItems, withTimers, withInline, withOld}
 use Rattle.model.specs.declared.Define.{Define}

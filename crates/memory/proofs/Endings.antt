@@ -3,10 +3,9 @@ use Prim.Native.Nat.{ℕ, zero, suc, _+_}
 use mathlib.Core.Path.{_≡_, refl, sym, ap, _∙_}
 use mathlib.Core.List.{List, [], _∷_}
 use mathlib.Core.Bool.{Bool, true, false}
-use mathlib.Core.Option.{Option, none, some}
+use mathlib.Core.Option.{none, some}
 use native.Mathlib.Omega.{arith}
-use native.Mathlib.Numerals.{add-one}
-use lib.ListN.{length, replicate, length-replicate}
+use lib.ListN.{length, replicate}
 use Rattle.rules.specs.Basic.{pick, isSome}
 use Rattle.rules.specs.Finding.{Finding}
 use Rattle.rules.specs.State.{State, setPlace, setKept, report, overLimits, going, recipe, refusal}
@@ -14,13 +13,12 @@ use Rattle.rules.specs.Metadata.{oldMetadata}
 use Rattle.rules.specs.Event.{Span}
 use Rattle.rules.specs.Pass.{isOpen, isEmptySection, closeSection, onSection, ended, unlessOver, finish}
 use Rattle.model.specs.Blank.{blankSpan, blank, refusalOf}
-use Rattle.model.specs.Rows.{findingsIn}
 use Rattle.model.specs.Memory.{windowsOf, openOf, stateOf, stateIn}
 use Rattle.model.specs.Small.{withFindings}
 use Rattle.model.specs.declared.Open.{Open}
 use Rattle.model.specs.declared.Open.the-variants.{Nothing, Step, Text as TextBlock, TextMode}
 use Rattle.model.specs.declared.Held.{Held}
-use Rattle.model.proofs.Tables.{entries-length, findings-length}
+use Rattle.model.proofs.Tables.{findings-length}
 use Rattle.model.proofs.Ends.{over-report-blank}
 use Rattle.memory.specs.Pushes.{SectionBegun, OverLimits, EndRefused, isOpenBlock}
 use Rattle.memory.proofs.Smalls.{state-blank}

@@ -7,18 +7,17 @@ use mathlib.Core.Option.{Option, none, some}
 use native.Mathlib.Omega.{arith}
 use native.Mathlib.Numerals.{add-one}
 use lib.Dec.{eqb, ltb}
-use lib.ListN.{length, getD, replicate, length-replicate}
+use lib.ListN.{getD, replicate, length-replicate}
 use borrow.Author.Tests.{lt-ltb, le-ltb}
 use Rattle.rules.specs.Basic.{pick, each, isEmpty, isSome, onSome}
 use Rattle.rules.specs.Event.{Text}
-use Rattle.rules.specs.Model.{Kind, ingredient, cookware, trimmedText, stepBlock, textBlock}
+use Rattle.rules.specs.Model.{cookware, trimmedText, stepBlock, textBlock}
 use Rattle.rules.specs.Modes.{firstModes}
-use Rattle.rules.specs.State as state
-use Rattle.rules.specs.State.{State, firstState, Place, noBlock, setModes, setMetadata, setPlace, setBlock, setKept, setTables, setTimers, setInline, overLimits}
+use Rattle.rules.specs.State.{State, firstState, noBlock, setModes, setMetadata, setPlace, setBlock, setKept, setTables, setTimers, setInline, overLimits}
 use Rattle.rules.specs.Pass.{isEmptySection, closeSection, onSection}
 use Rattle.model.specs.Blank.{blankSpan, blankSection, blankTimer, blankInline, blankBlock, blankOpen, blankName, blankPlace, blankMetadata, blankKept, blankTables, blank}
 use Rattle.model.specs.Rows.{blockOf, blocksIn, entriesIn, findingsIn}
-use Rattle.model.specs.Memory.{windowsOf, defineOf, duplicateOf, openOf, stateOf, stateIn, firstHeld, Room, Sound}
+use Rattle.model.specs.Memory.{windowsOf, defineOf, duplicateOf, openOf, stateOf, stateIn, firstHeld, Sound}
 use Rattle.model.specs.Small.{withDefine, withDuplicate, withBlock, withNamed, withCounter, withHere, withSections, withItems, withTimers, withInline, withOld}
 use Rattle.model.specs.declared.Define.{Define}
 use Rattle.model.specs.declared.Duplicate.{Duplicate}

@@ -1,22 +1,18 @@
 -- What words and the small state stand for after one row, pair, finding or block more.
-use Prim.Native.Nat.{ℕ, suc, _+_, _*_, _≤_, _<_}
-use mathlib.Core.Path.{_≡_, refl, sym, ap, _∙_}
+use Prim.Native.Nat.{ℕ, _+_, _*_, _≤_, _<_}
+use mathlib.Core.Path.{_≡_, refl, ap, _∙_}
 use mathlib.Core.List.{List, [], _∷_}
-use mathlib.Core.Bool.{Bool, true, false}
-use mathlib.Core.Option.{Option, none, some}
 use native.Mathlib.Omega.{arith}
 use native.Mathlib.Numerals.{add-one}
-use lib.ListN.{length, getD, set, take, drop, length-drop}
+use lib.ListN.{length, set, drop, length-drop}
 use lib.Seq.{sets, length-sets, length-take-le}
 use borrow.Rule.Slice.PartMut.{midOf, putMid}
-use Rattle.rules.specs.Basic.{pick}
-use Rattle.rules.specs.Model.{Kind, ingredient, cookware}
+use Rattle.rules.specs.Model.{ingredient, cookware}
 use Rattle.rules.specs.Reference.{setReferencedFrom}
-use Rattle.rules.specs.State.{State, tableOf, setTable, setTables, setPlace, setKept, report}
+use Rattle.rules.specs.State.{tableOf, setTable, setTables, setPlace, setKept, report}
 use Rattle.rules.specs.Pass.{keepBlock}
-use Rattle.model.specs.Blank.{blank}
-use Rattle.model.specs.Rows.{rowWords, entryAs, entriesIn, notedWords, findingOf, findingsIn, blockOf, blocksIn, referrersIn}
-use Rattle.model.specs.Memory.{Windows, windowsOf, openOf, stateOf, stateIn, Room, Below, Sound}
+use Rattle.model.specs.Rows.{rowWords, entryAs, notedWords, findingOf, blockOf}
+use Rattle.model.specs.Memory.{windowsOf, openOf, stateOf, stateIn, Room, Below, Sound}
 use Rattle.model.specs.Fits.{Fits, AllFit}
 use Rattle.model.specs.Small.{withBlock, withCounter, withHere, withBlocks, withIngredients, withCookware, withIngredientPairs, withCookwarePairs, withFindings}
 use Rattle.model.specs.declared.Open.the-variants.{Nothing}

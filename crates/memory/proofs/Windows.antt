@@ -1,12 +1,11 @@
 -- The windows of work memory after a run of stores in one of them.
 use Prim.Native.Nat.{ℕ, _+_, _≤_}
-use mathlib.Core.Path.{_≡_, refl}
+use mathlib.Core.Path.{_≡_}
 use mathlib.Core.List.{List}
 use native.Mathlib.Omega.{arith}
 use lib.ListN.{length}
 use lib.Seq.{sets}
-use borrow.Rule.Slice.PartMut.{midOf}
-use Rattle.model.specs.Memory.{Windows, windowsOf}
+use Rattle.model.specs.Memory.{windowsOf}
 use Rattle.model.proofs.Stores.{mid-above, mid-below, mid-own}
 
 module _ (w : List ℕ) (j : ℕ) (vs : List ℕ) where

@@ -1,7 +1,7 @@
 // The whole of work memory and the small state beside it: one component, referrer, finding, block or section more.
 // Rows are stored first; whether a limit was passed is asked after the line.
 ghost use mathlib.Core.Path.{_≡_};
-ghost use Prim.Native.Nat.{_+_, _<_, _≤_};
+ghost use Prim.Native.Nat.{_+_, _<_};
 ghost use Rattle.rules.specs.Model.{ingredient, cookware};
 ghost use Rattle.model.specs.Memory.{firstHeld, Sound};
 ghost use Rattle.model.specs.Small.{withCounts, withNamed, withBlock};

@@ -1,25 +1,25 @@
 -- What the pass makes of a line does not depend on what `blank` takes away, but for what `blank` takes away.
 use Prim.Native.Nat.{ℕ, suc, _+_}
 use mathlib.Core.Path.{_≡_, refl, sym, ap, _∙_}
-use mathlib.Core.List.{List, [], _∷_, _++_, reverse, reverseAux}
+use mathlib.Core.List.{List, [], _∷_, _++_}
 use mathlib.Core.Bool.{Bool, true, false}
 use mathlib.Core.Option.{Option, none, some}
-use lib.ListN.{length, replicate, length-replicate, length-reverseAux}
-use Rattle.rules.specs.Basic.{pick, each, isEmpty, isSome, any, when, onSome, concat}
+use lib.ListN.{length, length-replicate, length-reverseAux}
+use Rattle.rules.specs.Basic.{pick, each, isEmpty, isSome, any, when}
 use Rattle.rules.specs.Unicode.{isAlphanumeric}
-use Rattle.rules.specs.Words.{BlockKind, stepKind, textKind, ConfigKey, defineKey, duplicateKey, DefineMode, DuplicateMode, IntermediateTarget, targetStep, targetSection}
+use Rattle.rules.specs.Words.{stepKind, textKind, defineKey, duplicateKey, DefineMode, DuplicateMode, IntermediateTarget, targetStep, targetSection}
 use Rattle.rules.specs.Event.{Span, Text, Quantity, Component, Intermediate, ComponentEvent, ingredientEvent, cookwareEvent, timerEvent, Between, metaEvent, sectionEvent, startEvent, Inside, endEvent, textEvent, componentEvent, componentSpan, Event, between, inside, parserEvent}
 use Rattle.rules.specs.Units.{NamedUnit}
 use Rattle.rules.specs.Inline.{Piece}
 use Rattle.rules.specs.Finding.{Finding, found, onlyParsed}
-use Rattle.rules.specs.Model.{Kind, ingredient, cookware, Item, Block, stepBlock, textBlock, Section}
-use Rattle.rules.specs.Modes.{Modes, isComponents, isText, Key, config, unknownConfig, ordinary, keyText, valueText}
+use Rattle.rules.specs.Model.{Kind, ingredient, cookware, Item, Block, stepBlock, textBlock}
+use Rattle.rules.specs.Modes.{Modes, isComponents, Key, config, unknownConfig, ordinary}
 use Rattle.rules.specs.State.{Open, noBlock, stepOpen, textOpen, textModeOpen, Place, State, setModes, setMetadata, setPlace, setBlock, setKept, setTables, tableOf, setTable, setTimers, setInline, report, overLimits, Step, next, stop, Walk, going, failed, refused}
 use Rattle.rules.specs.Metadata.{storeMeta, onDefine, onDuplicate, onKey, onMetadata}
 use Rattle.rules.specs.Checks.{stepIndices, candidates, resolveIntermediateRef}
 use Rattle.rules.specs.Components.{Made, refersToReference, newEntry, madeByName, makeIngredient, makeCookware}
-use Rattle.rules.specs.Pass.{isOpen, isEmptySection, closeSection, onSection, opened, keepBlock, closeText, closeStep, pushItems, itemsOf, quantitiesOf, pushPieces, itemOf, pushComponent, unlessChained, unlessFault, pieces, textInStep, pushTimer, onMade, onComponent, inStepBlock, inTextBlock, sourceText, componentInText, parserFindings, isErrorEvent, inTextMode, settle, onInside, onBetween, onEvent, step, walk}
-use Rattle.model.specs.Blank.{blankSpan, blankSection, blankTimer, blankInline, blankBlock, blankOpen, blankName, blankPlace, blankMetadata, blankKept, blankTables, blank, blankStep, blankWalk}
+use Rattle.rules.specs.Pass.{isOpen, isEmptySection, closeSection, onSection, opened, keepBlock, closeText, closeStep, pushItems, pushPieces, pushComponent, unlessChained, unlessFault, pieces, textInStep, pushTimer, onMade, onComponent, inStepBlock, inTextBlock, sourceText, componentInText, parserFindings, isErrorEvent, inTextMode, settle, onInside, onBetween, onEvent, step, walk}
+use Rattle.model.specs.Blank.{blankSpan, blankBlock, blankOpen, blankName, blankPlace, blankMetadata, blankKept, blankTables, blank, blankStep, blankWalk}
 
 -- ---- twice is once
 

@@ -1,16 +1,15 @@
 -- The end of the pass: whether it is refused does not depend on what `blank` takes away.
-use Prim.Native.Nat.{ℕ, suc}
 use mathlib.Core.Path.{_≡_, refl, sym, ap, _∙_}
 use mathlib.Core.List.{List, [], _∷_}
 use mathlib.Core.Bool.{Bool, true, false}
-use lib.ListN.{length, replicate, length-replicate, length-reverseAux}
+use lib.ListN.{length, replicate, length-reverseAux}
 use Rattle.rules.specs.Basic.{pick}
 use Rattle.rules.specs.Event.{Span}
 use Rattle.rules.specs.Finding.{Finding}
 use Rattle.rules.specs.State.{State, report, overLimits, Walk, going, failed, refused, recipe, refusal}
 use Rattle.rules.specs.Metadata.{oldMetadata}
 use Rattle.rules.specs.Pass.{isOpen, closeSection, ended, unlessOver, finish}
-use Rattle.model.specs.Blank.{blankSpan, blankOpen, blankPlace, blankMetadata, blank, blankWalk, refusalOf}
+use Rattle.model.specs.Blank.{blankSpan, blankPlace, blankMetadata, blank, blankWalk, refusalOf}
 use Rattle.model.proofs.Blanks.{blank-report, close-section, over-blank, open-blank}
 
 -- finding 3 is one or none

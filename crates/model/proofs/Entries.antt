@@ -1,14 +1,14 @@
 -- The entry of a row: its parts, and the entry that the pass makes of a line.
 use Prim.Native.Nat.{ℕ, _<_}
-use mathlib.Core.Path.{_≡_, refl, sym, ap, _∙_}
+use mathlib.Core.Path.{_≡_, refl}
 use mathlib.Core.List.{List, [], _∷_}
 use mathlib.Core.Bool.{Bool, true}
-use mathlib.Core.Option.{Option, none, some}
+use mathlib.Core.Option.{Option, some}
 use native.Mathlib.Omega.{arith}
 use lib.ListN.{length}
 use lib.Seq.{slice}
 use borrow.Author.Tests.{ne-eqb}
-use Rattle.rules.specs.Event.{Component, Intermediate, Event, inside, componentEvent, ingredientEvent, cookwareEvent}
+use Rattle.rules.specs.Event.{Component, Intermediate, inside, componentEvent, ingredientEvent, cookwareEvent}
 use Rattle.rules.specs.Read.{parseLine}
 use Rattle.rules.specs.Model.{Kind, ingredient, cookware, definition, Entry, entryWith, entryOf, setRelation, setModifiers}
 use Rattle.rules.specs.Reference.{setReferencedFrom}

@@ -1,20 +1,18 @@
 -- Rows read and written: what small answers say.
-use Prim.Native.Nat.{ℕ, _+_, _-_, _*_, _≤_, _<_}
-use mathlib.Core.Path.{_≡_, refl, sym, ap, _∙_}
+use Prim.Native.Nat.{ℕ, _+_, _-_, _≤_}
+use mathlib.Core.Path.{_≡_, sym, ap, _∙_}
 use mathlib.Core.List.{List, [], _∷_}
 use native.Mathlib.Omega.{arith}
 use lib.ListN.{length, getD, take, drop, length-drop}
 use lib.Seq.{length-take-le}
-use borrow.Rule.Slice.PartMut.{midOf}
 use lib.Dec.{eqb}
 use lib.Seq.{sets}
 use Rattle.model.specs.Rows.{bitOf, relationWord, relationOf, rowOf, rowWords, notedWords}
 use Rattle.model.specs.declared.Row.{Row}
-use Rattle.model.specs.declared.RelationRecord.{RelationRecord}
 use Rattle.model.specs.declared.Noted.{Noted}
 use Rattle.model.specs.declared.Target.{Target}
 use Rattle.model.specs.declared.Relation.{Relation}
-use Rattle.model.specs.declared.Relation.the-variants.{Definition, Reference}
+use Rattle.model.specs.declared.Relation.the-variants.{Reference}
 
 pub word-of : (n : ℕ) (r : Relation) (t : Target) (u : Target) → r ≡ Reference t → t ≡ u → relationWord (Reference u) ≡ n → n ≡ relationWord r
 word-of n r t u e f q = sym q ∙ ap (λ (x : Target). relationWord (Reference x)) (sym f) ∙ ap relationWord (sym e)

@@ -3,7 +3,7 @@ use Prim.Native.Nat.{ℕ, zero, suc, _+_, _-_, _*_, _≤_, _<_}
 use mathlib.Core.Path.{_≡_, refl, sym, ap, _∙_}
 use mathlib.Core.List.{List, [], _∷_, _++_, reverse, reverse-cons}
 use mathlib.Core.Bool.{Bool, true, false}
-use mathlib.Core.Option.{Option, none, some}
+use mathlib.Core.Option.{none, some}
 use native.Mathlib.Omega.{arith}
 use native.Mathlib.Numerals.{add-one}
 use native.Mathlib.Nat.{add-zero, zero-add, add-suc, suc-add}
@@ -17,11 +17,10 @@ use Rattle.rules.specs.Words.{targetStep, targetSection}
 use Rattle.rules.specs.Event.{Intermediate}
 use Rattle.rules.specs.Checks.{stepIndices, sectionIndices, candidates, nth, resolveIntermediateRef}
 use Rattle.model.specs.Rows.{referrersIn, referrersFrom, blockOf, blocksIn, stepsFrom}
-use Rattle.model.specs.Contracts.{NextReferrer, NextAs, foundOf, TargetFound}
+use Rattle.model.specs.Contracts.{NextReferrer, foundOf, TargetFound}
 use Rattle.model.specs.declared.Found.{Found}
 use Rattle.model.specs.declared.Found.the-variants.{At, Nothing}
 use Rattle.rules.proofs.Basics.{by-order}
-use Rattle.model.specs.declared.Next.{Next}
 use Rattle.model.specs.declared.Next.the-variants.{Referrer, NoMore}
 
 -- ---- referrers

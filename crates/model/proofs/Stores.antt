@@ -1,12 +1,12 @@
 -- A run of stores: what a part holds after it, inside and outside.
-use Prim.Native.Nat.{ℕ, zero, suc, _+_, _-_, _*_, _≤_, _<_}
+use Prim.Native.Nat.{ℕ, suc, _+_, _-_, _≤_, _<_}
 use mathlib.Core.Path.{_≡_, refl, sym, ap, _∙_}
 use mathlib.Core.List.{List, [], _∷_, _++_, append-nil}
 use native.Mathlib.Omega.{arith}
 use native.Mathlib.Nat.{add-zero, add-suc}
-use lib.ListN.{length, getD, take, drop, set, length-set, length-take, length-drop, drop-of-length-le}
-use lib.Seq.{sets, sets-eq, length-sets, length-take-le, take-set-le, take-set-lt, drop-set-lt, drop-set-add, drop-cons, drop-drop, getD-set-other, getD-take, getD-drop}
-use borrow.Rule.Slice.PartMut.{midOf, postOf, putMid, put-same}
+use lib.ListN.{length, getD, take, drop, set, length-set, length-drop, drop-of-length-le}
+use lib.Seq.{sets, sets-eq, length-take-le, take-set-le, take-set-lt, drop-set-lt, drop-set-add, drop-cons, drop-drop, getD-set-other, getD-take, getD-drop}
+use borrow.Rule.Slice.PartMut.{midOf, putMid, put-same}
 
 -- ---- parts
 

@@ -1,28 +1,25 @@
 -- What tables hold after a row more.
 use Prim.Native.Nat.{ℕ, zero, suc, _+_, _*_, _≤_, _<_}
 use mathlib.Core.Path.{_≡_, refl, sym, ap, _∙_}
-use mathlib.Core.List.{List, [], _∷_, _++_}
+use mathlib.Core.List.{List, [], _∷_}
 use mathlib.Core.Bool.{Bool, true, false}
 use mathlib.Core.Option.{some}
 use native.Mathlib.Omega.{arith}
 use native.Mathlib.Numerals.{add-one}
 use lib.Dec.{eqb}
-use lib.ListN.{length, getD, take, drop, set, length-set}
+use lib.ListN.{length, getD, set, length-set}
 use lib.Seq.{sets, getD-set-same, getD-set-other}
-use borrow.Author.Tests.{eq-eqb, ne-eqb, eqb-true, eqb-false}
+use borrow.Author.Tests.{ne-eqb, eqb-true, eqb-false}
 use borrow.Rule.Slice.PartMut.{midOf}
 use Rattle.rules.specs.Basic.{pick}
-use Rattle.rules.specs.Model.{Kind, ingredient, cookware, definition, reference, Entry, entryOf, setRelation, setModifiers, Block}
+use Rattle.rules.specs.Model.{Kind, setRelation}
 use Rattle.rules.specs.Reference.{entryAt, referredBy, setReferencedFrom}
-use Rattle.rules.specs.Finding.{Finding}
 use Rattle.model.specs.Rows.{rowAt, bitOf, relationWord, relationOf, rowWords, rowOf, relationAs, relationIn, entryAs, referrersIn, entryIn, entriesIn, notedWords, notedOf, findingOf, findingIn, findingsIn, blockOf, blocksIn}
 use Rattle.model.specs.Memory.{Below}
 use Rattle.model.specs.Fits.{EachRow}
-use Rattle.model.specs.declared.Target.{Target}
 use Rattle.model.specs.declared.Target.the-variants.{Ingredient, Step, Section}
 use Rattle.model.specs.declared.Relation.{Relation}
 use Rattle.model.specs.declared.Relation.the-variants.{Definition, Reference}
-use Rattle.model.specs.declared.RelationRecord.{RelationRecord}
 use Rattle.model.specs.declared.Row.{Row}
 use Rattle.model.specs.declared.Noted.{Noted}
 use Rattle.model.proofs.Stores.{mid-stored, mid-below, getD-sets-other}

@@ -1,12 +1,12 @@
 -- The state of the pass that work memory and the small state stand for. What memory does not keep is blank.
 use Prim.Native.Nat.{ℕ, _*_, _≤_, _<_}
 use mathlib.Core.List.{List, []}
-use mathlib.Core.Bool.{Bool, false}
-use mathlib.Core.Option.{Option, none, some}
+use mathlib.Core.Bool.{false}
+use mathlib.Core.Option.{none, some}
 use lib.ListN.{length, getD, take, drop, replicate}
 use Rattle.rules.specs.Basic.{pick}
 use Rattle.rules.specs.Words.{DefineMode, modeAll, modeComponents, modeSteps, modeText, DuplicateMode, duplicateNew, duplicateReference}
-use Rattle.rules.specs.Model.{Kind, ingredient, cookware}
+use Rattle.rules.specs.Model.{ingredient, cookware}
 use Rattle.rules.specs.State as state
 use Rattle.rules.specs.State.{State, noBlock, stepOpen, textOpen, textModeOpen}
 use Rattle.model.specs.Blank.{blankSpan, blankSection, blankTimer, blankInline}
@@ -17,7 +17,6 @@ use Rattle.model.specs.declared.Duplicate.{Duplicate}
 use Rattle.model.specs.declared.Duplicate.the-variants.{New, Reference}
 use Rattle.model.specs.declared.Open.{Open}
 use Rattle.model.specs.declared.Open.the-variants.{Nothing, Step as StepBlock, Text as TextBlock, TextMode}
-use Rattle.model.specs.declared.Counts.{Counts}
 use Rattle.model.specs.declared.Held.{Held}
 
 -- ---- the windows of work memory (docs/MEMORY.md)

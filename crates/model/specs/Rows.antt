@@ -4,7 +4,7 @@ use mathlib.Core.List.{List, [], _∷_}
 use mathlib.Core.Bool.{Bool, true, false}
 use mathlib.Core.Option.{Option, none, some}
 use lib.Dec.{eqb}
-use lib.ListN.{length, getD, take, drop}
+use lib.ListN.{getD, take, drop}
 use lib.Seq.{slice}
 use Rattle.rules.specs.Basic.{pick}
 use Rattle.rules.specs.Words.{severe, mild}
@@ -14,7 +14,6 @@ use Rattle.rules.specs.Finding.{Finding, diag, parsed}
 use Rattle.rules.specs.Model.{Kind, ingredient, cookware, toStep, toSection, targetOf, definition, reference, Entry, entryOf, setRelation, setModifiers, Block, stepBlock, textBlock}
 use Rattle.rules.specs.Model as model
 use Rattle.model.specs.Blank.{blankSpan}
-use Rattle.model.specs.declared.Target.{Target}
 use Rattle.model.specs.declared.Target.the-variants.{Ingredient, Step, Section}
 use Rattle.model.specs.declared.Relation.{Relation}
 use Rattle.model.specs.declared.Relation.the-variants.{Definition, Reference}

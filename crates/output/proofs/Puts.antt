@@ -1,11 +1,10 @@
 -- Writers follow one another: `Put v` and then `Put w` is `Put (v ++ w)`.
-use Prim.Native.Nat.{ℕ, zero, suc, _+_, _-_, _^_, _≤_, _<_}
+use Prim.Native.Nat.{ℕ, _+_, _-_, _^_, _≤_, _<_}
 use mathlib.Core.Path.{_≡_, refl, ap, sym, _∙_}
 use mathlib.Core.List.{List, [], _∷_, _++_, append-nil, append-assoc}
-use native.Mathlib.Numerals.{add-one}
 use native.Mathlib.Omega.{arith}
 use borrow.Author.Tests.{le-leb, lt-leb}
-use lib.ListN.{length, getD, take, drop, set, take-append-drop, drop-of-length-le, length-append, length-drop, length-take}
+use lib.ListN.{length, take, drop, set, take-append-drop, drop-of-length-le, length-append, length-drop, length-take}
 use lib.Seq.{take-all, take-at, drop-at, length-take-le, set-split, drop-cons, drop-drop}
 use Rattle.rules.proofs.Basics.{by-order}
 use Rattle.output.specs.Put.{over, overAt, after, Put}

@@ -1,21 +1,20 @@
 -- From the code's arms to what a line adds.
-use Prim.Native.Nat.{ℕ, _+_, _<_, _^_}
+use Prim.Native.Nat.{ℕ, _+_}
 use mathlib.Core.Path.{_≡_, refl, sym, ap, _∙_, subst}
 use mathlib.Core.List.{List, [], _∷_, _++_}
-use mathlib.Core.Bool.{Bool, true, false, not}
-use mathlib.Core.Option.{Option, none, some}
+use mathlib.Core.Bool.{Bool, true, false}
+use mathlib.Core.Option.{none}
 use native.Mathlib.Omega.{arith}
 use borrow.Author.Tests.{le-leb}
 use lib.ListN.{length}
 use Rattle.rules.specs.Basic.{pick, codes, lf, isSome, onSome}
 use Rattle.rules.specs.Sheet.{lineOf}
-use Rattle.rules.specs.Words as words
 use Rattle.rules.specs.Event as rules
 use Rattle.rules.specs.Units.{NamedUnit}
 use Rattle.rules.specs.Answer.{isGoodSpan}
 use Rattle.rules.specs.Model.{trimmedText}
 use Rattle.rules.specs.Modes.{isComponents}
-use Rattle.rules.specs.Pass.{pieces, quantitiesOf, sourceText}
+use Rattle.rules.specs.Pass.{pieces, sourceText}
 use Rattle.rules.specs.Page.{optional, itemLine}
 use Rattle.output.specs.Put.{Put, over, overAt, after}
 use Rattle.output.proofs.Puts.{put-seq}
@@ -40,7 +39,7 @@ use Rattle.blocks.specs.Lined.{SpanOf}
 use Rattle.step_lines.specs.Lines.{itemAs, PutItem, itemText, TextLines}
 use Rattle.step_lines.specs.declared.ItemKind.the-variants as item
 use Rattle.step_lines.specs.declared.TextItems.{TextItems}
-use Rattle.following.specs.Drawn.{keeps, sectionLine, stepLine, textLead, lead, startAdds, componentItem, unlessComponents, insideAdds, quantitiesIn, quantitiesAdded}
+use Rattle.following.specs.Drawn.{keeps, sectionLine, lead, startAdds, componentItem, unlessComponents, insideAdds, quantitiesIn, quantitiesAdded}
 use Rattle.following.specs.declared.Follow.{Follow}
 use Rattle.page_parts.specs.Drawing.{ItemDrawn, EndDrawn, ComponentDrawn, TextDrawn}
 

@@ -1,9 +1,8 @@
 -- What a line adds to the sections, by its kind.
 use Prim.Native.Nat.{ℕ}
 use mathlib.Core.Path.{_≡_, refl, sym, ap, _∙_, subst}
-use mathlib.Core.List.{List, [], _∷_, _++_}
-use mathlib.Core.Bool.{Bool, true, _&&_}
-use mathlib.Core.Option.{Option, none, some}
+use mathlib.Core.List.{List, []}
+use mathlib.Core.Bool.{true}
 use lib.ListN.{length}
 use Rattle.rules.specs.Basic.{all}
 use Rattle.rules.specs.Event as rules
@@ -12,8 +11,6 @@ use Rattle.rules.specs.Units.{NamedUnit}
 use Rattle.rules.specs.Answer.{isGoodSpan}
 use Rattle.rules.proofs.Basics.{and-left}
 use Rattle.output.specs.Put.{Put}
-use Rattle.output.proofs.Texts.{text-is}
-use Rattle.parts.specs.Views.{spanIn, textIn}
 use Rattle.parts.specs.declared.TextView.{TextView}
 use Rattle.parts.specs.declared.OptText.{OptText}
 use Rattle.components.specs.Views.{componentIn}

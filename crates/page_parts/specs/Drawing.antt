@@ -17,7 +17,7 @@ use Rattle.events.specs.declared.Inside.{Inside}
 use Rattle.events.specs.declared.EventView.{EventView}
 use Rattle.model.specs.declared.Open.{Open}
 use Rattle.step_lines.specs.declared.TextItems.{TextItems}
-use Rattle.following.specs.Drawn.{componentItem, insideAdds, sectionsAdd, timersAdd, inlineAdd, quantitiesAdded}
+use Rattle.following.specs.Drawn.{componentItem, insideAdds, sectionsAdd, quantitiesAdded}
 use Rattle.following.specs.declared.Follow.{Follow}
 
 -- an item's line

@@ -176,14 +176,7 @@ fn meta_line(
 }
 
 // What a line adds to the spans of finding 3.
-fn old_line(
-    t: &[u32],
-    flags: u32,
-    rest: &mut [u8],
-    line: &[u8],
-    e: EventView,
-    f: Follow,
-) -> usize
+fn old_line(t: &[u32], flags: u32, rest: &mut [u8], line: &[u8], e: EventView, f: Follow) -> usize
     requires { ⌜ (now t ≡ unicodeTables) × EventWithin (now line) e ⌝ }
     ensures { λ r. ⌜ OldDrawn flags (now (line .entry)) e f (now (rest .entry)) (now (rest .exit)) r ⌝ }
 {

@@ -1,13 +1,13 @@
 -- A field of one byte.
-use Prim.Native.Nat.{ℕ, zero, suc, _+_, _≤_, _<_}
-use mathlib.Core.Path.{_≡_, refl, ap, sym, _∙_}
+use Prim.Native.Nat.{ℕ, _+_, _≤_, _<_}
+use mathlib.Core.Path.{_≡_, refl, sym, _∙_}
 use mathlib.Core.Bool.{Bool, true, false}
 use mathlib.Core.List.{List, [], _∷_}
 use native.Mathlib.Omega.{arith}
 use borrow.Author.Tests.{eqb-true, eqb-false, eq-eqb, ne-eqb}
 use lib.Dec.{eqb}
 use lib.ListN.{length, getD}
-use Rattle.rules.specs.Basic.{pick, minus, eqList, isEmpty}
+use Rattle.rules.specs.Basic.{minus, eqList, isEmpty}
 use Rattle.rules.proofs.Basics.{no-truth}
 use Rattle.sheet.specs.Lines.{fieldAt}
 use Rattle.sheet.proofs.Tests.{eq-length}

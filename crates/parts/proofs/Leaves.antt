@@ -27,7 +27,7 @@ use Rattle.parts.specs.declared.GotKind.the-variants as kind
 use Rattle.parts.specs.declared.Dash.the-variants as dash
 use Rattle.parts.specs.declared.Part.{Part}
 use Rattle.parts.specs.Views.{partOf, orEmpty, bytesIn, contentIn, kindIn}
-use Rattle.parts.specs.Got.{Among, among-end, among-past, among-one, ReadAt, noContents, ContentRead, KindRead, dashAs, DashAt}
+use Rattle.parts.specs.Got.{among-end, among-past, among-one, ReadAt, noContents, ContentRead, KindRead, dashAs, DashAt}
 use Rattle.parts.proofs.Sequence.{reads, fails}
 
 -- ---- the fields that are left

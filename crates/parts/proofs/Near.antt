@@ -1,13 +1,13 @@
 -- What one digit of a number does that is read at once, and a content's start that is.
-use Prim.Native.Nat.{ℕ, zero, suc, _+_, _-_, _*_, _%_, _^_, _≤_, _<_}
-use mathlib.Core.Path.{_≡_, refl, ap, sym, _∙_}
-use mathlib.Core.Bool.{Bool, true, false}
-use mathlib.Core.List.{List, [], _∷_}
+use Prim.Native.Nat.{ℕ, zero, suc, _+_, _-_, _*_, _%_, _≤_, _<_}
+use mathlib.Core.Path.{_≡_, refl, _∙_}
+use mathlib.Core.Bool.{true}
+use mathlib.Core.List.{List}
 use native.Mathlib.Omega.{arith}
 use borrow.Author.Tests.{eqb-true, eqb-false, le-leb, lt-leb, eq-eqb, ne-eqb}
-use lib.Dec.{eqb, leb}
+use lib.Dec.{eqb}
 use lib.ListN.{length, getD}
-use Rattle.rules.specs.Basic.{pick, tab, backslash}
+use Rattle.rules.specs.Basic.{tab, backslash}
 use Rattle.rules.proofs.Basics.{by-order, pick-either}
 use Rattle.sheet.specs.Runs.{lacks, Lacking}
 use Rattle.sheet.proofs.Runs.{last-of}

@@ -1,15 +1,14 @@
 -- What one turn over a number's digits does, in the field that starts at `at`.
-use Prim.Native.Nat.{ℕ, zero, suc, _+_, _-_, _*_, _≤_, _<_}
+use Prim.Native.Nat.{ℕ, suc, _+_, _-_, _*_, _≤_, _<_}
 use mathlib.Core.Path.{_≡_, refl, ap, sym, _∙_}
-use mathlib.Core.Bool.{Bool, true, false, _&&_, and-false}
+use mathlib.Core.Bool.{Bool, true, false, and-false}
 use mathlib.Core.List.{List, [], _∷_}
-use mathlib.Core.Option.{Option, none, some}
-use native.Mathlib.Numerals.{add-one}
+use mathlib.Core.Option.{none, some}
 use native.Mathlib.Omega.{arith}
 use borrow.Author.Tests.{eqb-true, eqb-false, eq-eqb, ne-eqb, le-leb, lt-leb}
-use lib.Dec.{eqb, leb}
+use lib.Dec.{eqb}
 use lib.ListN.{length, getD}
-use Rattle.rules.specs.Basic.{pick, isDigit, isEmpty}
+use Rattle.rules.specs.Basic.{isEmpty}
 use Rattle.rules.specs.Sheet.{numberUpTo, numberOf, atMost, onlyZero, digitsFrom}
 use Rattle.rules.specs.Read.{readNumber}
 use Rattle.rules.proofs.Basics.{by-order, no-truth}

@@ -15,7 +15,7 @@ use Rattle.rules.specs.Units.{NamedUnit}
 use Rattle.rules.specs.Finding.{Finding, onlyParsed}
 use Rattle.rules.specs.Answer.{events, eventsOr, readFrom, readSheet}
 use Rattle.rules.specs.State.{State, firstState, overLimits, Walk, going, failed, refused}
-use Rattle.rules.specs.Pass.{parserFindings, isErrorEvent, step, walk, ended, finish, parseEvents}
+use Rattle.rules.specs.Pass.{parserFindings, isErrorEvent, step, walk, finish, parseEvents}
 use Rattle.rules.proofs.Chained as chained
 use Rattle.rules.proofs.Fields.{Without}
 use Rattle.sheet.specs.declared.LineEnd.{LineEnd}

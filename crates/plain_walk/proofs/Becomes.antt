@@ -7,7 +7,7 @@ use mathlib.Core.Option.{Option}
 use native.Mathlib.Omega.{arith}
 use lib.ListN.{length, take, drop, length-drop}
 use lib.Seq.{length-take-le}
-use Rattle.rules.specs.Basic.{pick, all}
+use Rattle.rules.specs.Basic.{all}
 use Rattle.rules.specs.Text.{textTrimmed}
 use Rattle.rules.specs.Event as rules
 use Rattle.rules.specs.Event.{spansOf, componentSpan, componentSpans, namedSpans}

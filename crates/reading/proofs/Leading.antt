@@ -1,12 +1,12 @@
 -- A line that starts with a word and a tab: its first field is the word.
-use Prim.Native.Nat.{ℕ, zero, suc, _+_, _≤_, _<_}
+use Prim.Native.Nat.{ℕ, _+_, _≤_, _<_}
 use mathlib.Core.Path.{_≡_, refl, ap, sym, _∙_}
 use mathlib.Core.Bool.{Bool, true, false}
 use mathlib.Core.List.{List, [], _∷_}
 use native.Mathlib.Numerals.{add-one}
 use native.Mathlib.Omega.{arith}
 use borrow.Author.Tests.{eqb-true, eq-eqb, ne-eqb, le-leb}
-use lib.Dec.{eqb, leb}
+use lib.Dec.{eqb}
 use lib.ListN.{length, getD, drop, drop-of-length-le}
 use lib.Seq.{drop-cons}
 use Rattle.rules.specs.Basic.{pick, tab, splitAt, onFirst, eqList, wordIn}
@@ -16,7 +16,6 @@ use Rattle.rules.proofs.Basics.{no-truth}
 use Rattle.rules.proofs.Fields.{Without, without-none, without-more}
 use Rattle.sheet.specs.Lines.{fieldsFrom, fieldAt}
 use Rattle.sheet.specs.Words.{wordAs}
-use Rattle.sheet.specs.declared.Word.{Word}
 use Rattle.sheet.specs.declared.Word.the-variants as told
 use Rattle.reading.specs.declared.FirstWord.{FirstWord}
 use Rattle.reading.specs.Answers.{leadsWith, WordRead}

@@ -7,7 +7,7 @@ use native.Mathlib.Omega.{arith}
 use borrow.Author.Tests.{le-leb, lt-leb, leb-true, leb-false}
 use lib.Dec.{leb}
 use lib.ListN.{length}
-use Rattle.rules.specs.Basic.{pick, isSome, wordIn}
+use Rattle.rules.specs.Basic.{isSome, wordIn}
 use Rattle.rules.proofs.Basics.{pick-either}
 use Rattle.rules.specs.Utf8.{isUtf8, firstFault}
 use Rattle.rules.specs.Sheet.{fieldsOf}

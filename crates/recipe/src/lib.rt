@@ -103,7 +103,17 @@ pub fn collect(
 {
     let t = unicode::unicode_tables();
     let mut index = [0u32; 2304];
-    let r = collected(&t, sheet, text, units, &mut index, flags, words, bytes.len(), out);
+    let r = collected(
+        &t,
+        sheet,
+        text,
+        units,
+        &mut index,
+        flags,
+        words,
+        bytes.len(),
+        out,
+    );
     clearing::clear_words(words);
     clearing::clear_from(bytes, 0);
     clearing::clear_from(out, used(r));

@@ -1,15 +1,13 @@
 -- Counts: what an answer has, and how many of a table's rows refer to their own kind.
-use Prim.Native.Nat.{ℕ, zero, suc, _+_, _*_, _≤_, _<_}
-use mathlib.Core.Path.{_≡_, refl, sym, ap, subst, _∙_}
-use mathlib.Core.List.{List, [], _∷_, _++_}
-use mathlib.Core.Bool.{Bool, true, false, _&&_}
+use Prim.Native.Nat.{ℕ, _+_, _*_, _≤_, _<_}
+use mathlib.Core.Path.{_≡_, refl, sym, subst, _∙_}
+use mathlib.Core.List.{List}
+use mathlib.Core.Bool.{Bool, true, false}
 use native.Mathlib.Omega.{arith}
 use native.Mathlib.Numerals.{add-one}
 use lib.Dec.{leb, ltb}
-use lib.ListN.{length}
 use borrow.Author.Tests.{le-leb, lt-leb, lt-ltb}
 use Rattle.rules.specs.Basic.{pick}
-use Rattle.rules.proofs.Basics.{by-order}
 use Rattle.model.specs.declared.Held.{Held}
 use Rattle.component_records.specs.Records.{noComponent, componentIn, recordsIn}
 use Rattle.component_records.specs.Links.{isOwn, ownAt, ownCount}

@@ -1,7 +1,7 @@
 -- What is left once the rows are lent and the words cleared.
 use Prim.Native.Nat.{ℕ, _-_}
 use mathlib.Core.Path.{_≡_, sym, ap, _∙_}
-use mathlib.Core.List.{List, _++_}
+use mathlib.Core.List.{List}
 use lib.ListN.{length, replicate}
 use Rattle.rules.specs.Model.{Kind, Entry}
 use Rattle.rules.specs.Answer.{workAfter}

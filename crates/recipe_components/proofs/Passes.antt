@@ -1,14 +1,12 @@
 -- One law for each way through the checks and the pass.
 use Prim.Native.Nat.{ℕ, _+_, _*_, _≤_, _<_}
-use mathlib.Core.Path.{_≡_, refl, sym, ap, subst, _∙_}
+use mathlib.Core.Path.{_≡_, refl, sym, ap, _∙_}
 use mathlib.Core.List.{List, []}
 use mathlib.Core.Bool.{Bool, true, false, _&&_, _||_}
-use mathlib.Core.Option.{some}
 use native.Mathlib.Omega.{arith}
 use lib.Dec.{leb, ltb}
 use lib.ListN.{length, take, drop}
 use borrow.Author.Tests.{leb-true, le-ltb}
-use Rattle.rules.specs.Basic.{pick}
 use Rattle.rules.specs.Units.{NamedUnit, readUnits}
 use Rattle.rules.specs.Event.{Event}
 use Rattle.rules.specs.Finding.{Finding}
@@ -16,12 +14,12 @@ use Rattle.rules.specs.Model.{Kind, ingredient, cookware, Entry}
 use Rattle.rules.specs.Reference.{entryAt}
 use Rattle.rules.specs.State.{Tables, State, setKept, tableOf, report, Outcome, recipe, noRecipe, refusal}
 use Rattle.rules.specs.Pass.{isEmptySection, closeSection, ended, parseEvents}
-use Rattle.rules.specs.Answer.{wordsNeeded, bytesNeeded, isShort, collection, events, eventsOr, readSheet, unitsOr}
+use Rattle.rules.specs.Answer.{wordsNeeded, bytesNeeded, isShort, events, eventsOr, readSheet, unitsOr}
 use Rattle.rules.proofs.Basics.{pick-either, no-some, and-left, and-right}
 use Rattle.rules.proofs.Referrers.{Linked, walk-linked}
 use Rattle.rules.proofs.LinkedRecipe.{ownReferences}
 use Rattle.unicode.specs.Tables.{unicodeTables}
-use Rattle.inputs.specs.Inputs.{InputsChecked, GoodInputs}
+use Rattle.inputs.specs.Inputs.{InputsChecked}
 use Rattle.inputs.specs.declared.Inputs.{Inputs}
 use Rattle.inputs.specs.declared.Inputs.the-variants as inputs
 use Rattle.inputs.proofs.Answers.{told-good, told-refused, refused-outcome}

@@ -7,7 +7,7 @@ use mathlib.Core.Option.{some}
 use native.Mathlib.Nat.{zero-add}
 use native.Mathlib.Omega.{arith}
 use lib.Dec.{eqb, ltb}
-use lib.ListN.{length, getD, replicate, length-append}
+use lib.ListN.{length, getD, length-append}
 use lib.Seq.{getD-at, getD-append-add}
 use Rattle.rules.specs.Basic.{pick}
 use Rattle.rules.specs.Model.{Kind, ingredient, cookware, Relation, definition, reference, Entry}

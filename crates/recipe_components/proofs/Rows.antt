@@ -1,6 +1,6 @@
 -- The rows of a table in work memory: their records, and the pairs of those that refer to their own kind.
 use Prim.Native.Nat.{ℕ, zero, suc, _+_, _*_, _≤_, _<_}
-use mathlib.Core.Path.{_≡_, refl, sym, ap, subst, _∙_}
+use mathlib.Core.Path.{_≡_, refl, sym, ap, _∙_}
 use mathlib.Core.List.{List, [], _∷_, _++_}
 use mathlib.Core.Bool.{Bool, true, false}
 use mathlib.Core.Option.{some}
@@ -8,12 +8,11 @@ use native.Mathlib.Omega.{arith}
 use lib.ListN.{length, getD, take, drop}
 use lib.Seq.{take-take}
 use Rattle.rules.specs.Basic.{pick}
-use Rattle.rules.specs.Model.{Kind, ingredient, cookware, toStep, toSection, Relation, definition, reference, targetOf, Entry, entryOf, setRelation, setModifiers}
+use Rattle.rules.specs.Model.{Kind, ingredient, cookware, toStep, toSection, Relation, reference, targetOf, Entry, setRelation, setModifiers}
 use Rattle.rules.specs.Reference.{entryAt, isDefinition}
 use Rattle.rules.proofs.Basics.{no-truth, some-inj}
 use Rattle.rules.proofs.Referrers.{isOwn, own-target, Linked, DefinedAt, entry-below}
 use Rattle.rules.proofs.LinkedRecipe.{isOwnReference, ownReferences}
-use Rattle.model.specs.Rows as rows
 use Rattle.model.specs.Rows.{rowAt, rowOf, modifiersIn, relationAs, relationIn, entryAs, referrersIn, entryIn, entriesIn}
 use Rattle.model.specs.Fits.{Fits, EachRow}
 use Rattle.model.specs.declared.Target.the-variants.{Ingredient, Step, Section}
@@ -24,7 +23,6 @@ use Rattle.model.proofs.Tables.{entries-length, entries-at}
 use Rattle.component_records.specs.Records.{noComponent, lentAs, lentRelation, componentOf, componentIn, recordsIn}
 use Rattle.component_records.specs.Links as links
 use Rattle.component_records.specs.Links.{pairAt, pairsFrom, pairsOf, ownAt, ownCount, RefersBack, Linkable}
-use Rattle.component_records.specs.declared.Component.{Component}
 use Rattle.recipe_components.specs.Components.{relationRecordOf, modifiersOf, RecordOf, RecordsOf, pairOf, tablePairs}
 use Rattle.component_records.proofs.Records.{length-records, getD-records}
 use Rattle.component_records.proofs.Pairs.{count-snoc, pairs-snoc}

@@ -1,11 +1,9 @@
 -- One law for each way through.
-use Prim.Native.Nat.{ℕ, _+_, _<_, _≤_}
+use Prim.Native.Nat.{ℕ, _+_, _<_}
 use mathlib.Core.Path.{_≡_, refl, ap, sym, _∙_}
-use mathlib.Core.Bool.{Bool, true, false, _&&_, _||_, not}
+use mathlib.Core.Bool.{Bool, true, false, _&&_, not}
 use mathlib.Core.List.{List, [], _∷_, _++_}
 use mathlib.Core.Option.{Option, none, some}
-use native.Mathlib.Omega.{arith}
-use lib.ListN.{length}
 use Rattle.rules.proofs.Basics.{no-some, some-inj}
 use Rattle.rules.specs.Basic.{pick, isSome, onSome, when}
 use Rattle.rules.specs.Event as rules

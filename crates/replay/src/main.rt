@@ -9,7 +9,6 @@ use stored_cases::Stored;
 use stored_cases::part;
 use stored_cases::show;
 use stored_cases::starts;
-ghost use Prim.Native.Nat.{_≤_};
 ghost use mathlib.Core.Path.{_≡_};
 ghost use lib.ListN.{length};
 

@@ -2,10 +2,10 @@
 use Prim.Native.Nat.{ℕ, _≤_, _<_}
 use mathlib.Core.Path.{_≡_, refl}
 use mathlib.Core.Bool.{Bool, true, false, _&&_}
-use mathlib.Core.Option.{Option, none, some}
+use mathlib.Core.Option.{none, some}
 use native.Mathlib.Omega.{arith}
-use lib.Dec.{leb, ltb}
-use borrow.Author.Tests.{leb-true, leb-false, ltb-true, ltb-false, le-leb, lt-leb}
+use lib.Dec.{leb}
+use borrow.Author.Tests.{leb-true, leb-false, le-leb, lt-leb}
 use Rattle.rules.specs.Basic.{pick, within}
 
 -- a property of both branches is one of the choice

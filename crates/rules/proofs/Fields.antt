@@ -1,12 +1,12 @@
 -- Escapes, fields and lines: what is written reads back, and what was read writes back.
 use Prim.Native.Nat.{ℕ}
 use mathlib.Core.Path.{_≡_, refl, sym, ap, _∙_}
-use mathlib.Core.List.{List, [], _∷_, _++_, append-nil, append-assoc}
-use mathlib.Core.Bool.{Bool, true, false}
+use mathlib.Core.List.{List, [], _∷_, _++_, append-assoc}
+use mathlib.Core.Bool.{true, false}
 use mathlib.Core.Option.{Option, none, some}
 use lib.Dec.{eqb}
 use borrow.Author.Tests.{eqb-true}
-use Rattle.rules.specs.Basic.{pick, tab, lf, backslash, onFirst, splitAt, joinBy, each}
+use Rattle.rules.specs.Basic.{tab, lf, backslash, onFirst, splitAt, joinBy, each}
 use Rattle.rules.specs.Sheet.{Lines, last, more, onLine, lines, fieldsOf, escaped, onto, unescape, escapeChar, escape, lineOf}
 use Rattle.rules.proofs.Basics.{pick-either, no-some, some-inj}
 

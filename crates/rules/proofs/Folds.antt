@@ -1,23 +1,23 @@
 -- The tables ascend; folding twice is folding once; the shape of what a code point folds to.
 use Prim.Native.Nat.{ℕ, zero, suc, _≤_, _<_}
 use native.Mathlib.Nat.{le-of-suc-le-suc, not-suc-le-zero}
-use mathlib.Core.Path.{_≡_, refl, sym, ap, _∙_}
+use mathlib.Core.Path.{_≡_, refl, ap, _∙_}
 use mathlib.Core.Logic.{_⊎_, inl, inr}
 use mathlib.Core.Bool.{Bool, true, false, _&&_, _||_, not}
 use mathlib.Core.List.{List, [], _∷_, _++_, append-assoc, append-nil}
 use native.Mathlib.Omega.{arith}
-use lib.Dec.{eqb, leb, ltb}
+use lib.Dec.{eqb, ltb}
 use lib.ListN.{length, getD}
 use borrow.Author.Tests.{eqb-true}
 use Rattle.rules.specs.Basic.{pick, within}
-use Rattle.rules.specs.Ranges.{Range, _to_, ascending, FoldLine, _foldsTo_, lookup, keysAscend}
+use Rattle.rules.specs.Ranges.{_to_, ascending, FoldLine, _foldsTo_, lookup, keysAscend}
 use Rattle.rules.specs.Alphabetic.{alphabetic}
 use Rattle.rules.specs.Numeric.{numeric}
 use Rattle.rules.specs.WhiteSpace.{whiteSpace}
 use Rattle.rules.specs.Folding.{folding}
 use Rattle.rules.specs.Unicode.{fold, foldName}
 use Rattle.rules.proofs.Basics.{no-truth, and-left, and-right, and-both, within-yes, within-from, within-to}
-use Rattle.rules.proofs.KeyTree.{Tree, has, keyTree}
+use Rattle.rules.proofs.KeyTree.{has, keyTree}
 
 -- ---- the tables ascend
 

@@ -7,7 +7,7 @@ use mathlib.Core.Option.{Option, none, some}
 use native.Mathlib.Omega.{arith}
 use native.Mathlib.Nat.{pow-suc}
 use lib.Dec.{eqb, leb, ltb}
-use borrow.Author.Tests.{ltb-true, ltb-false, leb-true, eqb-true, eqb-false, lt-ltb, le-ltb, le-leb, eq-eqb, ne-eqb}
+use borrow.Author.Tests.{ltb-true, ltb-false, leb-true, eqb-true, eqb-false, lt-ltb, le-ltb, le-leb, ne-eqb}
 use Rattle.rules.specs.Basic.{pick, tab, lf, backslash, minus, isDigit, digits, decimal}
 use Rattle.rules.specs.Sheet.{digitsFrom, atMost, onlyZero, numberUpTo, escape}
 use Rattle.rules.proofs.Basics.{pick-either, no-some, some-inj, within-from, within-to}

@@ -9,9 +9,9 @@ use lib.ListN.{length}
 use Rattle.rules.specs.Basic.{pick, eqList, any, isSome, wordIn}
 use Rattle.rules.specs.Unicode.{foldName}
 use Rattle.rules.specs.Words.{DefineMode, DuplicateMode, defineWords, duplicateWords, ConfigKey, defineKey, duplicateKey, configKeys}
-use Rattle.rules.specs.Event.{Text, Component, Event, Inside, metaEvent, sectionEvent, startEvent, endEvent, textEvent, componentEvent, ComponentEvent, ingredientEvent, cookwareEvent, timerEvent, between, inside, parserEvent}
+use Rattle.rules.specs.Event.{Component, Event, Inside, metaEvent, sectionEvent, startEvent, endEvent, textEvent, componentEvent, ComponentEvent, ingredientEvent, cookwareEvent, timerEvent, between, inside, parserEvent}
 use Rattle.rules.specs.Model.{Kind, ingredient, cookware, entryOf}
-use Rattle.rules.specs.Modes.{Modes, firstModes, isSteps, isText, isReference, hasModes, keyText, valueText}
+use Rattle.rules.specs.Modes.{firstModes, isSteps, isText, isReference, hasModes, keyText, valueText}
 use Rattle.rules.specs.Reference.{eqBool}
 use Rattle.rules.specs.State.{Outcome, recipe, noRecipe, refusal}
 use Rattle.rules.specs.Pass.{isErrorEvent}

@@ -1,7 +1,7 @@
 -- The events as data (src/parser/model.rs, src/parser/mod.rs; document 01, "The event sheet").
 use Prim.Native.Nat.{ℕ}
 use mathlib.Core.List.{List, [], _∷_, _++_}
-use mathlib.Core.Bool.{Bool, true, false}
+use mathlib.Core.Bool.{Bool}
 use mathlib.Core.Option.{Option, none, some}
 use Rattle.rules.specs.Sheet.{Signed}
 use Rattle.rules.specs.Words.{BlockKind, ValueKind, IntermediateTarget, Severity}

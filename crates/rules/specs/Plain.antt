@@ -9,7 +9,7 @@ use Rattle.rules.specs.Words.{stepKind, textKind}
 use Rattle.rules.specs.Event.{Component, Intermediate, Event, Between, metaEvent, sectionEvent, startEvent, Inside, endEvent, textEvent, componentEvent, ComponentEvent, ingredientEvent, cookwareEvent, timerEvent, between, inside, parserEvent, componentSpan}
 use Rattle.rules.specs.Write.{writeLine}
 use Rattle.rules.specs.Units.{NamedUnit}
-use Rattle.rules.specs.Model.{Kind, ingredient, cookware, Entry, withRef}
+use Rattle.rules.specs.Model.{ingredient, cookware, Entry, withRef}
 use Rattle.rules.specs.Modes.{isComponents, isText, hasModes, Key, config, unknownConfig, ordinary, keyOf, keyText}
 use Rattle.rules.specs.Reference.{Earlier, sameNameOf}
 use Rattle.rules.specs.State.{State, Open, noBlock, stepOpen, textOpen, textModeOpen, Walk, going, failed, refused, tableOf}

@@ -1,13 +1,13 @@
 -- The reading of a line's fields into its event (document 01, "The event sheet").
 use Prim.Native.Nat.{ℕ}
 use mathlib.Core.List.{List, [], _∷_}
-use mathlib.Core.Bool.{Bool, true, false}
+use mathlib.Core.Bool.{Bool, false}
 use mathlib.Core.Option.{Option, none, some}
 use lib.Dec.{eqb}
 use Rattle.rules.specs.Basic.{pick, codes, eqList, minus, isEmpty, onSome, wordIn}
 use Rattle.rules.specs.Utf8.{isUtf8, chars}
 use Rattle.rules.specs.Sheet.{numberOf, signedOf, Signed, fieldsOf, unescape}
-use Rattle.rules.specs.Words.{BlockKind, Severity, blockKinds, valueKinds, locks, references, targets, severe, mild, EventWord, eventWords, metaWord, sectionWord, startWord, endWord, textWord, ingredientWord, cookwareWord, timerWord, errorWord, warningWord}
+use Rattle.rules.specs.Words.{Severity, blockKinds, valueKinds, locks, references, targets, severe, mild, EventWord, eventWords, metaWord, sectionWord, startWord, endWord, textWord, ingredientWord, cookwareWord, timerWord, errorWord, warningWord}
 use Rattle.rules.specs.Event.{Span, Text, Quantity, Modifiers, Component, Intermediate, Event, metaEvent, sectionEvent, startEvent, endEvent, textEvent, componentEvent, ingredientEvent, cookwareEvent, timerEvent, between, inside, parserEvent}
 
 -- ---- a reader takes fields from the left, or finds the line ill-formed

@@ -1,19 +1,15 @@
 -- What an answer says of the definition behind it: each enum taken back.
 use Prim.Native.Nat.{ℕ, _+_, _-_, _≤_, _<_}
-use mathlib.Core.Path.{_≡_, refl, ap, sym, _∙_}
-use mathlib.Core.Bool.{Bool, true, false}
+use mathlib.Core.Path.{_≡_, sym}
 use mathlib.Core.Option.{Option, none, some}
 use mathlib.Core.List.{List}
 use lib.ListN.{length, take, drop}
 use Rattle.rules.specs.Words.{EventWord, metaWord, sectionWord, startWord, endWord, textWord, ingredientWord, cookwareWord, timerWord, errorWord, warningWord, BlockKind, stepKind, textKind, ValueKind, number, range, textual, ConfigKey, defineKey, duplicateKey, DefineMode, modeAll, modeComponents, modeSteps, modeText, DuplicateMode, duplicateNew, duplicateReference}
-use Rattle.rules.specs.Sheet.{Lines, last, more, lines}
-use Rattle.rules.specs.Sheet as rules
+use Rattle.rules.specs.Sheet.{last, more, lines}
 use Rattle.sheet.specs.declared.LineEnd.{LineEnd}
 use Rattle.sheet.specs.declared.LineEnd.the-variants.{At, Nothing}
 use Rattle.sheet.specs.declared.Number.{Number}
 use Rattle.sheet.specs.declared.Number.the-variants.{Value, Bad}
-use Rattle.sheet.specs.declared.Signed.{Signed}
-use Rattle.sheet.specs.declared.Signed.the-variants.{Plus, Minus, Bad as BadSigned}
 use Rattle.sheet.specs.declared.Word.{Word}
 use Rattle.sheet.specs.declared.Word.the-variants as word
 use Rattle.sheet.specs.declared.BlockWord.{BlockWord}
@@ -27,7 +23,7 @@ use Rattle.sheet.specs.declared.DefineWord.the-variants as define
 use Rattle.sheet.specs.declared.DuplicateWord.{DuplicateWord}
 use Rattle.sheet.specs.declared.DuplicateWord.the-variants as duplicate
 use Rattle.sheet.specs.Lines.{linesFrom, LineAt}
-use Rattle.sheet.specs.Numbers.{numberAs, signedNumberAs}
+use Rattle.sheet.specs.Numbers.{numberAs}
 use Rattle.sheet.specs.Words.{wordAs, blockAs, valueAs, keyAs, defineAs, duplicateAs}
 
 -- ---- lines

@@ -1,20 +1,18 @@
 -- What one turn over digits does to the number that is read; r is the answer on the whole.
-use Prim.Native.Nat.{ℕ, zero, suc, _+_, _-_, _*_, _≤_, _<_}
+use Prim.Native.Nat.{ℕ, suc, _+_, _-_, _*_, _≤_, _<_}
 use mathlib.Core.Path.{_≡_, refl, ap, sym, _∙_}
-use mathlib.Core.Bool.{Bool, true, false, _&&_, and-false}
+use mathlib.Core.Bool.{Bool, true, false, and-false}
 use mathlib.Core.Option.{Option, none, some}
 use mathlib.Core.List.{List, [], _∷_}
 use native.Mathlib.Numerals.{add-one}
 use native.Mathlib.Omega.{arith}
 use borrow.Author.Tests.{eq-eqb, ne-eqb, le-leb, lt-leb}
-use lib.Dec.{eqb, leb}
 use lib.ListN.{length, getD, take, drop, drop-of-length-le}
 use lib.Seq.{drop-cons, take-length}
 use Rattle.rules.specs.Basic.{pick, isDigit}
 use Rattle.rules.specs.Sheet.{digitsFrom, atMost, onlyZero, numberUpTo, signedAs, signedOf}
 use Rattle.sheet.specs.declared.Number.{Number}
 use Rattle.sheet.specs.declared.Number.the-variants.{Value, Bad}
-use Rattle.sheet.specs.declared.Signed.{Signed}
 use Rattle.sheet.specs.declared.Signed.the-variants.{Plus, Minus, Bad as BadSigned}
 use Rattle.sheet.specs.Numbers.{numberAs, signedNumberAs}
 

@@ -1,5 +1,5 @@
 -- A scan for a byte: what was passed holds none of it.
-use Prim.Native.Nat.{ℕ, zero, suc, _+_, _-_, _≤_, _<_}
+use Prim.Native.Nat.{ℕ, suc, _+_, _-_, _≤_, _<_}
 use mathlib.Core.Path.{_≡_, refl, ap, sym, _∙_}
 use mathlib.Core.Bool.{Bool, true, false}
 use mathlib.Core.List.{List, [], _∷_, _++_}
@@ -7,13 +7,11 @@ use native.Mathlib.Numerals.{add-one}
 use native.Mathlib.Omega.{arith}
 use borrow.Author.Tests.{eqb-true, ne-eqb, le-leb, lt-leb}
 use lib.Dec.{eqb}
-use lib.ListN.{length, getD, take, drop, drop-of-length-le, take-append-drop, length-append, length-drop}
+use lib.ListN.{length, getD, take, drop, take-append-drop, length-append, length-drop}
 use lib.Seq.{drop-cons, take-suc, take-all, drop-drop, getD-drop, drop-append-add}
-use Rattle.rules.specs.Basic.{pick, tab, lf, splitAt, onFirst}
-use Rattle.rules.specs.Sheet.{Lines, last, more, lines, fieldsOf}
-use Rattle.rules.proofs.Basics.{pick-either}
+use Rattle.rules.specs.Basic.{tab, lf, splitAt}
+use Rattle.rules.specs.Sheet.{lines, fieldsOf}
 use Rattle.rules.proofs.Fields.{Without, without-none, without-more, without-both, split-one, split-more, lines-more, lines-last}
-use Rattle.sheet.specs.declared.LineEnd.{LineEnd}
 use Rattle.sheet.specs.declared.LineEnd.the-variants.{At, Nothing}
 use Rattle.sheet.specs.Lines.{linesFrom, LineAt, fieldsFrom, fieldAt}
 

@@ -1,24 +1,23 @@
 -- Reading a field without its escapes: what one turn does; r is the answer on the whole.
-use Prim.Native.Nat.{ℕ, zero, suc, _+_, _-_, _≤_, _<_}
+use Prim.Native.Nat.{ℕ, suc, _+_, _-_, _≤_, _<_}
 use mathlib.Core.Path.{_≡_, refl, ap, sym, _∙_}
-use mathlib.Core.Bool.{Bool, true, false}
+use mathlib.Core.Bool.{true, false}
 use mathlib.Core.Option.{Option, none, some}
 use mathlib.Core.List.{List, [], _∷_, _++_}
 use native.Mathlib.Numerals.{add-one}
 use native.Mathlib.Omega.{arith}
 use borrow.Author.Tests.{eq-eqb, ne-eqb, le-leb, lt-leb}
-use lib.Dec.{eqb, leb}
-use lib.ListN.{length, getD, take, drop, drop-of-length-le}
+use lib.Dec.{eqb}
+use lib.ListN.{length, getD, drop, drop-of-length-le}
 use lib.Seq.{drop-cons}
-use Rattle.rules.specs.Basic.{pick, isSome}
+use Rattle.rules.specs.Basic.{isSome}
 use Rattle.rules.specs.Sheet.{escaped, onto, unescape}
-use Rattle.rules.proofs.Basics.{pick-either, by-order, no-some, no-truth, some-inj}
+use Rattle.rules.proofs.Basics.{pick-either, by-order, no-truth}
 use Rattle.rules.proofs.Fields.{unescape-one}
 use Rattle.output.specs.Put.{Put}
 use Rattle.output.proofs.Puts.{Leads, starts, turn, step, ends-in, ends-out, put-room, put-fits}
 use Rattle.sheet.specs.declared.Length.{Length}
 use Rattle.sheet.specs.declared.Length.the-variants.{Len, Ill}
-use Rattle.sheet.specs.declared.Unescaped.{Unescaped}
 use Rattle.sheet.specs.declared.Unescaped.the-variants.{Done, Ill as IllDone, NoRoom}
 use Rattle.sheet.specs.Escapes.{orZero, lengthFrom, lengthAs, roomFor, heldAfter, Unescapes}
 

@@ -6,7 +6,7 @@ use mathlib.Core.Option.{Option, none, some}
 use lib.Dec.{leb}
 use lib.ListN.{length, drop}
 use Rattle.rules.specs.Basic.{pick}
-use Rattle.rules.specs.Sheet.{escaped, unescape}
+use Rattle.rules.specs.Sheet.{unescape}
 use Rattle.sheet.specs.declared.Length.{Length}
 use Rattle.sheet.specs.declared.Length.the-variants.{Len, Ill}
 use Rattle.sheet.specs.declared.Unescaped.{Unescaped}

@@ -1,6 +1,5 @@
 -- What the enums of numbers stand for.
 use Prim.Native.Nat.{ℕ}
-use mathlib.Core.Bool.{Bool, true, false}
 use mathlib.Core.Option.{Option, none, some}
 use Rattle.rules.specs.Basic.{pick}
 use Rattle.rules.specs.Sheet as rules

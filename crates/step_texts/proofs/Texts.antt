@@ -5,7 +5,7 @@ use mathlib.Core.Bool.{Bool, true, false}
 use mathlib.Core.List.{List, [], _∷_, reverseAux}
 use native.Mathlib.Omega.{arith}
 use borrow.Author.Tests.{eq-eqb, ne-eqb}
-use lib.ListN.{length, take, drop, replicate, length-replicate, length-reverseAux, length-drop}
+use lib.ListN.{length, drop, replicate, length-replicate, length-reverseAux, length-drop}
 use lib.Seq.{length-take-le}
 use Rattle.rules.specs.Basic.{any, when}
 use Rattle.rules.specs.Unicode.{isAlphanumeric}
@@ -28,14 +28,13 @@ use Rattle.parts.proofs.Contents.{content-of}
 use Rattle.model.specs.Blank.{blank, blankPlace, blankKept, blankTables, blankInline}
 use Rattle.model.specs.Rows.{findingOf}
 use Rattle.model.specs.Memory.{defineOf, stateOf, stateIn, Sound}
-use Rattle.model.specs.Fits.{AllFit}
 use Rattle.model.specs.Small.{withInline}
 use Rattle.model.specs.declared.Noted.{Noted}
 use Rattle.model.specs.declared.Held.{Held}
 use Rattle.memory.specs.Pushes.{FindingPushed}
 use Rattle.memory.proofs.Smalls.{with-inline}
-use Rattle.blocks.specs.Lined.{Told, Went, ItemsPushed}
-use Rattle.blocks.proofs.Lines.{components-of, found-one, found-at, went-none, went-told}
+use Rattle.blocks.specs.Lined.{ItemsPushed}
+use Rattle.blocks.proofs.Lines.{components-of, found-one, found-at, went-none}
 use Rattle.blocks.proofs.Fitting.{items-fit, items-sound}
 use Rattle.step_texts.specs.Texts.{PiecesPushed, TextDone}
 

@@ -1,6 +1,6 @@
 -- What the tests of places say of the definitions.
 use Prim.Native.Nat.{ℕ, _+_, _-_, _≤_, _<_}
-use mathlib.Core.Path.{_≡_, refl, sym}
+use mathlib.Core.Path.{_≡_, sym}
 use mathlib.Core.Bool.{and-false}
 use mathlib.Core.List.{List, []}
 use native.Mathlib.Omega.{arith}

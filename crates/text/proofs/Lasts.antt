@@ -4,10 +4,10 @@ use mathlib.Core.Path.{_≡_, refl, sym, ap, _∙_}
 use mathlib.Core.Bool.{Bool, true, false}
 use mathlib.Core.List.{List, [], _∷_, _++_}
 use native.Mathlib.Omega.{arith}
-use lib.ListN.{length, getD, take, drop, drop-of-length-le}
+use lib.ListN.{length, getD, take, drop-of-length-le}
 use lib.Seq.{split-at, drop-cons}
 use Rattle.rules.specs.Basic.{pick, within, eqList}
-use Rattle.rules.specs.Unicode.{fold, foldName, sameName}
+use Rattle.rules.specs.Unicode.{foldName, sameName}
 use Rattle.rules.proofs.Begins.{later-ascii}
 use Rattle.rules.proofs.Folds.{foldName-append}
 use Rattle.rules.proofs.SameChars.{eq-true}
@@ -16,7 +16,7 @@ use Rattle.content.proofs.Kept.{kept-none}
 use Rattle.content.proofs.Seams.{Opens, kept-join}
 use Rattle.unicode.proofs.Ascii.{ascii-fold}
 use Rattle.text.specs.Plain.{isPlain}
-use Rattle.text.proofs.Plain.{Stands, plain-stands, plain-solid, case-apart}
+use Rattle.text.proofs.Plain.{plain-stands, plain-solid, case-apart}
 
 -- the last of a list
 abbrev final : ℕ → List ℕ → ℕ

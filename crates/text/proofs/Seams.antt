@@ -12,7 +12,7 @@ use lib.Seq.{take-suc, take-take, drop-drop, getD-drop}
 use Rattle.rules.specs.Basic.{pick, eqList}
 use Rattle.rules.specs.Utf8.{later}
 use Rattle.rules.specs.Unicode.{fold, foldName, sameName}
-use Rattle.rules.proofs.Basics.{within-high, by-order, no-truth}
+use Rattle.rules.proofs.Basics.{within-high, by-order}
 use Rattle.rules.proofs.Begins.{later-ascii}
 use Rattle.rules.proofs.Folds.{fold-least}
 use Rattle.utf8.specs.declared.Char.{Char}

@@ -1,14 +1,14 @@
 -- The folding by its columns.
 use Prim.Native.Nat.{ℕ, zero, suc, _+_, _≤_, _<_, zero-le, suc-le-suc}
 use mathlib.Core.Path.{_≡_, refl, sym, ap, _∙_}
-use mathlib.Core.Bool.{Bool, true, false, _&&_}
+use mathlib.Core.Bool.{true, false}
 use mathlib.Core.List.{List, [], _∷_}
 use native.Mathlib.Nat.{le-refl, le-of-suc-le-suc, not-suc-le-zero}
 use native.Mathlib.Omega.{arith}
-use lib.Dec.{eqb, ltb}
+use lib.Dec.{eqb}
 use lib.ListN.{length, getD, take, drop, length-take, length-drop}
 use borrow.Author.Tests.{eq-eqb, ne-eqb, lt-ltb, le-ltb}
-use Rattle.rules.specs.Basic.{pick, within}
+use Rattle.rules.specs.Basic.{within}
 use Rattle.rules.specs.Ranges.{FoldLine, _foldsTo_, lookup}
 use Rattle.rules.specs.Folding.{folding}
 use Rattle.rules.specs.Unicode.{fold}
@@ -18,7 +18,7 @@ use Rattle.unicode.specs.Search.{Ascending, Place}
 use Rattle.unicode.specs.Tables.{keys, column, unicodeTables}
 use Rattle.unicode.specs.Folded.{rowOf}
 use Rattle.unicode.proofs.Places.{keys-ascending}
-use Rattle.unicode.proofs.Windows.{Columns, columns, in-window}
+use Rattle.unicode.proofs.Windows.{columns, in-window}
 
 -- ---- a mapping and its row: no code point of a mapping is 0, which the row has for none
 

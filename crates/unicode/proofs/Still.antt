@@ -1,17 +1,17 @@
 -- Code points whose answer needs no search: those in gaps of the tables, and the Cyrillic capitals; each by one computed test.
 use Prim.Native.Nat.{ℕ, _+_, _-_, _≤_, _<_}
-use mathlib.Core.Path.{_≡_, refl, sym, ap, _∙_}
+use mathlib.Core.Path.{_≡_, refl, sym, _∙_}
 use mathlib.Core.Bool.{Bool, true, false, _&&_}
 use mathlib.Core.List.{List, [], _∷_}
 use native.Mathlib.Omega.{arith}
 use lib.Dec.{eqb, leb, ltb}
-use borrow.Author.Tests.{ltb-true, ltb-false, ne-eqb, lt-ltb, le-ltb, lt-leb}
+use borrow.Author.Tests.{ltb-true, ne-eqb, lt-ltb, le-ltb, lt-leb}
 use Rattle.rules.specs.Basic.{pick, within}
 use Rattle.rules.specs.Ranges.{Range, _to_, member, FoldLine, _foldsTo_, lookup}
 use Rattle.rules.specs.WhiteSpace.{whiteSpace}
 use Rattle.rules.specs.Folding.{folding}
 use Rattle.rules.specs.Unicode.{isWhiteSpace, fold}
-use Rattle.rules.proofs.Basics.{no-truth, and-left, and-right, within-from, within-to}
+use Rattle.rules.proofs.Basics.{and-left, and-right, within-from, within-to}
 use Rattle.unicode.proofs.Below.{allBelow, below}
 use Rattle.unicode.proofs.Ascii.{alone, alone-is}
 

@@ -1,10 +1,10 @@
 mod tables;
 
 ghost use mathlib.Core.Path.{_≡_};
-ghost use mathlib.Core.Bool.{true, _||_};
+ghost use mathlib.Core.Bool.{true};
 ghost use mathlib.Core.List.{[], _∷_};
-ghost use Prim.Native.Nat.{ℕ, _+_, _≤_, _<_};
-ghost use lib.ListN.{getD, length};
+ghost use Prim.Native.Nat.{_+_, _<_};
+ghost use lib.ListN.{length};
 ghost use Rattle.rules.specs.Basic.{within};
 ghost use Rattle.rules.specs.Ranges.{member};
 ghost use Rattle.rules.specs.Unicode.{isWhiteSpace, isAlphabetic, isNumeric, isAlphanumeric, fold as foldRule};

@@ -1,5 +1,5 @@
 -- One line more in the index, and all of them.
-use Prim.Native.Nat.{ℕ, zero, suc, _+_, _*_, _≤_, _<_}
+use Prim.Native.Nat.{ℕ, suc, _+_, _*_, _≤_, _<_}
 use mathlib.Core.Path.{_≡_, refl, ap, sym, _∙_}
 use mathlib.Core.Bool.{Bool, true, false}
 use mathlib.Core.List.{List, [], _∷_}
@@ -8,23 +8,23 @@ use native.Mathlib.Omega.{arith}
 use native.Mathlib.Numerals.{add-one}
 use borrow.Author.Tests.{eqb-true, eqb-false, leb-true}
 use lib.Dec.{eqb, leb}
-use lib.ListN.{length, getD, set, drop, length-set, length-drop}
+use lib.ListN.{length, set, drop, length-set, length-drop}
 use lib.Seq.{getD-set-same, getD-set-other}
 use Rattle.rules.specs.Basic.{pick, isSome}
-use Rattle.rules.specs.Utf8.{isUtf8, chars}
+use Rattle.rules.specs.Utf8.{chars}
 use Rattle.rules.specs.Sheet.{lines}
-use Rattle.rules.specs.Units.{NamedUnit, unitsOf, atMost1024, readUnits, nameTwice}
+use Rattle.rules.specs.Units.{NamedUnit, unitsOf, atMost1024, readUnits}
 use Rattle.rules.specs.Answer.{unitsOr}
 use Rattle.rules.proofs.Basics.{by-order, no-truth}
 use Rattle.chains.specs.Rows.{findIn, headIn}
 use Rattle.units.specs.declared.Physical.{Physical}
 use Rattle.units.specs.declared.UnitAt.{UnitAt}
-use Rattle.units.specs.declared.UnitAt.the-variants.{Unit, End}
+use Rattle.units.specs.declared.UnitAt.the-variants.{End}
 use Rattle.units.specs.declared.UnitsChecked.the-variants.{Good, Ill, Twice}
-use Rattle.units.specs.Lists.{isListFrom, unitsFrom, part, namedAs, UnitTurn, UnitHere}
+use Rattle.units.specs.Lists.{unitsFrom, part, namedAs, UnitTurn, UnitHere}
 use Rattle.units.proofs.Turns.{units-end}
 use Rattle.units.proofs.Walks.{list-starts, check-ill, check-twice, check-good}
-use Rattle.unit_index.specs.Index.{head, start, next, nameIn, bucket, names, Placed, Filled, Indexed, Cleared, LinePushed, Named, LineAdded, AllAdded, UnitsIndexed}
+use Rattle.unit_index.specs.Index.{head, start, next, bucket, names, Placed, Filled, Cleared, LinePushed, Named, LineAdded, AllAdded, UnitsIndexed}
 use Rattle.unit_index.proofs.Names.{first-name, first-rest, all-once, one-twice}
 use Rattle.unit_index.proofs.Searches.{bucket-small}
 

@@ -1,14 +1,14 @@
 -- The names of a list of units, and the search for one of them.
-use Prim.Native.Nat.{ℕ, zero, suc, _≤_, _<_}
+use Prim.Native.Nat.{ℕ, zero, suc, _<_}
 use mathlib.Core.Path.{_≡_, refl, ap, sym, _∙_}
 use mathlib.Core.Bool.{Bool, true, false, _||_}
 use mathlib.Core.List.{List, [], _∷_}
 use mathlib.Core.Option.{Option, none, some}
 use native.Mathlib.Omega.{arith}
-use lib.ListN.{length, drop, length-drop, drop-of-length-le}
+use lib.ListN.{length, drop, drop-of-length-le}
 use Rattle.rules.specs.Basic.{pick, eqList, isSome}
-use Rattle.rules.specs.Units.{PhysicalQuantity, NamedUnit, findUnit, nameTwice}
-use Rattle.rules.proofs.Basics.{no-truth, no-some}
+use Rattle.rules.specs.Units.{NamedUnit, findUnit, nameTwice}
+use Rattle.rules.proofs.Basics.{no-truth}
 use Rattle.rules.proofs.SameChars.{eq-true, eq-itself}
 use Rattle.chains.specs.Rows.{findIn}
 use Rattle.chains.proofs.Seeks.{find-below, find-equal, find-none, find-others}

@@ -1,15 +1,15 @@
 -- The search for a name along a chain of lines.
-use Prim.Native.Nat.{ℕ, zero, suc, _-_, _%_, _≤_, _<_}
+use Prim.Native.Nat.{ℕ, zero, suc, _-_, _%_, _<_}
 use mathlib.Core.Path.{_≡_, refl, ap, sym, _∙_}
 use mathlib.Core.Bool.{Bool, true, false}
-use mathlib.Core.List.{List, [], _∷_}
-use mathlib.Core.Option.{Option, none, some}
+use mathlib.Core.List.{List, _∷_}
+use mathlib.Core.Option.{none, some}
 use native.Mathlib.Omega.{arith}
 use native.Mathlib.Nat.{mod-lt}
 use lib.ListN.{length, drop, length-drop}
-use Rattle.rules.specs.Basic.{pick, eqList, isSome}
+use Rattle.rules.specs.Basic.{eqList, isSome}
 use Rattle.rules.specs.Utf8.{isUtf8, chars}
-use Rattle.rules.specs.Units.{NamedUnit, findUnit}
+use Rattle.rules.specs.Units.{findUnit}
 use Rattle.rules.proofs.SameChars.{eq-true, same-chars}
 use Rattle.chains.specs.Hashes.{hashOf, Hashed}
 use Rattle.chains.specs.Rows.{findIn, headIn}
@@ -19,9 +19,9 @@ use Rattle.units.specs.declared.Physical.the-variants.{Unknown}
 use Rattle.units.specs.declared.UnitAt.{UnitAt}
 use Rattle.units.specs.declared.UnitAt.the-variants.{Unit, End}
 use Rattle.units.specs.Quantities.{physicalAs}
-use Rattle.units.specs.Lists.{unitsFrom, part, namedAs, UnitTurn, UnitHere}
+use Rattle.units.specs.Lists.{unitsFrom, part, namedAs, UnitHere}
 use Rattle.unit_index.specs.declared.Line.{Line}
-use Rattle.unit_index.specs.Index.{head, start, next, nameIn, bucket, names, LineIn, LineAt, Placed, Filled, Indexed, Linked}
+use Rattle.unit_index.specs.Index.{head, start, next, bucket, names, LineIn, LineAt, Filled, Indexed, Linked}
 use Rattle.unit_index.proofs.Names.{first-name, find-drop, gone-all, found-all}
 
 -- ---- a line

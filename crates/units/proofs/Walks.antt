@@ -1,7 +1,7 @@
 -- Walks over a whole list: what is left from here gives what the whole gives.
 use Prim.Native.Nat.{ℕ, suc, _+_, _-_, _≤_, _<_}
 use mathlib.Core.Path.{_≡_, refl, ap, sym, _∙_}
-use mathlib.Core.Bool.{Bool, true, false, _||_}
+use mathlib.Core.Bool.{Bool, true, false}
 use mathlib.Core.Option.{Option, none, some}
 use mathlib.Core.List.{List, [], _∷_}
 use native.Mathlib.Omega.{arith}
@@ -10,27 +10,21 @@ use lib.Dec.{leb}
 use lib.ListN.{length, drop, length-drop, drop-of-length-le}
 use lib.Seq.{length-take-le}
 use Rattle.rules.specs.Basic.{pick, eqList, isEmpty, isSome}
-use Rattle.rules.specs.Utf8.{isUtf8, chars}
 use Rattle.rules.specs.Sheet.{last, more, lines}
-use Rattle.rules.specs.Units.{NamedUnit, unitOf, withUnit, unitsOf, atMost1024, readUnits, findUnit, nameTwice}
+use Rattle.rules.specs.Units.{NamedUnit, unitOf, withUnit, unitsOf, atMost1024, readUnits, nameTwice}
 use Rattle.rules.specs.Answer.{unitsOr}
 use Rattle.rules.proofs.Basics.{no-truth}
-use Rattle.rules.proofs.SameChars.{same-chars}
 use Rattle.sheet.proofs.Tests.{eq-length}
 use Rattle.sheet.specs.declared.LineEnd.{LineEnd}
 use Rattle.sheet.specs.declared.LineEnd.the-variants.{At, Nothing}
 use Rattle.sheet.specs.Lines.{linesFrom, LineAt}
 use Rattle.units.specs.declared.Physical.{Physical}
-use Rattle.units.specs.declared.Physical.the-variants.{Unknown}
 use Rattle.units.specs.declared.UnitLine.{UnitLine}
 use Rattle.units.specs.declared.UnitLine.the-variants as line
 use Rattle.units.specs.declared.UnitsChecked.the-variants.{Good, Ill, Twice}
-use Rattle.units.specs.declared.UnitAt.{UnitAt}
-use Rattle.units.specs.declared.UnitAt.the-variants.{Unit, End}
-use Rattle.units.specs.Quantities.{physicalAs, isKnown, unitLineAs}
-use Rattle.units.specs.Lists.{unitsCheckedOf, isListFrom, unitsFrom, part, namedAs, UnitTurn, UnitHere}
-use Rattle.units.proofs.Parts.{known-some}
-use Rattle.units.proofs.Turns.{units-end}
+use Rattle.units.specs.declared.UnitAt.the-variants.{Unit}
+use Rattle.units.specs.Quantities.{unitLineAs}
+use Rattle.units.specs.Lists.{unitsCheckedOf, isListFrom, unitsFrom, part}
 
 -- ---- a list that was read
 

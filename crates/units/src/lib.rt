@@ -4,13 +4,11 @@ ghost use mathlib.Core.Bool.{true};
 ghost use Prim.Native.Nat.{_≤_};
 ghost use lib.ListN.{length};
 ghost use Rattle.rules.specs.Basic.{eqList, isSome, wordIn};
-ghost use Rattle.rules.specs.Utf8.{isUtf8, chars};
 ghost use Rattle.rules.specs.Sheet.{fieldsOf};
-ghost use Rattle.rules.specs.Units.{physicalWords, unitOfFields, unitOf, readUnits, findUnit, nameTwice};
-ghost use Rattle.rules.specs.Answer.{unitsOr};
+ghost use Rattle.rules.specs.Units.{physicalWords, unitOfFields, unitOf, readUnits};
 ghost use Rattle.units.specs.declared.UnitAt.the-variants.{Unit};
 ghost use Rattle.units.specs.Quantities.{physicalAs, isKnown, unitLineAs};
-ghost use Rattle.units.specs.Lists.{unitsCheckedOf, isListFrom, unitsFrom, part, UnitHere};
+ghost use Rattle.units.specs.Lists.{isListFrom, part, UnitHere};
 
 pub enum Physical {
     Volume,
