@@ -1,7 +1,6 @@
 // Reads a file of stored cases (crates/replay/data/README.md). All functions take any bytes: a case that is not as the
 // format says is seen, and nothing is read past the end.
 use libc::STDOUT_FILENO;
-ghost use Prim.Native.Nat.{_≤_};
 ghost use mathlib.Core.Path.{_≡_};
 ghost use lib.ListN.{length, getD, replicate};
 ghost use Rattle.stored_cases.specs.Cases.{partOf, afterOf, startsWith, numberAt, readAs, laidOut, partsAt, caseAt, storedAs};
