@@ -1,13 +1,14 @@
 -- The ways through the reader of a case.
-use Prim.Native.Nat.{ℕ}
+use Prim.Native.Nat.{ℕ, _+_, _<_}
 use mathlib.Core.Path.{_≡_, refl, ap}
 use mathlib.Core.Bool.{Bool, true, false}
 use mathlib.Core.List.{List}
 use mathlib.Core.Option.{Option, none, some, bind}
 use native.Mathlib.Omega.{arith}
-use borrow.Author.Tests.{eq-eqb, ne-eqb}
-use lib.ListN.{length, getD}
-use Rattle.rules.specs.Basic.{codes, blank, lf}
+use borrow.Author.Tests.{eq-eqb, ne-eqb, ltb-true, ltb-false}
+use lib.Dec.{eqb, leb, ltb}
+use lib.ListN.{length, getD, List·getD-eq-default}
+use Rattle.rules.specs.Basic.{pick, codes, blank, lf}
 use Rattle.stored_cases.specs.declared.Number.{Number}
 use Rattle.stored_cases.specs.declared.Case.{Case}
 use Rattle.stored_cases.specs.declared.Stored.{Stored}
@@ -81,3 +82,34 @@ module _ (s : List ℕ) (at : ℕ) {p : List ℕ} (part : p ≡ partOf s at (len
     pub case-is : {c : Case} → o ≡ stored.At c → {b : ℕ} → b ≡ getD s (c .end) 0 → b ≡ lf → stored.At c ≡ storedAs (caseAt s at)
     unfolding caseAt ended storedAs
     case-is f {b} l n = rw (← part, ← word, e, ← on, told-at (partsAt s a) parts f, ← l, eq-eqb b lf n)
+
+-- ---- a case that is taken lies within its file, so that none of its parts is cut off
+ended-within : (s : List ℕ) (o : Option Case) {c : Case} → ended s o ≡ some c → c .end < length s
+unfolding ended
+ended-within s none e = absurd (let z : _≡_ {A = ℕ} 0 1 = cc in omega arith)
+ended-within s (some d) {c} e = go (ltb (d .end) (length s)) refl
+  where
+    same : (b : Bool) → pick b (some d) none ≡ some c → d ≡ c
+    same true q = cc
+    same false q = absurd (let z : _≡_ {A = ℕ} 0 1 = cc in omega arith)
+
+    go : (b : Bool) → ltb (d .end) (length s) ≡ b → c .end < length s
+    go true t = rw (← same (eqb (getD s (d .end) 0) lf) e) (ltb-true _ _ t)
+    go false t = absurd (let q : none ≡ some c = rw (List·getD-eq-default s 0 (ltb-false _ _ t)) at e in let z : _≡_ {A = ℕ} 0 1 = cc in omega arith)
+
+pub case-within : (s : List ℕ) (at : ℕ) {c : Case} → caseAt s at ≡ some c → c .end < length s
+unfolding caseAt
+case-within s at {c} e = go (startsWith (partOf s at (length s)) (codes "case ")) e
+  where
+    go : (b : Bool) → pick b (ended s (partsAt s (afterOf s at 5))) none ≡ some c → c .end < length s
+    go true q = ended-within s _ q
+    go false q = absurd (let z : _≡_ {A = ℕ} 0 1 = cc in omega arith)
+
+-- a place before the end was reached by just so many bytes
+pub not-cut : (s : List ℕ) (at n : ℕ) → afterOf s at n < length s → afterOf s at n ≡ at + n
+unfolding afterOf
+not-cut s at n h = go (leb (at + n) (length s)) h
+  where
+    go : (b : Bool) → pick b (at + n) (length s) < length s → pick b (at + n) (length s) ≡ at + n
+    go true l = refl
+    go false l = absurd (omega arith)
