@@ -19,7 +19,7 @@ use Rattle.rules.proofs.Basics.{pick-either, no-some, and-left, and-right}
 use Rattle.rules.proofs.Referrers.{Linked, walk-linked}
 use Rattle.rules.proofs.LinkedRecipe.{ownReferences}
 use Rattle.unicode.specs.Tables.{unicodeTables}
-use Rattle.inputs.specs.Inputs.{InputsChecked}
+use Rattle.inputs.specs.Inputs.{InputsChecked, UnitsReady}
 use Rattle.inputs.specs.declared.Inputs.{Inputs}
 use Rattle.inputs.specs.declared.Inputs.the-variants as inputs
 use Rattle.inputs.proofs.Answers.{told-good, told-refused, refused-outcome}
@@ -213,16 +213,16 @@ module _ {sheet text units : List ℕ} {flags : ℕ} (m : Room) {a : Inputs} (p 
       refused-rows sheet text units flags m long
       (rw (enough-words (m .words)) at (refused-outcome sheet text units flags (record { words = m .words; bytes = 65536; room = 0 }) (told-refused (rw q at p))))
 
-  pub inputs-good : {t : List ℕ} → t ≡ unicodeTables → a ≡ inputs.Good → Given t sheet text units flags m
-  inputs-good e q = record { tables = e; inputs = told-good (rw q at p) }
+  pub inputs-good : {t index : List ℕ} → t ≡ unicodeTables → UnitsReady units index a → a ≡ inputs.Good → Given t sheet text units index flags m
+  inputs-good e x q = record { tables = e; inputs = told-good (rw q at p); indexed = x .indexed q }
 
 -- ---- after the pass
 
-module _ {t sheet text units : List ℕ} {flags : ℕ} {m : Room} (g : Given t sheet text units flags m) where
-  pub run-given : walks.Lent t units × (length sheet ≤ 65536) × (24157 ≤ m .words) × (readSheet text sheet ≡ events (eventsOr (readSheet text sheet)))
+module _ {t sheet text units index : List ℕ} {flags : ℕ} {m : Room} (g : Given t sheet text units index flags m) where
+  pub run-given : walks.Lent t units index × (length sheet ≤ 65536) × (24157 ≤ m .words) × (readSheet text sheet ≡ events (eventsOr (readSheet text sheet)))
   unfolding wordsNeeded
   run-given = (
-    record { tables = g .tables; units = g .inputs .units-some },
+    record { tables = g .tables; units = g .indexed },
     g .inputs .sheet-short,
     omega (arith, g .inputs .words-enough),
     g .inputs .sheet-read,

@@ -8,6 +8,7 @@ use lib.ListN.{length, replicate}
 use Rattle.rules.specs.Basic.{pick}
 use Rattle.rules.specs.Model.{Kind, ingredient, cookware, Entry}
 use Rattle.unicode.specs.Tables.{unicodeTables}
+use Rattle.unit_index.specs.Index.{Indexed}
 use Rattle.inputs.specs.Inputs.{GoodInputs}
 use Rattle.model.specs.declared.Held.{Held}
 use Rattle.component_records.specs.Records.{noComponent, recordsIn}
@@ -86,6 +87,7 @@ pub record RowsCollected (sheet text units : List ℕ) (flags : ℕ) (m : Room) 
   pub cookwareReady : Ready w 6156 (cookwareOf r) (m .cookware)
 
 -- what the pass is given
-pub record Given (t sheet text units : List ℕ) (flags : ℕ) (m : Room) : Type 0 where
+pub record Given (t sheet text units index : List ℕ) (flags : ℕ) (m : Room) : Type 0 where
   pub tables : t ≡ unicodeTables
   pub inputs : GoodInputs sheet text units flags (m .words) 65536
+  pub indexed : Indexed units index

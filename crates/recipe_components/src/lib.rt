@@ -128,6 +128,7 @@ fn pass_rows(
     sheet: &[u8],
     text: &[u8],
     units: &[u8],
+    index: &[u32],
     flags: u32,
     words: &mut [u32],
     ingredients: usize,
@@ -135,10 +136,10 @@ fn pass_rows(
     cookware: usize,
     cookware_pairs: usize,
 ) -> Components
-    requires { ⌜ Given (now t) (now sheet) (now text) (now units) flags (roomOf (length (now words)) ingredients «ingredient_pairs» cookware «cookware_pairs») ⌝ }
+    requires { ⌜ Given (now t) (now sheet) (now text) (now units) (now index) flags (roomOf (length (now words)) ingredients «ingredient_pairs» cookware «cookware_pairs») ⌝ }
     ensures { λ r. ⌜ RowsCollected (now (sheet .entry)) (now (text .entry)) (now (units .entry)) flags (roomOf (length (now (words .entry))) ingredients «ingredient_pairs» cookware «cookware_pairs») (now (words .exit)) r ⌝ }
 {
-    match pass::run(t, sheet, text, units, flags, words) {
+    match pass::run(t, sheet, text, units, index, flags, words) {
         Ran::Recipe(h) => recipe_counts(
             words,
             h,
@@ -166,7 +167,16 @@ fn collect_rows(
 ) -> Components
     ensures { λ r. ⌜ RowsCollected (now (sheet .entry)) (now (text .entry)) (now (units .entry)) flags (roomOf (length (now (words .entry))) ingredients «ingredient_pairs» cookware «cookware_pairs») (now (words .exit)) r ⌝ }
 {
-    match inputs::check_inputs(sheet, text, units, flags, words.len(), inputs::BYTES) {
+    let mut index = [0u32; 2304];
+    match inputs::check_inputs(
+        sheet,
+        text,
+        units,
+        &mut index,
+        flags,
+        words.len(),
+        inputs::BYTES,
+    ) {
         Inputs::Refused(n, l) => Components::Refused(n, l),
         Inputs::Good => {
             let t = unicode::unicode_tables();
@@ -175,6 +185,7 @@ fn collect_rows(
                 sheet,
                 text,
                 units,
+                &index,
                 flags,
                 words,
                 ingredients,

@@ -11,7 +11,7 @@ use Rattle.recipe_components.proofs.recipe_counts.Reads as recipe-count
 
 -- src/lib.rt:140:11
 run-requires : tie.Need-run-requires
-run-requires c κs = run-given (c .before .before .before .before .before .before .pre)
+run-requires c κs = run-given (c .before .before .before .before .before .before .before .pre)
 
 -- src/lib.rt:141:21
 enum-known-h : tie.Need-enum-known-h
@@ -35,7 +35,7 @@ same-length c = search needs
 
 -- src/lib.rt:125:1
 returns : tie.Need-returns
-returns c = recipe-rows (c .before .before .before .before .before .before .before .before .before .before .before .before .before .before .pre) refl (c .before .before .before .before .before .before .before .run .ensures) (c .before .before .before .h .given .1) (c .recipe-counts .ensures)
+returns c = recipe-rows (c .before .before .before .before .before .before .before .before .before .before .before .before .before .before .before .pre) refl (c .before .before .before .before .before .before .before .run .ensures) (c .before .before .before .h .given .1) (c .recipe-counts .ensures)
 
 -- src/lib.rt:125:1
 same-length-2 : tie.Need-same-length-2
@@ -43,7 +43,7 @@ same-length-2 c = search needs
 
 -- src/lib.rt:125:1
 returns-2 : tie.Need-returns-2
-returns-2 c = failed-rows (c .before .before .before .before .before .before .before .before .before .before .before .pre) refl (c .before .before .before .before .run .ensures) (c .enum-told .given .1)
+returns-2 c = failed-rows (c .before .before .before .before .before .before .before .before .before .before .before .before .pre) refl (c .before .before .before .before .run .ensures) (c .enum-told .given .1)
 
 -- src/lib.rt:125:1
 same-length-3 : tie.Need-same-length-3
@@ -51,7 +51,7 @@ same-length-3 c = search needs
 
 -- src/lib.rt:125:1
 returns-3 : tie.Need-returns-3
-returns-3 c = stopped-rows (c .before .before .before .before .before .before .before .before .before .before .before .before .pre) refl (c .before .before .before .before .before .run .ensures) (c .before .n .given .1)
+returns-3 c = stopped-rows (c .before .before .before .before .before .before .before .before .before .before .before .before .before .pre) refl (c .before .before .before .before .before .run .ensures) (c .before .n .given .1)
 
 pub pass-rows-spec : {M : Type 1} → statement M
 pass-rows-spec =
