@@ -12,49 +12,41 @@ use Rattle.recipe.proofs.collected.Reads as collected-reads
 use Rattle.recipe.proofs.used.Reads as used-reads
 use Rattle.unicode.proofs.unicode_tables.Reads as unicode-tables-reads
 
--- src/lib.rt:97:13
 unicode-tables-requires : tie.Need-unicode-tables-requires
 unicode-tables-requires c κs = search needs
 
--- src/lib.rt:98:23
 slice-aggregate-collected : tie.Need-slice-aggregate-collected
 slice-aggregate-collected c = search needs
 
--- src/lib.rt:98:9
+slice-aggregate-collected-2 : tie.Need-slice-aggregate-collected-2
+slice-aggregate-collected-2 c = search needs
+
 collected-requires : tie.Need-collected-requires
 collected-requires c κs = search needs
 
--- src/lib.rt:99:5
 clear-words-requires : tie.Need-clear-words-requires
 clear-words-requires c κs = search needs
 
--- src/lib.rt:100:5
 clear-from-requires : tie.Need-clear-from-requires
 clear-from-requires c κs = search needs
 
--- src/lib.rt:101:31
 used-requires : tie.Need-used-requires
 used-requires c κs = search needs
 
--- src/lib.rt:101:5
 clear-from-requires-2 : tie.Need-clear-from-requires-2
 clear-from-requires-2 c κs = search needs
 
--- src/lib.rt:86:1
 same-length : tie.Need-same-length
 same-length c = search needs
 
--- src/lib.rt:86:1
 same-length-2 : tie.Need-same-length-2
 same-length-2 c = search needs
 
--- src/lib.rt:86:1
 same-length-3 : tie.Need-same-length-3
 same-length-3 c = search needs
 
--- src/lib.rt:86:1
 returns : tie.Need-returns
-returns c = answer-left (c .before .before .before .before .before .before .before .before .before .before .before .before .before .before .before .before .before .collected .ensures) (c .before .before .before .before .before .before .before .before .before .before .before .before .before .before .before .before .before .collected .kept .1 .1 .1 .1 .1 .0) (c .before .before .before .before .before .before .before .before .before .before .before .clear-words .ensures) refl (c .before .before .before .before .before .before .before .clear-from .ensures) (c .before .before .before .used .ensures) (c .before .before .clear-from2 .ensures)
+returns c = answer-left (c .before .before .before .before .before .before .before .before .before .before .before .before .before .before .before .before .before .before .collected .ensures) (c .before .before .before .before .before .before .before .before .before .before .before .before .before .before .before .before .before .before .collected .kept .1 .1 .1 .1 .1 .1 .0) (c .before .before .before .before .before .before .before .before .before .before .before .clear-words .ensures) refl (c .before .before .before .before .before .before .before .clear-from .ensures) (c .before .before .before .used .ensures) (c .before .before .clear-from2 .ensures)
 
 pub collect-spec : {M : Type 1} → statement M
 collect-spec =
@@ -62,6 +54,7 @@ collect-spec =
     (tie.spec
     unicode-tables-requires
     slice-aggregate-collected
+    slice-aggregate-collected-2
     collected-requires
     clear-words-requires
     clear-from-requires

@@ -9,35 +9,33 @@ use Rattle.recipe.proofs.collected.Lts as lts
 use Rattle.inputs.proofs.check_inputs.Reads as check-inputs-reads
 use Rattle.recipe.proofs.pass_and_write.Reads as pass-and-write-reads
 
--- src/lib.rt:69:11
 check-inputs-requires : tie.Need-check-inputs-requires
-check-inputs-requires c κs = search needs
+check-inputs-requires c κs = c .before .before .before .before .before .before .before .before .pre .1
 
--- src/lib.rt:70:25
 enum-known-n : tie.Need-enum-known-n
 enum-known-n c = search needs
 
--- src/lib.rt:71:70
 enum-told : tie.Need-enum-told
 enum-told c = search needs
 
--- src/lib.rt:71:25
 pass-and-write-requires : tie.Need-pass-and-write-requires
-pass-and-write-requires c κs = inputs-good _ (c .before .before .before .before .check-inputs .ensures) (c .before .before .before .before .before .before .before .before .before .before .before .pre) (c .before .before .enum-told .given .1)
+pass-and-write-requires c κs = inputs-good _ (c .before .before .before .before .before .before .before .check-inputs .ensures .0) (c .before .before .before .before .before .before .before .before .before .before .before .before .before .before .before .before .pre .0) (c .before .before .before .before .before .before .before .check-inputs .ensures .1) (c .before .before .before .enum-told .given .1)
 
--- src/lib.rt:56:1
-returns : tie.Need-returns
-returns c = inputs-refused _ (c .before .before .before .check-inputs .ensures) _ refl (c .before .n .given .1)
-
--- src/lib.rt:56:1
 same-length : tie.Need-same-length
 same-length c = search needs
 
--- src/lib.rt:56:1
+returns : tie.Need-returns
+returns c = inputs-refused _ (c .before .before .before .before .before .check-inputs .ensures .0) _ refl (c .before .n .given .1)
+
 same-length-2 : tie.Need-same-length-2
 same-length-2 c = search needs
 
--- src/lib.rt:56:1
+same-length-3 : tie.Need-same-length-3
+same-length-3 c = search needs
+
+same-length-4 : tie.Need-same-length-4
+same-length-4 c = search needs
+
 returns-2 : tie.Need-returns-2
 returns-2 c = c .before .before .before .before .pass-and-write .ensures
 
@@ -49,7 +47,9 @@ collected-spec =
     enum-known-n
     enum-told
     pass-and-write-requires
-    returns
     same-length
+    returns
     same-length-2
+    same-length-3
+    same-length-4
     returns-2)

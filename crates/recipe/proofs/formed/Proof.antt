@@ -11,7 +11,7 @@ use Rattle.inputs.proofs.check_inputs.Reads as check-inputs-reads
 use Rattle.recipe.proofs.pass_and_form.Reads as pass-and-form-reads
 
 check-inputs-requires : tie.Need-check-inputs-requires
-check-inputs-requires c κs = search needs
+check-inputs-requires c κs = c .before .before .before .before .before .before .before .before .before .pre .1
 
 enum-known-n : tie.Need-enum-known-n
 enum-known-n c = search needs
@@ -20,19 +20,25 @@ enum-told : tie.Need-enum-told
 enum-told c = search needs
 
 pass-and-form-requires : tie.Need-pass-and-form-requires
-pass-and-form-requires c κs = inputs-good _ (c .before .before .before .before .before .check-inputs .ensures) (c .before .before .before .before .before .before .before .before .before .before .before .before .before .pre) (c .before .before .before .enum-told .given .1)
-
-returns : tie.Need-returns
-returns c = plain-refused _ (c .before .before .before .check-inputs .ensures) _ refl (c .before .n .given .1)
+pass-and-form-requires c κs = inputs-good _ (c .before .before .before .before .before .before .before .before .check-inputs .ensures .0) (c .before .before .before .before .before .before .before .before .before .before .before .before .before .before .before .before .before .before .pre .0) (c .before .before .before .before .before .before .before .before .check-inputs .ensures .1) (c .before .before .before .before .enum-told .given .1)
 
 same-length : tie.Need-same-length
 same-length c = search needs
+
+returns : tie.Need-returns
+returns c = plain-refused _ (c .before .before .before .before .before .check-inputs .ensures .0) _ refl (c .before .n .given .1)
 
 same-length-2 : tie.Need-same-length-2
 same-length-2 c = search needs
 
 same-length-3 : tie.Need-same-length-3
 same-length-3 c = search needs
+
+same-length-4 : tie.Need-same-length-4
+same-length-4 c = search needs
+
+same-length-5 : tie.Need-same-length-5
+same-length-5 c = search needs
 
 returns-2 : tie.Need-returns-2
 returns-2 c = c .before .before .before .before .before .before .pass-and-form .ensures
@@ -45,8 +51,10 @@ formed-spec =
     enum-known-n
     enum-told
     pass-and-form-requires
-    returns
     same-length
+    returns
     same-length-2
     same-length-3
+    same-length-4
+    same-length-5
     returns-2)

@@ -18,6 +18,9 @@ unicode-tables-requires c κs = search needs
 slice-aggregate-formed : tie.Need-slice-aggregate-formed
 slice-aggregate-formed c = search needs
 
+slice-aggregate-formed-2 : tie.Need-slice-aggregate-formed-2
+slice-aggregate-formed-2 c = search needs
+
 formed-requires : tie.Need-formed-requires
 formed-requires c κs = search needs
 
@@ -43,7 +46,7 @@ same-length-3 : tie.Need-same-length-3
 same-length-3 c = search needs
 
 returns : tie.Need-returns
-returns c = answer-left (c .before .before .before .before .before .before .before .before .before .before .before .before .before .before .before .before .before .before .before .formed .ensures) (c .before .before .before .before .before .before .before .before .before .before .before .before .before .before .before .before .before .before .before .formed .kept .1 .1 .1 .1 .1 .0) (c .before .before .before .before .before .before .before .before .before .before .before .clear-words .ensures) (c .before .before .before .before .before .before .before .before .before .before .before .before .before .before .before .before .before .before .before .formed .kept .1 .1 .1 .1 .1 .1 .0) (c .before .before .before .before .before .before .before .clear-from .ensures) (c .before .before .before .used .ensures) (c .before .before .clear-from2 .ensures)
+returns c = answer-left (c .before .before .before .before .before .before .before .before .before .before .before .before .before .before .before .before .before .before .before .before .formed .ensures) (c .before .before .before .before .before .before .before .before .before .before .before .before .before .before .before .before .before .before .before .before .formed .kept .1 .1 .1 .1 .1 .1 .0) (c .before .before .before .before .before .before .before .before .before .before .before .clear-words .ensures) (c .before .before .before .before .before .before .before .before .before .before .before .before .before .before .before .before .before .before .before .before .formed .kept .1 .1 .1 .1 .1 .1 .1 .0) (c .before .before .before .before .before .before .before .clear-from .ensures) (c .before .before .before .used .ensures) (c .before .before .clear-from2 .ensures)
 
 pub plain-form-spec : {M : Type 1} → statement M
 plain-form-spec =
@@ -51,6 +54,7 @@ plain-form-spec =
     (tie.spec
     unicode-tables-requires
     slice-aggregate-formed
+    slice-aggregate-formed-2
     formed-requires
     clear-words-requires
     clear-from-requires
