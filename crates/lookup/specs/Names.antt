@@ -35,7 +35,7 @@ pub record NameInside (sheet : List ℕ) (r : Row) : Type 0 where
   pub order : r .«name_at» ≤ r .«name_end»
   pub most : r .«name_end» ≤ length sheet
 
--- so do the first n rows
+-- the names of the first n rows are parts of it
 pub record NamesInside (sheet rows : List ℕ) (n : ℕ) : Type 0 where
   pub at : (i : ℕ) → i < n → NameInside sheet (rowOf (rowAt 12 rows i))
 

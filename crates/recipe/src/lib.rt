@@ -14,7 +14,7 @@ use pass::Ran;
 use plain_walk::Formed;
 
 pub enum Answer {
-    // The page's length.
+    // The length of the page, or of the form.
     Page(usize),
     // A refusal's number and line.
     Refused(u32, u32),
@@ -277,8 +277,8 @@ pub fn plain_form(
 
 // ---- printed
 
-// What the programs print of an answer, put at the front of the output: the page, which is there already, or the line of
-// the refusal.
+// What the programs print of an answer, put at the front of the output: the page or the form, which is there already, or the
+// line of the refusal.
 pub fn print_answer(r: Answer, out: &mut [u8]) -> usize
     requires { ⌜ (usedOf r ≤ length (now out)) × (30 ≤ length (now out)) ⌝ }
     ensures { λ n. ⌜ PrintedAt r (now (out .entry)) (now (out .exit)) n ⌝ }

@@ -1,4 +1,4 @@
-// The unit list: lines of a name, a tab and a physical quantity. It is lent bytes, and nothing of it is stored.
+// The unit list: lines of a name, a tab and a physical quantity. It is lent bytes; crates/unit_index has an index of it.
 ghost use mathlib.Core.Path.{_≡_};
 ghost use mathlib.Core.Bool.{true};
 ghost use Prim.Native.Nat.{_≤_};
