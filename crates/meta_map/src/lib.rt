@@ -8,6 +8,7 @@ ghost use Rattle.rules.specs.Basic.{lf, isSome};
 ghost use Rattle.rules.specs.Read.{parseLine};
 ghost use Rattle.rules.specs.Answer.{events, eventsOr, readSheet};
 ghost use Rattle.rules.proofs.Fields.{Without};
+ghost use Rattle.content.specs.Contents.{keptIn};
 ghost use Rattle.content.specs.Parts.{Field};
 ghost use Rattle.unicode.specs.Tables.{unicodeTables};
 ghost use Rattle.parts.specs.Views.{TextWithin};
