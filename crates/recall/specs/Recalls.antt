@@ -4,9 +4,11 @@ use mathlib.Core.Path.{_≡_}
 use mathlib.Core.Bool.{true, false}
 use mathlib.Core.List.{List}
 use Rattle.rules.specs.Read.{parseLine}
-use Rattle.rules.specs.Model.{Kind}
+use Rattle.rules.specs.Model.{Kind, ingredient}
 use Rattle.parts.specs.declared.OptText.the-variants as text
+use Rattle.parts.specs.declared.OptQuantity.{OptQuantity}
 use Rattle.parts.specs.declared.OptQuantity.the-variants as quantity
+use Rattle.parts.specs.Views.{optQuantityIn, OptQuantityWithin}
 use Rattle.components.specs.declared.ComponentView.{ComponentView}
 use Rattle.components.specs.Views.{componentIn, ComponentWithin}
 use Rattle.events.specs.declared.EventView.{EventView}
@@ -55,3 +57,8 @@ pub record Recalled (line : List ℕ) (v : ComponentView) : Type 0 where
   pub within : (k : Kind) → isOfKind k (parseLine line) ≡ true → ComponentWithin line v
   pub fields : (k : Kind) → isOfKind k (parseLine line) ≡ true → ComponentFields line v
   pub nothing : ((k : Kind) → isOfKind k (parseLine line) ≡ false) → v ≡ blankView
+
+-- q is the quantity of the line's ingredient
+pub record QuantityRecalled (line : List ℕ) (q : OptQuantity) : Type 0 where
+  pub is : optQuantityIn line q ≡ componentOfLine ingredient line .quantity
+  pub within : OptQuantityWithin line q

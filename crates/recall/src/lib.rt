@@ -1,12 +1,15 @@
 // The component of a line that was read before, read again.
 use components::ComponentView;
 use components::Modifiers;
+use parts::OptQuantity;
 ghost use mathlib.Core.Path.{_≡_};
 ghost use mathlib.Core.Bool.{true};
 ghost use Rattle.rules.specs.Basic.{lf, isSome};
 ghost use Rattle.rules.specs.Read.{parseLine};
+ghost use Rattle.rules.specs.Model.{ingredient};
 ghost use Rattle.rules.proofs.Fields.{Without};
-ghost use Rattle.recall.specs.Recalls.{blankView, viewOf, viewInside, viewIn, Recalled};
+ghost use Rattle.model.specs.Fits.{isOfKind};
+ghost use Rattle.recall.specs.Recalls.{blankView, viewOf, viewInside, viewIn, Recalled, QuantityRecalled};
 
 // A view of nothing.
 fn blank_view() -> ComponentView
@@ -69,4 +72,25 @@ pub fn component_in(line: &[u8]) -> ComponentView
 {
     let e = known_events::event_of(line);
     of_event(e)
+}
+
+// The quantity of a line that is an ingredient: what stands before it is read, and nothing after it.
+pub fn quantity_in(line: &[u8]) -> OptQuantity
+    requires { ⌜ isOfKind ingredient (parseLine (now line)) ≡ true ⌝ }
+    ensures { λ r. ⌜ QuantityRecalled (now (line .entry)) r ⌝ }
+{
+    // after the word `ingredient` and a tab
+    let parts::GotSpan::Got(span, a1) = parts::read_span(line, 11) else {
+        return OptQuantity::Absent;
+    };
+    let parts::GotText::Got(name, a2) = parts::read_text(line, a1) else {
+        return OptQuantity::Absent;
+    };
+    let parts::GotOptText::Got(alias, a3) = parts::read_opt_text(line, a2) else {
+        return OptQuantity::Absent;
+    };
+    let parts::GotOptQuantity::Got(quantity, a4) = parts::read_opt_quantity(line, a3) else {
+        return OptQuantity::Absent;
+    };
+    quantity
 }

@@ -11,15 +11,16 @@ use borrow.Author.Tests.{ne-eqb}
 use Rattle.rules.specs.Basic.{isSome, onSome, lf}
 use Rattle.rules.specs.Event.{Event, Component}
 use Rattle.rules.specs.Read.{parseLine}
-use Rattle.rules.specs.Model.{Kind, ingredient, cookware, isIngredient, amountOf, sourceOf, entryWith, entryOf}
+use Rattle.rules.specs.Model.{Kind, ingredient, cookware, isIngredient, amountOf, Source, sourceOf, entryWith, entryOf}
 use Rattle.rules.specs.Reference.{entryAt}
 use Rattle.rules.specs.Checks.{isDefinedInStep}
 use Rattle.rules.specs.State.{tableOf}
 use Rattle.rules.proofs.Basics.{no-truth}
 use Rattle.rules.proofs.Fields.{Without}
+use Rattle.parts.specs.declared.OptQuantity.{OptQuantity}
 use Rattle.parts.specs.Views.{optQuantityIn}
 use Rattle.components.specs.declared.ComponentView.{ComponentView}
-use Rattle.components.specs.Views.{componentIn, ComponentWithin}
+use Rattle.components.specs.Views.{componentIn}
 use Rattle.model.specs.Rows.{rowAt, rowOf, componentOfLine, relationAs, relationIn, entryAs, entryIn, entriesIn, referrersIn}
 use Rattle.model.specs.Memory.{windowsOf, stateOf, stateIn, Sound}
 use Rattle.model.specs.Fits.{isOfKind, Fits, AllFit}
@@ -35,7 +36,7 @@ use Rattle.memory.specs.Pushes.{countOf, pairsOf}
 use Rattle.checks.proofs.Frames.{Framed, framed-pairs}
 use Rattle.lookup.specs.Names.{kindOf, rowsIn, pairsIn, earlierIn, earlierAt}
 use Rattle.lookup.proofs.Names.{part-slice}
-use Rattle.recall.specs.Recalls.{Recalled}
+use Rattle.recall.specs.Recalls.{Recalled, QuantityRecalled}
 use Rattle.unit_checks.specs.Checked.{roomOf, InStep}
 
 -- ---- the entry of an index
@@ -101,18 +102,15 @@ module _ (k : Kind) {sheet : List ℕ} {r : Row} (f : Fits k sheet r) where
   pub line-reads : isSome (parseLine (take (r .«line_end» - r .«line_at») (drop (r .«line_at») sheet))) ≡ true
   line-reads = rw lent (some-kind k (parseLine (slice (r .«line_at») (r .«line_end») sheet)) (f .isLine))
 
+  pub line-kind : isOfKind k (parseLine (take (r .«line_end» - r .«line_at») (drop (r .«line_at») sheet))) ≡ true
+  line-kind = rw lent (f .isLine)
+
   pub line-whole : Without lf (take (r .«line_end» - r .«line_at») (drop (r .«line_at») sheet))
   line-whole = rw lent (f .noLf)
 
   module _ {v : ComponentView} (q : Recalled (take (r .«line_end» - r .«line_at») (drop (r .«line_at») sheet)) v) where
-    of-kind : isOfKind k (parseLine (take (r .«line_end» - r .«line_at») (drop (r .«line_at») sheet))) ≡ true
-    of-kind = rw lent (f .isLine)
-
-    pub old-within : ComponentWithin (take (r .«line_end» - r .«line_at») (drop (r .«line_at») sheet)) v
-    old-within = q .within k of-kind
-
     old-is : componentOfLine k (slice (r .«line_at») (r .«line_end») sheet) ≡ componentIn (take (r .«line_end» - r .«line_at») (drop (r .«line_at») sheet)) v
-    old-is = sym (q .is k of-kind ∙ ap (componentOfLine k) lent)
+    old-is = sym (q .is k line-kind ∙ ap (componentOfLine k) lent)
 
     pub old-source : (by : List ℕ) → entryAs k sheet r by .source ≡ sourceOf (componentIn (take (r .«line_end» - r .«line_at») (drop (r .«line_at») sheet)) v)
     unfolding entryOf entryWith
@@ -121,6 +119,19 @@ module _ (k : Kind) {sheet : List ℕ} {r : Row} (f : Fits k sheet r) where
     pub old-amount : (by : List ℕ) → entryAs k sheet r by .quantity ≡ onSome (amountOf (isIngredient k)) (optQuantityIn (take (r .«line_end» - r .«line_at») (drop (r .«line_at») sheet)) (v .quantity))
     unfolding entryOf entryWith componentIn
     old-amount by = entry-quantity k sheet r by ∙ ap (λ (c : Component). onSome (amountOf (isIngredient k)) (c .quantity)) old-is
+
+-- the quantity of its line alone
+module _ {sheet : List ℕ} {r : Row} (f : Fits ingredient sheet r) {b : OptQuantity} (q : QuantityRecalled (take (r .«line_end» - r .«line_at») (drop (r .«line_at») sheet)) b) where
+  quantity-is : componentOfLine ingredient (slice (r .«line_at») (r .«line_end») sheet) .quantity ≡ optQuantityIn (take (r .«line_end» - r .«line_at») (drop (r .«line_at») sheet)) b
+  quantity-is = sym (q .is ∙ ap (λ (l : List ℕ). componentOfLine ingredient l .quantity) (lent ingredient f))
+
+  pub quantity-source : (by : List ℕ) → entryAs ingredient sheet r by .source .quantity ≡ optQuantityIn (take (r .«line_end» - r .«line_at») (drop (r .«line_at») sheet)) b
+  unfolding entryOf entryWith sourceOf
+  quantity-source by = ap (λ (s : Source). s .quantity) (entry-source ingredient sheet r by) ∙ quantity-is
+
+  pub quantity-amount : (by : List ℕ) → entryAs ingredient sheet r by .quantity ≡ onSome (amountOf true) (optQuantityIn (take (r .«line_end» - r .«line_at») (drop (r .«line_at») sheet)) b)
+  unfolding entryOf entryWith isIngredient
+  quantity-amount by = entry-quantity ingredient sheet r by ∙ ap (onSome (amountOf true)) quantity-is
 
 -- ---- the row of a kind
 

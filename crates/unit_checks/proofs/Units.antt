@@ -10,14 +10,12 @@ use Rattle.rules.specs.Basic.{onSome}
 use Rattle.rules.specs.Event as rules
 use Rattle.rules.specs.Read.{noModifiers}
 use Rattle.rules.specs.Units.{NamedUnit}
-use Rattle.rules.specs.Model.{Kind, ingredient, isIngredient, Amount, amountOf, sourceOf, Source, Entry, definition}
+use Rattle.rules.specs.Model.{Kind, ingredient, isIngredient, Amount, amountOf, Entry, definition}
 use Rattle.rules.specs.Reference.{entryAt, referrers}
 use Rattle.rules.specs.Checks.{unitFinding, unitPair, unitAgainst, unitsAgainst, unitCheck}
 use Rattle.rules.specs.State.{tableOf}
 use Rattle.parts.specs.declared.OptQuantity.{OptQuantity}
-use Rattle.parts.specs.Views.{optQuantityIn, OptQuantityWithin}
-use Rattle.components.specs.declared.ComponentView.{ComponentView}
-use Rattle.components.specs.Views.{componentIn}
+use Rattle.parts.specs.Views.{optQuantityIn}
 use Rattle.model.specs.Blank.{blankSpan}
 use Rattle.model.specs.Rows.{rowAt, rowOf, entryAs, relationIn, relationAs, referrersIn, referrersFrom}
 use Rattle.model.specs.Memory.{windowsOf, stateIn, Sound}
@@ -38,9 +36,9 @@ use Rattle.checks.proofs.Reports.{reported-seq, reported-sound, reported-fit, r
 use Rattle.checks.proofs.Frames.{Framed, framed-none, framed-seq, framed-count, framed-pairs, reported-framed, reported-table}
 use Rattle.checks.proofs.Laws.{none-found, said}
 use Rattle.lookup.specs.Names.{rowsIn, pairsIn, earlierIn, earlierAt}
-use Rattle.recall.specs.Recalls.{Recalled}
+use Rattle.recall.specs.Recalls.{QuantityRecalled}
 use Rattle.unit_checks.specs.Checked.{QuantityOf, RowChecked, ReferrersChecked, UnitChecked}
-use Rattle.unit_checks.proofs.Rows.{entry-past, entry-there, earlier-row, row-fits, old-within, old-source, old-amount}
+use Rattle.unit_checks.proofs.Rows.{entry-past, entry-there, earlier-row, row-fits, quantity-source, quantity-amount}
 
 -- ---- one row
 
@@ -68,25 +66,21 @@ module _ (w : List ℕ) (i : ℕ) where
 pub row-none : {us : List NamedUnit} {sheet line : List ℕ} {a : OptQuantity} {i : ℕ} {w : List ℕ} {h : Held} → h .counts .ingredients ≤ i → RowChecked us sheet line a i w h w h
 row-none {us} {sheet} {i = i} {w = w} {h = h} l = record { is = λ new q. none-found (ap (unitAgainst us new) (entry-past ingredient sheet w h i l) ∙ (unfold unitAgainst in refl)) }
 
-module _ (i : ℕ) {sheet w₀ : List ℕ} {h₀ : Held} {r : Row} {v : ComponentView} (f : AllFit sheet w₀ h₀) (l : i < h₀ .counts .ingredients) (e : r ≡ rowOf (rowAt 12 (take 6156 (drop 0 w₀)) i))
-    (q : Recalled (take (r .«line_end» - r .«line_at») (drop (r .«line_at») sheet)) v) where
+module _ (i : ℕ) {sheet w₀ : List ℕ} {h₀ : Held} {r : Row} {b : OptQuantity} (f : AllFit sheet w₀ h₀) (l : i < h₀ .counts .ingredients) (e : r ≡ rowOf (rowAt 12 (take 6156 (drop 0 w₀)) i))
+    (q : QuantityRecalled (take (r .«line_end» - r .«line_at») (drop (r .«line_at») sheet)) b) where
   abbrev by : List ℕ
   by = referrersIn (pairsIn ingredient w₀) i (h₀ .counts .«ingredient_pairs»)
 
   row-entry : entryAt i (tableOf ingredient (stateIn sheet w₀ h₀)) ≡ some (entryAs ingredient sheet r by)
   row-entry = entry-there ingredient sheet w₀ h₀ i l ∙ ap (λ (x : Entry). some x) (earlier-row ingredient sheet w₀ h₀ i (row-window w₀ i e))
 
-  pub row-within : OptQuantityWithin (take (r .«line_end» - r .«line_at») (drop (r .«line_at») sheet)) (v .quantity)
-  row-within = old-within ingredient (window-fits w₀ i f l e) q .quantity
-
-  row-amount : entryAs ingredient sheet r by .quantity ≡ onSome (amountOf true) (optQuantityIn (take (r .«line_end» - r .«line_at») (drop (r .«line_at») sheet)) (v .quantity))
-  unfolding isIngredient
-  row-amount = old-amount ingredient (window-fits w₀ i f l e) q by
+  row-amount : entryAs ingredient sheet r by .quantity ≡ onSome (amountOf true) (optQuantityIn (take (r .«line_end» - r .«line_at») (drop (r .«line_at») sheet)) b)
+  row-amount = quantity-amount (window-fits w₀ i f l e) q by
 
   module _ (us : List NamedUnit) {line : List ℕ} {a : OptQuantity} where
     same : (new : Entry) → QuantityOf new ingredient line a
         → unitAgainst us new (entryAt i (tableOf ingredient (stateIn sheet w₀ h₀)))
-        ≡ unitPair us new (onSome (amountOf true) (optQuantityIn line a)) (onSome (amountOf true) (optQuantityIn (take (r .«line_end» - r .«line_at») (drop (r .«line_at») sheet)) (v .quantity))) (entryAs ingredient sheet r by)
+        ≡ unitPair us new (onSome (amountOf true) (optQuantityIn line a)) (onSome (amountOf true) (optQuantityIn (take (r .«line_end» - r .«line_at») (drop (r .«line_at») sheet)) b)) (entryAs ingredient sheet r by)
     same new n =
         ap (unitAgainst us new) row-entry
         ∙ against-some us new (entryAs ingredient sheet r by)
@@ -94,13 +88,13 @@ module _ (i : ℕ) {sheet w₀ : List ℕ} {h₀ : Held} {r : Row} {v : Componen
         ∙ ap (λ (x : Option Amount). unitPair us new (onSome (amountOf true) (optQuantityIn line a)) x (entryAs ingredient sheet r by)) row-amount
 
   pub row-checked : {us : List NamedUnit} {line : List ℕ} {a : OptQuantity} {w : List ℕ} {h : Held}
-      → UnitsChecked us line a (take (r .«line_end» - r .«line_at») (drop (r .«line_at») sheet)) (v .quantity) w₀ h₀ w h → RowChecked us sheet line a i w₀ h₀ w h
+      → UnitsChecked us line a (take (r .«line_end» - r .«line_at») (drop (r .«line_at») sheet)) b w₀ h₀ w h → RowChecked us sheet line a i w₀ h₀ w h
   row-checked {us} u =
       record {
         is =
             λ new n.
             said (same us new n)
-            (u .is true true new (entryAs ingredient sheet r by) (n .isSource) (unfold sourceOf componentIn in ap (λ (s : Source). s .quantity) (old-source ingredient (window-fits w₀ i f l e) q by)));
+            (u .is true true new (entryAs ingredient sheet r by) (n .isSource) (quantity-source (window-fits w₀ i f l e) q by));
       }
 
 -- ---- what it leaves, whatever the entry is

@@ -71,8 +71,7 @@ fn unit_against(
     let r = model::row_at(&words[0..6156], i);
     let at = r.line_at as usize;
     let end = r.line_end as usize;
-    let v = recall::component_in(&sheet[at..end]);
-    let b = v.quantity;
+    let b = recall::quantity_in(&sheet[at..end]);
     checks::unit_pair(t, units, index, words, h, line, a, &sheet[at..end], b)
 }
 

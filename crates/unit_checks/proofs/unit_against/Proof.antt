@@ -1,15 +1,15 @@
 use borrow.Author.Needs.{needs}
 use native.Mathlib.Omega.{arith}
 use Rattle.rules.specs.Model.{ingredient}
-use Rattle.unit_checks.proofs.Rows.{line-reads, line-whole}
-use Rattle.unit_checks.proofs.Units.{window-fits, row-none, row-within, row-checked}
+use Rattle.unit_checks.proofs.Rows.{line-kind}
+use Rattle.unit_checks.proofs.Units.{window-fits, row-none, row-checked}
 use Rattle.unit_checks.proofs.unit_against.Statement.{statement}
 use Rattle.unit_checks.proofs.unit_against.Tie as tie
 use Rattle.unit_checks.proofs.unit_against.Reads as reads
 use Rattle.unit_checks.proofs.unit_against.Lts as lts
 use Rattle.checks.proofs.unit_pair.Reads as unit-pair-reads
 use Rattle.model.proofs.row_at.Reads as row-at-reads
-use Rattle.recall.proofs.component_in.Reads as component-in-reads
+use Rattle.recall.proofs.quantity_in.Reads as quantity-in-reads
 
 -- src/lib.rt:68:9
 returns : tie.Need-returns
@@ -40,20 +40,20 @@ cast-end : tie.Need-cast-end
 cast-end c = search needs
 
 -- src/lib.rt:73:34
-sub-component-in : tie.Need-sub-component-in
-sub-component-in c = let f = window-fits _ (c .before .before .before .before .before .before .before .before .before .before .before .before .args .i) (c .before .before .before .before .before .before .before .before .before .before .before .before .pre .4) (c .before .before .before .before .before .if1 .left) (c .before .before .row-at .ensures) in omega (arith, f .line, f .lineEnd)
+sub-quantity-in : tie.Need-sub-quantity-in
+sub-quantity-in c = let f = window-fits _ (c .before .before .before .before .before .before .before .before .before .before .before .before .args .i) (c .before .before .before .before .before .before .before .before .before .before .before .before .pre .4) (c .before .before .before .before .before .if1 .left) (c .before .before .row-at .ensures) in omega (arith, f .line, f .lineEnd)
 
 -- src/lib.rt:73:34
-part-component-in-start : tie.Need-part-component-in-start
-part-component-in-start c = let f = window-fits _ (c .before .before .before .before .before .before .before .before .before .before .before .before .args .i) (c .before .before .before .before .before .before .before .before .before .before .before .before .pre .4) (c .before .before .before .before .before .if1 .left) (c .before .before .row-at .ensures) in omega (arith, f .line, f .lineEnd)
+part-quantity-in-start : tie.Need-part-quantity-in-start
+part-quantity-in-start c = let f = window-fits _ (c .before .before .before .before .before .before .before .before .before .before .before .before .args .i) (c .before .before .before .before .before .before .before .before .before .before .before .before .pre .4) (c .before .before .before .before .before .if1 .left) (c .before .before .row-at .ensures) in omega (arith, f .line, f .lineEnd)
 
 -- src/lib.rt:73:34
-part-component-in-end : tie.Need-part-component-in-end
-part-component-in-end c = let f = window-fits _ (c .before .before .before .before .before .before .before .before .before .before .before .before .args .i) (c .before .before .before .before .before .before .before .before .before .before .before .before .pre .4) (c .before .before .before .before .before .if1 .left) (c .before .before .row-at .ensures) in omega (arith, f .line, f .lineEnd)
+part-quantity-in-end : tie.Need-part-quantity-in-end
+part-quantity-in-end c = let f = window-fits _ (c .before .before .before .before .before .before .before .before .before .before .before .before .args .i) (c .before .before .before .before .before .before .before .before .before .before .before .before .pre .4) (c .before .before .before .before .before .if1 .left) (c .before .before .row-at .ensures) in omega (arith, f .line, f .lineEnd)
 
 -- src/lib.rt:73:9
-component-in-requires : tie.Need-component-in-requires
-component-in-requires c κs = let f = window-fits _ (c .before .before .before .before .before .before .before .before .before .before .before .before .before .args .i) (c .before .before .before .before .before .before .before .before .before .before .before .before .before .pre .4) (c .before .before .before .before .before .before .if1 .left) (c .before .before .before .row-at .ensures) in let reads = line-reads ingredient f in let whole = line-whole ingredient f in search needs
+quantity-in-requires : tie.Need-quantity-in-requires
+quantity-in-requires c κs = let f = window-fits _ (c .before .before .before .before .before .before .before .before .before .before .before .before .before .args .i) (c .before .before .before .before .before .before .before .before .before .before .before .before .before .pre .4) (c .before .before .before .before .before .before .if1 .left) (c .before .before .before .row-at .ensures) in line-kind ingredient f
 
 -- src/lib.rt:75:52
 sub-unit-pair : tie.Need-sub-unit-pair
@@ -69,7 +69,7 @@ part-unit-pair-end c = let f = window-fits _ (c .before .before .before .before 
 
 -- src/lib.rt:75:5
 unit-pair-requires : tie.Need-unit-pair-requires
-unit-pair-requires c κs = (c .before .before .before .before .before .before .before .before .before .before .before .before .before .before .before .before .pre .0, c .before .before .before .before .before .before .before .before .before .before .before .before .before .before .before .before .pre .1, c .before .before .before .before .before .before .before .before .before .before .before .before .before .before .before .before .pre .2, row-within (c .before .before .before .before .before .before .before .before .before .before .before .before .before .before .before .before .args .i) (c .before .before .before .before .before .before .before .before .before .before .before .before .before .before .before .before .pre .4) (c .before .before .before .before .before .before .before .before .before .if1 .left) (c .before .before .before .before .before .before .row-at .ensures) (c .before .before .component-in .ensures), c .before .before .before .before .before .before .before .before .before .before .before .before .before .before .before .before .pre .3, c .before .before .before .before .before .before .before .before .before .before .before .before .before .before .before .before .pre .5)
+unit-pair-requires c κs = (c .before .before .before .before .before .before .before .before .before .before .before .before .before .before .before .before .pre .0, c .before .before .before .before .before .before .before .before .before .before .before .before .before .before .before .before .pre .1, c .before .before .before .before .before .before .before .before .before .before .before .before .before .before .before .before .pre .2, c .before .before .quantity-in .ensures .within, c .before .before .before .before .before .before .before .before .before .before .before .before .before .before .before .before .pre .3, c .before .before .before .before .before .before .before .before .before .before .before .before .before .before .before .before .pre .5)
 
 -- src/lib.rt:53:1
 same-length : tie.Need-same-length
@@ -77,7 +77,7 @@ same-length c = search needs
 
 -- src/lib.rt:53:1
 returns-2 : tie.Need-returns-2
-returns-2 c = row-checked (c .before .before .before .before .before .before .before .before .before .before .before .before .before .before .before .before .before .before .before .args .i) (c .before .before .before .before .before .before .before .before .before .before .before .before .before .before .before .before .before .before .before .pre .4) (c .before .before .before .before .before .before .before .before .before .before .before .before .if1 .left) (c .before .before .before .before .before .before .before .before .before .row-at .ensures) (c .before .before .before .before .before .component-in .ensures) (c .before .before .unit-pair .ensures)
+returns-2 c = row-checked (c .before .before .before .before .before .before .before .before .before .before .before .before .before .before .before .before .before .before .before .args .i) (c .before .before .before .before .before .before .before .before .before .before .before .before .before .before .before .before .before .before .before .pre .4) (c .before .before .before .before .before .before .before .before .before .before .before .before .if1 .left) (c .before .before .before .before .before .before .before .before .before .row-at .ensures) (c .before .before .before .before .before .quantity-in .ensures) (c .before .before .unit-pair .ensures)
 
 pub unit-against-spec : {M : Type 1} → statement M
 unit-against-spec =
@@ -90,10 +90,10 @@ unit-against-spec =
     row-at-requires
     cast-at
     cast-end
-    sub-component-in
-    part-component-in-start
-    part-component-in-end
-    component-in-requires
+    sub-quantity-in
+    part-quantity-in-start
+    part-quantity-in-end
+    quantity-in-requires
     sub-unit-pair
     part-unit-pair-start
     part-unit-pair-end
