@@ -11,6 +11,10 @@ use Rattle.recipe_components.proofs.pass_rows.Reads as pass-rows-reads
 use Rattle.unicode.proofs.unicode_tables.Reads as unicode-tables-reads
 
 -- src/lib.rt:168:11
+slice-aggregate-check-inputs : tie.Need-slice-aggregate-check-inputs
+slice-aggregate-check-inputs c = search needs
+
+-- src/lib.rt:168:11
 check-inputs-requires : tie.Need-check-inputs-requires
 check-inputs-requires c κs = search needs
 
@@ -30,13 +34,17 @@ unicode-tables-requires c κs = search needs
 slice-aggregate-pass-rows : tie.Need-slice-aggregate-pass-rows
 slice-aggregate-pass-rows c = search needs
 
+-- src/lib.rt:173:17
+slice-aggregate-pass-rows-2 : tie.Need-slice-aggregate-pass-rows-2
+slice-aggregate-pass-rows-2 c = search needs
+
 -- src/lib.rt:172:13
 pass-rows-requires : tie.Need-pass-rows-requires
-pass-rows-requires c κs = inputs-good _ (c .before .before .before .before .before .check-inputs .ensures) (c .before .before .unicode-tables .ensures) (c .before .before .before .enum-told .given .1)
+pass-rows-requires c κs = inputs-good _ (c .before .before .before .before .before .before .before .check-inputs .ensures .0) (c .before .before .before .unicode-tables .ensures) (c .before .before .before .before .before .before .before .check-inputs .ensures .1) (c .before .before .before .before .enum-told .given .1)
 
 -- src/lib.rt:155:1
 returns : tie.Need-returns
-returns c = inputs-refused _ (c .before .before .before .check-inputs .ensures) refl (c .before .n .given .1)
+returns c = inputs-refused _ (c .before .before .before .before .check-inputs .ensures .0) refl (c .before .n .given .1)
 
 -- src/lib.rt:155:1
 same-length : tie.Need-same-length
@@ -50,11 +58,13 @@ pub collect-rows-spec : {M : Type 1} → statement M
 collect-rows-spec =
     tie.close
     (tie.spec
+    slice-aggregate-check-inputs
     check-inputs-requires
     enum-known-n
     enum-told
     unicode-tables-requires
     slice-aggregate-pass-rows
+    slice-aggregate-pass-rows-2
     pass-rows-requires
     returns
     same-length
