@@ -138,7 +138,7 @@ module _ {b : Bool} (line : List ℕ) (v : ComponentView) {o : Old} {w₀ w₁ w
 -- the line as it is lent
 module _ {k : Kind} {sheet : List ℕ} {at end : ℕ} {v : ComponentView} (x : ComponentHere k sheet at end v) where
   pub lent-within : ComponentWithin (take (end - at) (drop at sheet)) v
-  lent-within = rw (part-slice at end sheet (x .order)) (x .within)
+  lent-within = rw (part-slice at end sheet (x .whole .order)) (x .within)
 
 pub checks-ready-at : {b : Bool} {sheet : List ℕ} {at end : ℕ} {v : ComponentView} {o : Old} {to : Same} {w₀ w₁ w₂ : List ℕ} {h₀ h₁ h₂ : Held} → ComponentHere (kindOf b) sheet at end v → LockChecked (v .quantity) w₀ h₀ w₁ h₁
     → ReferenceReported b (v .modifiers) (v .span) (v .«modifiers_span») o w₁ h₁ w₂ h₂ → Sound w₀ h₀ → AllFit sheet w₀ h₀ → Roomy h₀ → h₀ .counts .findings ≤ 1024 → SameBelow (kindOf b) h₀ to
@@ -148,7 +148,7 @@ checks-ready-at {sheet = sheet} {at} {end} {v} x l r z a y n s = checks-ready (s
 pub named-found : {b : Bool} {sheet : List ℕ} {at end : ℕ} {v : ComponentView} {o : Old} {us : List NamedUnit} {flags : ℕ} {to : Same} {w₀ w₁ w₂ w : List ℕ} {h₀ h₁ h₂ h : Held} → ComponentHere (kindOf b) sheet at end v
     → LockChecked (v .quantity) w₀ h₀ w₁ h₁ → ReferenceReported b (v .modifiers) (v .span) (v .«modifiers_span») o w₁ h₁ w₂ h₂ → ChecksDone us flags (kindOf b) sheet (take (end - at) (drop at sheet)) v to w₂ h₂ w h
     → NamedReported us flags (kindOf b) sheet (slice at end sheet) v o to w₀ h₀ w h
-named-found {sheet = sheet} {at} {end} {v} x l r d = named-reported (slice at end sheet) v l r (rw (part-slice at end sheet (x .order)) at d)
+named-found {sheet = sheet} {at} {end} {v} x l r d = named-reported (slice at end sheet) v l r (rw (part-slice at end sheet (x .whole .order)) at d)
 
 -- ---- the whole line
 

@@ -38,22 +38,22 @@ pub ingredient-here : {sheet : List ℕ} {at end : ℕ} {v : ComponentView} (i :
     → ComponentEventWithin (slice at end sheet) (event.Ingredient v i) → ComponentEventFields (slice at end sheet) (event.Ingredient v i) → ComponentHere ingredient sheet at end v
 unfolding isOfKind isInsideOf isComponentOf componentOfLine componentIn componentInside componentAs componentEventIn ComponentEventWithin ComponentEventFields
 ingredient-here i x w f =
-    record { order = x .order; most = x .most; short = x .short; noLf = x .noLf; isKind = rw (x .is); is = rw (x .is); within = w .0; field = f .name }
+    record { whole = x .whole; short = x .short; isKind = rw (x .is); is = rw (x .is); within = w .0; field = f .name }
 
 pub cookware-here : {sheet : List ℕ} {at end : ℕ} {v : ComponentView} → LineHere sheet at end (inside (componentEvent (componentEventIn (slice at end sheet) (event.Cookware v))))
     → ComponentEventWithin (slice at end sheet) (event.Cookware v) → ComponentEventFields (slice at end sheet) (event.Cookware v) → ComponentHere cookware sheet at end v
 unfolding isOfKind isInsideOf isComponentOf componentOfLine componentIn componentInside componentAs componentEventIn ComponentEventWithin ComponentEventFields
 cookware-here x w f =
-    record { order = x .order; most = x .most; short = x .short; noLf = x .noLf; isKind = rw (x .is); is = rw (x .is); within = w; field = f .name }
+    record { whole = x .whole; short = x .short; isKind = rw (x .is); is = rw (x .is); within = w; field = f .name }
 
 -- ---- the name
 
 module _ {k : Kind} {sheet : List ℕ} {at end : ℕ} {v : ComponentView} (x : ComponentHere k sheet at end v) where
   name-end : at + v .name .content .to ≤ end
-  name-end = omega (arith, x .within .name .content .ends, length-slice at end sheet (x .most), x .order)
+  name-end = omega (arith, x .within .name .content .ends, length-slice at end sheet (x .whole .most), x .whole .order)
 
   pub name-ready : (length sheet ≤ 65536) × (v .name .content .from ≤ v .name .content .to) × (at + v .name .content .to ≤ length sheet)
-  name-ready = (x .short, x .within .name .content .ordered, omega (arith, name-end, x .most))
+  name-ready = (x .short, x .within .name .content .ordered, omega (arith, name-end, x .whole .most))
 
   name-part : partOf (slice at end sheet) (v .name .content) ≡ slice (at + v .name .content .from) (at + v .name .content .to) sheet
   unfolding partOf
@@ -80,12 +80,11 @@ module _ {k : Kind} {sheet : List ℕ} {at end : ℕ} {v : ComponentView} (x : C
   pub row-fits : {p : NamePart} {m : Modifiers} {relation : RelationRecord} {r : Row} → NamePlaced k sheet at v p → RowMade at end (p .at) (p .end) m relation r → Fits k sheet r
   row-fits {r = r} n z =
       record {
-        line = omega (arith, z .isLine, z .isEnd, x .order);
-        lineEnd = omega (arith, z .isEnd, x .most);
+        line = rw (z .isLine, z .isEnd) (x .whole);
         isLine = rw (z .isLine, z .isEnd) (x .isKind);
-        noLf = rw (z .isLine, z .isEnd) (x .noLf);
+        nameAt = omega (arith, z .isLine, z .isName, n .new .least);
         name = omega (arith, z .isName, z .isNameEnd, n .new .order);
-        nameEnd = omega (arith, z .isNameEnd, n .most);
+        nameEnd = omega (arith, z .isEnd, z .isNameEnd, n .new .most, name-end);
         isName = name-new r (n .new) name-field (z .isName) (z .isNameEnd) (rw (z .isLine, z .isEnd) name-content);
       }
 

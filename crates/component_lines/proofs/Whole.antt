@@ -148,7 +148,7 @@ intermediate-found {v} {i} {target} l m f =
 
 -- the bounds for a row and its place
 pub row-ready : {k : Kind} {sheet : List ℕ} {at end : ℕ} {v : ComponentView} {p : NamePart} → ComponentHere k sheet at end v → NamePlaced k sheet at v p → (end ≤ 65536) × (at ≤ end) × (p .at ≤ p .end) × (p .end ≤ 65536)
-row-ready x n = (omega (arith, x .most, x .short), x .order, n .new .order, omega (arith, n .most, x .short))
+row-ready x n = (omega (arith, x .whole .most, x .short), x .whole .order, n .new .order, omega (arith, n .most, x .short))
 
 pub reported-roomy : {fs : List Finding} {w w₁ : List ℕ} {h h₁ : Held} → Reported fs w h w₁ h₁ → Sound w h → Roomy h → Sound w₁ h₁ × Roomy h₁
 reported-roomy f z r = (reported-sound f z, roomy-kept (reported-framed f) r)

@@ -6,30 +6,26 @@ use mathlib.Core.List.{List, []}
 use mathlib.Core.Option.{some}
 use lib.ListN.{length}
 use lib.Seq.{slice}
-use Rattle.rules.specs.Basic.{lf}
 use Rattle.rules.specs.Event.{Event}
 use Rattle.rules.specs.Units.{NamedUnit}
 use Rattle.rules.specs.Read.{parseLine}
 use Rattle.rules.specs.Model.{Kind}
 use Rattle.rules.specs.State.{tableOf, overLimits}
 use Rattle.rules.specs.Pass.{onComponent}
-use Rattle.rules.proofs.Fields.{Without}
 use Rattle.rules.proofs.Chained as chained
 use Rattle.events.specs.Views.{componentEventIn}
 use Rattle.events.specs.declared.ComponentEvent.{ComponentEvent}
 use Rattle.model.specs.Blank.{blankStep}
 use Rattle.model.specs.Memory.{stateIn, Sound}
-use Rattle.model.specs.Fits.{AllFit}
+use Rattle.model.specs.Fits.{WholeLine, AllFit}
 use Rattle.model.specs.declared.Held.{Held}
 use Rattle.blocks.specs.Lined.{stepIn, SoundStep, FitStep}
 use Rattle.blocks.specs.declared.Passed.{Passed}
 
 -- the line of the sheet from at to end is e's
 pub record LineHere (sheet : List ℕ) (at end : ℕ) (e : Event) : Type 0 where
-  pub order : at ≤ end
-  pub most : end ≤ length sheet
+  pub whole : WholeLine sheet at end
   pub short : length sheet ≤ 65536
-  pub noLf : Without lf (slice at end sheet)
   pub is : parseLine (slice at end sheet) ≡ some e
 
 -- what the pass keeps between lines

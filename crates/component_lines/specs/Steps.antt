@@ -6,7 +6,7 @@ use mathlib.Core.List.{List, []}
 use mathlib.Core.Option.{Option, none, some}
 use lib.ListN.{length}
 use lib.Seq.{slice}
-use Rattle.rules.specs.Basic.{lf, onSome}
+use Rattle.rules.specs.Basic.{onSome}
 use Rattle.rules.specs.Event as rules
 use Rattle.rules.specs.Read.{parseLine}
 use Rattle.rules.specs.Units.{NamedUnit}
@@ -15,7 +15,6 @@ use Rattle.rules.specs.Reference.{Earlier, refersTo}
 use Rattle.rules.specs.State.{tableOf}
 use Rattle.rules.specs.Components.{lockFindings, Made, madeWith, madeByName, madeIntermediate, makeIngredient}
 use Rattle.rules.specs.Pass.{pushComponent}
-use Rattle.rules.proofs.Fields.{Without}
 use Rattle.components.specs.Views.{modifiersIn, componentIn, ComponentWithin, intermediateIn}
 use Rattle.components.specs.declared.Modifiers.{Modifiers}
 use Rattle.components.specs.declared.ComponentView.{ComponentView}
@@ -25,7 +24,7 @@ use Rattle.model.specs.Blank.{blank}
 use Rattle.model.specs.Contracts.{foundOf}
 use Rattle.model.specs.Rows.{componentOfLine, relationIn}
 use Rattle.model.specs.Memory.{stateIn, Sound}
-use Rattle.model.specs.Fits.{isOfKind, AllFit}
+use Rattle.model.specs.Fits.{isOfKind, WholeLine, AllFit}
 use Rattle.model.specs.declared.Found.{Found}
 use Rattle.model.specs.declared.RelationRecord.{RelationRecord}
 use Rattle.model.specs.declared.Row.{Row}
@@ -46,10 +45,8 @@ use Rattle.new_rows.specs.Rows.{RowMade}
 
 -- the line of the sheet from at to end is a component of the kind, and v is its view
 pub record ComponentHere (k : Kind) (sheet : List ℕ) (at end : ℕ) (v : ComponentView) : Type 0 where
-  pub order : at ≤ end
-  pub most : end ≤ length sheet
+  pub whole : WholeLine sheet at end
   pub short : length sheet ≤ 65536
-  pub noLf : Without lf (slice at end sheet)
   pub isKind : isOfKind k (parseLine (slice at end sheet)) ≡ true
   pub is : componentOfLine k (slice at end sheet) ≡ componentIn (slice at end sheet) v
   pub within : ComponentWithin (slice at end sheet) v

@@ -1,12 +1,12 @@
 -- The fields of a line of a sheet.
 use Prim.Native.Nat.{ℕ, _+_, _≤_}
-use mathlib.Core.Path.{_≡_, refl, sym, _∙_}
+use mathlib.Core.Path.{_≡_, refl, sym, ap, _∙_}
 use mathlib.Core.List.{List, [], _∷_, _++_, append-nil}
 use mathlib.Core.Bool.{Bool, true, false, _&&_}
 use mathlib.Core.Option.{Option, none, some}
 use native.Mathlib.Omega.{arith}
 use lib.Dec.{eqb}
-use lib.ListN.{length}
+use lib.ListN.{length, getD}
 use lib.Seq.{append-snoc}
 use borrow.Author.Tests.{eqb-true}
 use Rattle.rules.specs.Basic.{tab, lf, isSome, onSome, splitAt}
@@ -23,6 +23,12 @@ use Rattle.content.specs.Parts.{Field}
 use Rattle.content.proofs.Plains.{plain-unescape}
 
 -- ---- a line holds no LF
+
+no-line : {P : Type 0} {l m : List ℕ} {ls : Lines} → last l ≡ more m ls → P
+no-line e = absurd (let z : _≡_ {A = ℕ} 0 1 = cc in omega arith)
+
+lines-first : {l m : List ℕ} {ls ms : Lines} → more l ls ≡ more m ms → l ≡ m
+lines-first e = cc
 
 -- the first line, whether it has its LF or not
 unfoldable firstLine : Lines → List ℕ
@@ -43,6 +49,21 @@ first-without (b ∷ s) =
 
 pub line-without : (s : List ℕ) {l : List ℕ} {ls : Lines} → lines s ≡ more l ls → Without lf l
 line-without s {l} {ls} e = let k : firstLine (lines s) ≡ l = rw e (unfold firstLine in refl) in rw k at (first-without s)
+
+-- the LF after it
+ends-on : (b : ℕ) (s : List ℕ) {l : List ℕ} {ls : Lines} (x : Lines) → ((m : List ℕ) (ms : Lines) → x ≡ more m ms → getD s (length m) 0 ≡ lf) → onLine b x ≡ more l ls → getD (b ∷ s) (length l) 0 ≡ lf
+unfolding onLine
+ends-on b s (last m) h f = no-line f
+ends-on b s (more m ms) h f = ap (λ (k : List ℕ). getD (b ∷ s) (length k) 0) (sym (lines-first f)) ∙ h m ms refl
+
+pub line-ends : (s : List ℕ) {l : List ℕ} {ls : Lines} → lines s ≡ more l ls → getD s (length l) 0 ≡ lf
+unfolding lines
+line-ends [] e = no-line e
+line-ends (b ∷ s) {l} {ls} e =
+    pick-either (λ (x : Lines). x ≡ more l ls → getD (b ∷ s) (length l) 0 ≡ lf) (eqb b lf) _ _
+    (λ q f. ap (λ (k : List ℕ). getD (b ∷ s) (length k) 0) (sym (lines-first f)) ∙ eqb-true b lf q)
+    (λ n f. ends-on b s (lines s) (λ m ms g. line-ends s g) f)
+    e
 
 pub last-without : (s : List ℕ) {l : List ℕ} → lines s ≡ last l → Without lf l
 last-without s {l} e = let k : firstLine (lines s) ≡ l = rw e (unfold firstLine in refl) in rw k at (first-without s)

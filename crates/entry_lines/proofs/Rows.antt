@@ -55,10 +55,10 @@ module _ {k : Kind} {sheet rows pairs : List ℕ} {m i : ℕ} (z : RowReady k sh
   fits-row = rw e (z .fits)
 
   pub line-order : row .«line_at» ≤ row .«line_end»
-  line-order = fits-row .line
+  line-order = fits-row .line .order
 
   pub line-most : row .«line_end» ≤ length sheet
-  line-most = fits-row .lineEnd
+  line-most = fits-row .line .most
 
   line-part : take (row .«line_end» - row .«line_at») (drop (row .«line_at») sheet) ≡ slice (row .«line_at») (row .«line_end») sheet
   line-part = part-slice (row .«line_at») (row .«line_end») sheet line-order
@@ -67,7 +67,7 @@ module _ {k : Kind} {sheet rows pairs : List ℕ} {m i : ℕ} (z : RowReady k sh
   line-kind = rw line-part (fits-row .isLine)
 
   pub line-without : Without lf (take (row .«line_end» - row .«line_at») (drop (row .«line_at») sheet))
-  line-without = rw line-part (fits-row .noLf)
+  line-without = rw line-part (fits-row .line .noLf)
 
   pub put-entry-line : (x : Modifiers) {o₀ o₁ o₂ o₃ o₄ o : List ℕ} {at a b c d r : ℕ} → modifiersIn x ≡ model.modifiersIn row
       → Put (kindWord k) o₀ at o₁ a → Put (tabbed (decimal i ∷ [])) o₁ a o₂ b

@@ -41,7 +41,7 @@ fewer : {k : Kind} {sheet rows : List ℕ} {n : ℕ} → EachRow (Fits k sheet) 
 fewer h = record { at = λ i l. h .at i (omega arith) }
 
 pub names-inside : {k : Kind} {sheet rows : List ℕ} {n : ℕ} → EachRow (Fits k sheet) rows n → NamesInside sheet rows n
-names-inside h = record { at = λ i l. record { order = h .at i l .name; most = h .at i l .nameEnd } }
+names-inside h = record { at = λ i l. record { order = h .at i l .name; most = omega (arith, h .at i l .nameEnd, h .at i l .line .most) } }
 
 read-kept : (f name : List ℕ) (o : Option (List ℕ)) → contentOf f ≡ o → onSome (retain 0) o ≡ some name → keptIn f ≡ name
 unfolding onSome keptIn

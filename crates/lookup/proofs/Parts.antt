@@ -77,6 +77,7 @@ module _ (sheet : List ℕ) (from to : ℕ) (h : from ≤ to) (g : to ≤ length
   new-cookware b t =
       rw (not-true b t)
       record {
+        least = omega arith;
         order = omega (arith, own .order);
         most = part-most;
         is = λ inStep c e. part-kept ∙ rw e;
@@ -92,6 +93,7 @@ module _ (sheet : List ℕ) (from to : ℕ) (h : from ≤ to) (g : to ≤ length
       let k : from + p .end ≤ length sheet = omega (arith, part-most) in
       rw (not-false b t)
       record {
+        least = omega arith;
         order = omega (arith, y .most, length-slice (from + p .at) (from + p .end) sheet k);
         most = part-most;
         is = λ inStep c e. ap keptIn (sym (drop-drop (q .start) (from + p .at) (take (from + p .end) sheet))) ∙ y .name ∙ rw (part-kept, e);

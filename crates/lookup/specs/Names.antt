@@ -91,6 +91,7 @@ pub record TrimmedAt (f : List ℕ) (p : NamePart) : Type 0 where
 
 -- p is the part of the sheet with the name of a component whose name is written at from to to
 pub record NewName (k : Kind) (sheet : List ℕ) (from to : ℕ) (p : NamePart) : Type 0 where
+  pub least : from ≤ p .at
   pub order : p .at ≤ p .end
   pub most : p .end ≤ to
   pub is : (inStep : Bool) (c : Component) → c .name .content ≡ contentIn (slice from to sheet) → keptIn (slice (p .at) (p .end) sheet) ≡ entryOf k inStep c .name

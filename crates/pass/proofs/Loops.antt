@@ -6,9 +6,10 @@ use mathlib.Core.Bool.{true, false}
 use mathlib.Core.Option.{some}
 use native.Mathlib.Omega.{arith}
 use native.Mathlib.Numerals.{add-one}
-use lib.ListN.{length, take, drop}
+use lib.ListN.{length, getD, take, drop, length-drop}
+use lib.Seq.{getD-drop, length-take-le}
 use Rattle.rules.specs.Basic.{isSome, lf}
-use Rattle.rules.specs.Sheet.{lines}
+use Rattle.rules.specs.Sheet.{more, lines}
 use Rattle.rules.specs.Event.{Event}
 use Rattle.rules.specs.Read.{parseLine}
 use Rattle.rules.specs.Units.{NamedUnit}
@@ -21,7 +22,7 @@ use Rattle.rules.proofs.Fields.{Without}
 use Rattle.sheet.specs.declared.LineEnd.{LineEnd}
 use Rattle.sheet.specs.declared.LineEnd.the-variants.{At, Nothing}
 use Rattle.sheet.specs.Lines.{linesFrom, LineAt}
-use Rattle.content.proofs.Lines.{line-without}
+use Rattle.content.proofs.Lines.{line-without, line-ends}
 use Rattle.events.specs.Views.{eventIn}
 use Rattle.events.specs.declared.EventView.{EventView}
 use Rattle.reading.proofs.Passes.{Rest, First, rest-ends, rest-ended, rest-some, rest-parsed}
@@ -94,6 +95,7 @@ is-refused (refused m k) n l e = e
 
 pub record Passing (us : List NamedUnit) (flags : ℕ) (sheet text : List ℕ) (w₀ w : List ℕ) (h : Held) (at number : ℕ) : Type 0 where
   pub from : at ≤ length sheet
+  pub begins : getD (lf ∷ sheet) at 0 ≡ lf
   pub short : length sheet ≤ 65536
   pub few : number ≤ at + 1
   pub long : length w ≡ length w₀
@@ -124,6 +126,7 @@ passing-starts {sheet = sheet} {text = text} {w = w} e s l q =
     rw e
     record {
       from = omega arith;
+      begins = refl;
       short = s;
       few = omega arith;
       long = refl;
@@ -138,9 +141,20 @@ passing-starts {sheet = sheet} {text = text} {w = w} e s l q =
 -- ---- a line
 
 module _ {sheet : List ℕ} {at end : ℕ} {text : List ℕ} {number : ℕ} {es : List Event} (w : Rest text sheet at number es) {r : LineEnd} (l : LineAt sheet at r) (q : r ≡ At end) where
-  no-lf : Without lf (take (end - at) (drop at sheet))
+  first-line : lines (drop at sheet) ≡ more (take (end - at) (drop at sheet)) (lines (drop (end + 1) sheet))
   unfolding linesFrom
-  no-lf = line-without (drop at sheet) (sym (sym (ap (linesFrom sheet at) q) ∙ l .is))
+  first-line = sym (sym (ap (linesFrom sheet at) q) ∙ l .is)
+
+  no-lf : Without lf (take (end - at) (drop at sheet))
+  no-lf = line-without (drop at sheet) first-line
+
+  lf-after : getD sheet end 0 ≡ lf
+  lf-after =
+      let i = l .inside end q in
+      let n : length (take (end - at) (drop at sheet)) ≡ end - at = length-take-le (end - at) (drop at sheet) (omega (arith, i .0, i .1, length-drop at sheet)) in
+      let d : getD sheet (at + (end - at)) 0 ≡ lf = sym (getD-drop at sheet (end - at) 0) ∙ ap (λ (k : ℕ). getD (drop at sheet) k 0) (sym n) ∙ line-ends (drop at sheet) first-line in
+      let e : at + (end - at) ≡ end = omega (arith, i .0) in
+      ap (λ (k : ℕ). getD sheet k 0) (sym e) ∙ d
 
 module _ {us : List NamedUnit} {flags : ℕ} {sheet text w₀ w : List ℕ} {h : Held} {at number : ℕ} (p : Passing us flags sheet text w₀ w h at number) where
   pub passing-room : (h .counts .sections ≤ 128) × (h .counts .findings ≤ 1024)
@@ -163,10 +177,14 @@ module _ {us : List NamedUnit} {flags : ℕ} {sheet text w₀ w : List ℕ} {h :
             record {
               part = e;
               here = record {
-                order = i .0;
-                most = omega (arith, i .1);
+                whole = record {
+                  order = i .0;
+                  most = omega (arith, i .1);
+                  begins = p .begins;
+                  noLf = subst (Without lf) e (no-lf (p .rest) l q);
+                  ends = lf-after (p .rest) l q;
+                };
                 short = p .short;
-                noLf = subst (Without lf) e (no-lf (p .rest) l q);
                 is = subst (λ (x : List ℕ). parseLine x ≡ some (eventIn (take (end - at) (drop at sheet)) v)) e (k .is);
               };
               within = k .within;
@@ -236,6 +254,7 @@ module _ {us : List NamedUnit} {flags : ℕ} {sheet text w₀ w : List ℕ} {h :
               let o = goes-on (stepped (p .state)) (stateIn sheet w₁ m) (like ∙ g .is text number) in
               record {
                 from = omega (arith, i .1);
+                begins = rw (add-one end) (lf-after (p .rest) l q);
                 short = p .short;
                 few = omega (arith, i .0, p .few);
                 long = n ∙ p .long;

@@ -94,11 +94,11 @@ module _ {sheet w : List ℕ} {h : Held} {n : ℕ} (r : Running sheet w h n) whe
 
 module _ {sheet line : List ℕ} {at end : ℕ} {v : EventView} (z : EventHere sheet line at end v) where
   pub line-short : length line ≤ 65536
-  line-short = let e = ap length (z .part) ∙ length-slice at end sheet (z .here .most) in omega (arith, e, z .here .most, z .here .short)
+  line-short = let e = ap length (z .part) ∙ length-slice at end sheet (z .here .whole .most) in omega (arith, e, z .here .whole .most, z .here .short)
 
   module _ {w : List ℕ} {h : Held} (r : Running sheet w h at) where
     pub room : Bounded h
-    room = bounded r (omega (arith, z .here .order, z .here .most, z .here .short))
+    room = bounded r (omega (arith, z .here .whole .order, z .here .whole .most, z .here .short))
 
     pub room-blocks : Sound w h × (h .counts .here < 1025) × (h .counts .blocks < 100000)
     room-blocks = let b = room in (r .kept .sound, omega (arith, b .here), omega (arith, b .blocks))

@@ -108,7 +108,7 @@ module _ {us : List NamedUnit} {flags : ℕ} {sheet line w₀ w : List ℕ} {v :
           let c = after-counted (suc at) _ (stateIn sheet w k) (after []) (event-counted [] us flags (eventIn line v) (stateIn sheet w₀ h₀) (g .counted)) in
           record {
             kept = record { sound = sound-after (d .at [] .sound); fit = fit-after (d .at [] .fit); definitions = λ x. chained.table-sound x (stateIn sheet w k) s; limits = sym (l .is sheet w) ∙ t };
-            counted = counted-more (stateIn sheet w k) (omega (arith, z .here .order)) c;
+            counted = counted-more (stateIn sheet w k) (omega (arith, z .here .whole .order)) c;
           }
 
       pub step-going : {at end : ℕ} → b ≡ false → EventHere sheet line at end v → Running sheet w₀ h₀ at → StepDone us flags sheet line end v w₀ h₀ w (walked.Going k)

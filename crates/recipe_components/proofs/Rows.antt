@@ -99,10 +99,9 @@ module _ (k : Kind) (sheet : List ℕ) (r : Row) (by : List ℕ) where
         relation = lent-is k (r .relation .«in_step») (r .relation .index) by (r .relation .relation);
         modifiers = refl;
         line = f .line;
-        lineEnd = f .lineEnd;
-        noLf = f .noLf;
         isLine = f .isLine;
         isEntry = refl;
+        nameAt = f .nameAt;
         name = f .name;
         nameEnd = f .nameEnd;
         isName = f .isName;

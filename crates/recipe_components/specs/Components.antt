@@ -8,7 +8,7 @@ use mathlib.Core.Option.{some}
 use lib.Dec.{leb, ltb}
 use lib.ListN.{length, getD, replicate}
 use lib.Seq.{slice}
-use Rattle.rules.specs.Basic.{pick, onSome, lf}
+use Rattle.rules.specs.Basic.{pick, onSome}
 use Rattle.rules.specs.Text.{retain}
 use Rattle.rules.specs.Event.{Modifiers}
 use Rattle.rules.specs.Read.{contentOf, parseLine}
@@ -16,11 +16,10 @@ use Rattle.rules.specs.Model.{Kind, ingredient, cookware, toIngredient, toCookw
 use Rattle.rules.specs.Reference.{entryAt}
 use Rattle.rules.specs.State.{State, tableOf, Outcome, recipe, noRecipe, refusal}
 use Rattle.rules.specs.Answer.{wordsNeeded, collection, workAfter}
-use Rattle.rules.proofs.Fields.{Without}
 use Rattle.rules.proofs.Referrers.{isOwn}
 use Rattle.rules.proofs.LinkedRecipe.{ownReferences}
 use Rattle.model.specs.Rows.{componentOfLine}
-use Rattle.model.specs.Fits.{isOfKind}
+use Rattle.model.specs.Fits.{isOfKind, WholeLine}
 use Rattle.model.specs.declared.Target.the-variants.{Ingredient, Step, Section}
 use Rattle.model.specs.declared.Relation.the-variants.{Definition, Reference}
 use Rattle.model.specs.declared.RelationRecord.{RelationRecord}
@@ -55,13 +54,12 @@ nameIn sheet c = slice (c .«name_at») (c .«name_end») sheet
 pub record RecordOf (k : Kind) (sheet : List ℕ) (e : Entry) (c : Component) : Type 0 where
   pub relation : c .relation ≡ relationRecordOf (e .relation)
   pub modifiers : modifiersOf c ≡ e .modifiers
-  pub line : c .«line_at» ≤ c .«line_end»
-  pub lineEnd : c .«line_end» ≤ length sheet
-  pub noLf : Without lf (lineOf sheet c)
+  pub line : WholeLine sheet (c .«line_at») (c .«line_end»)
   pub isLine : isOfKind k (parseLine (lineOf sheet c)) ≡ true
   pub isEntry : setRelation (e .relation) (setModifiers (e .modifiers) (entryOf k true (componentOfLine k (lineOf sheet c)))) ≡ e
+  pub nameAt : c .«line_at» ≤ c .«name_at»
   pub name : c .«name_at» ≤ c .«name_end»
-  pub nameEnd : c .«name_end» ≤ length sheet
+  pub nameEnd : c .«name_end» ≤ c .«line_end»
   pub isName : onSome (retain 0) (contentOf (nameIn sheet c)) ≡ some (e .name)
 
 -- the records of a table, oldest first

@@ -97,7 +97,7 @@ some-kind k (some x) e = refl
 module _ (k : Kind) {sheet : List ℕ} {r : Row} (f : Fits k sheet r) where
   -- its line, as it is lent
   lent : take (r .«line_end» - r .«line_at») (drop (r .«line_at») sheet) ≡ slice (r .«line_at») (r .«line_end») sheet
-  lent = part-slice (r .«line_at») (r .«line_end») sheet (f .line)
+  lent = part-slice (r .«line_at») (r .«line_end») sheet (f .line .order)
 
   pub line-reads : isSome (parseLine (take (r .«line_end» - r .«line_at») (drop (r .«line_at») sheet))) ≡ true
   line-reads = rw lent (some-kind k (parseLine (slice (r .«line_at») (r .«line_end») sheet)) (f .isLine))
@@ -106,7 +106,7 @@ module _ (k : Kind) {sheet : List ℕ} {r : Row} (f : Fits k sheet r) where
   line-kind = rw lent (f .isLine)
 
   pub line-whole : Without lf (take (r .«line_end» - r .«line_at») (drop (r .«line_at») sheet))
-  line-whole = rw lent (f .noLf)
+  line-whole = rw lent (f .line .noLf)
 
   module _ {v : ComponentView} (q : Recalled (take (r .«line_end» - r .«line_at») (drop (r .«line_at») sheet)) v) where
     old-is : componentOfLine k (slice (r .«line_at») (r .«line_end») sheet) ≡ componentIn (take (r .«line_end» - r .«line_at») (drop (r .«line_at») sheet)) v

@@ -20,15 +20,15 @@ reference-findings-requires c κs = lock-ready-two (c .before .before .before .l
 
 -- src/lib.rt:278:9
 sub-checks-after : tie.Need-sub-checks-after
-sub-checks-after c = search needs
+sub-checks-after c = let x = c .before .before .before .before .before .before .before .before .before .before .before .before .before .before .before .pre .2 .whole in search (needs, x .order, x .most)
 
 -- src/lib.rt:278:9
 part-checks-after-start : tie.Need-part-checks-after-start
-part-checks-after-start c = search needs
+part-checks-after-start c = let x = c .before .before .before .before .before .before .before .before .before .before .before .before .before .before .before .pre .2 .whole in search (needs, x .order, x .most)
 
 -- src/lib.rt:278:9
 part-checks-after-end : tie.Need-part-checks-after-end
-part-checks-after-end c = search needs
+part-checks-after-end c = let x = c .before .before .before .before .before .before .before .before .before .before .before .before .before .before .before .pre .2 .whole in search (needs, x .order, x .most)
 
 -- src/lib.rt:271:5
 checks-after-requires : tie.Need-checks-after-requires

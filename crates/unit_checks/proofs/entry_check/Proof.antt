@@ -30,15 +30,15 @@ cast-end c = search needs
 
 -- src/lib.rt:178:34
 sub-component-in : tie.Need-sub-component-in
-sub-component-in c = let f = row-fits (c .before .before .before .before .before .before .before .before .before .pre .2) (kindOf (c .before .before .before .before .before .before .before .before .before .args .is-ingredient)) (c .before .before .before .before .before .before .before .before .before .args .d) (c .before .before .before .before .before .before .before .before .before .pre .3) (c .before .before .before .before .kind-row .ensures) in omega (arith, f .line, f .lineEnd)
+sub-component-in c = let f = row-fits (c .before .before .before .before .before .before .before .before .before .pre .2) (kindOf (c .before .before .before .before .before .before .before .before .before .args .is-ingredient)) (c .before .before .before .before .before .before .before .before .before .args .d) (c .before .before .before .before .before .before .before .before .before .pre .3) (c .before .before .before .before .kind-row .ensures) in omega (arith, f .line .order, f .line .most)
 
 -- src/lib.rt:178:34
 part-component-in-start : tie.Need-part-component-in-start
-part-component-in-start c = let f = row-fits (c .before .before .before .before .before .before .before .before .before .pre .2) (kindOf (c .before .before .before .before .before .before .before .before .before .args .is-ingredient)) (c .before .before .before .before .before .before .before .before .before .args .d) (c .before .before .before .before .before .before .before .before .before .pre .3) (c .before .before .before .before .kind-row .ensures) in omega (arith, f .line, f .lineEnd)
+part-component-in-start c = let f = row-fits (c .before .before .before .before .before .before .before .before .before .pre .2) (kindOf (c .before .before .before .before .before .before .before .before .before .args .is-ingredient)) (c .before .before .before .before .before .before .before .before .before .args .d) (c .before .before .before .before .before .before .before .before .before .pre .3) (c .before .before .before .before .kind-row .ensures) in omega (arith, f .line .order, f .line .most)
 
 -- src/lib.rt:178:34
 part-component-in-end : tie.Need-part-component-in-end
-part-component-in-end c = let f = row-fits (c .before .before .before .before .before .before .before .before .before .pre .2) (kindOf (c .before .before .before .before .before .before .before .before .before .args .is-ingredient)) (c .before .before .before .before .before .before .before .before .before .args .d) (c .before .before .before .before .before .before .before .before .before .pre .3) (c .before .before .before .before .kind-row .ensures) in omega (arith, f .line, f .lineEnd)
+part-component-in-end c = let f = row-fits (c .before .before .before .before .before .before .before .before .before .pre .2) (kindOf (c .before .before .before .before .before .before .before .before .before .args .is-ingredient)) (c .before .before .before .before .before .before .before .before .before .args .d) (c .before .before .before .before .before .before .before .before .before .pre .3) (c .before .before .before .before .kind-row .ensures) in omega (arith, f .line .order, f .line .most)
 
 -- src/lib.rt:178:9
 component-in-requires : tie.Need-component-in-requires

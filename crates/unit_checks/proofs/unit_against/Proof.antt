@@ -41,15 +41,15 @@ cast-end c = search needs
 
 -- src/lib.rt:73:34
 sub-quantity-in : tie.Need-sub-quantity-in
-sub-quantity-in c = let f = window-fits _ (c .before .before .before .before .before .before .before .before .before .before .before .before .args .i) (c .before .before .before .before .before .before .before .before .before .before .before .before .pre .4) (c .before .before .before .before .before .if1 .left) (c .before .before .row-at .ensures) in omega (arith, f .line, f .lineEnd)
+sub-quantity-in c = let f = window-fits _ (c .before .before .before .before .before .before .before .before .before .before .before .before .args .i) (c .before .before .before .before .before .before .before .before .before .before .before .before .pre .4) (c .before .before .before .before .before .if1 .left) (c .before .before .row-at .ensures) in omega (arith, f .line .order, f .line .most)
 
 -- src/lib.rt:73:34
 part-quantity-in-start : tie.Need-part-quantity-in-start
-part-quantity-in-start c = let f = window-fits _ (c .before .before .before .before .before .before .before .before .before .before .before .before .args .i) (c .before .before .before .before .before .before .before .before .before .before .before .before .pre .4) (c .before .before .before .before .before .if1 .left) (c .before .before .row-at .ensures) in omega (arith, f .line, f .lineEnd)
+part-quantity-in-start c = let f = window-fits _ (c .before .before .before .before .before .before .before .before .before .before .before .before .args .i) (c .before .before .before .before .before .before .before .before .before .before .before .before .pre .4) (c .before .before .before .before .before .if1 .left) (c .before .before .row-at .ensures) in omega (arith, f .line .order, f .line .most)
 
 -- src/lib.rt:73:34
 part-quantity-in-end : tie.Need-part-quantity-in-end
-part-quantity-in-end c = let f = window-fits _ (c .before .before .before .before .before .before .before .before .before .before .before .before .args .i) (c .before .before .before .before .before .before .before .before .before .before .before .before .pre .4) (c .before .before .before .before .before .if1 .left) (c .before .before .row-at .ensures) in omega (arith, f .line, f .lineEnd)
+part-quantity-in-end c = let f = window-fits _ (c .before .before .before .before .before .before .before .before .before .before .before .before .args .i) (c .before .before .before .before .before .before .before .before .before .before .before .before .pre .4) (c .before .before .before .before .before .if1 .left) (c .before .before .row-at .ensures) in omega (arith, f .line .order, f .line .most)
 
 -- src/lib.rt:73:9
 quantity-in-requires : tie.Need-quantity-in-requires
@@ -57,15 +57,15 @@ quantity-in-requires c κs = let f = window-fits _ (c .before .before .before .b
 
 -- src/lib.rt:75:52
 sub-unit-pair : tie.Need-sub-unit-pair
-sub-unit-pair c = let f = window-fits _ (c .before .before .before .before .before .before .before .before .before .before .before .before .before .before .before .args .i) (c .before .before .before .before .before .before .before .before .before .before .before .before .before .before .before .pre .4) (c .before .before .before .before .before .before .before .before .if1 .left) (c .before .before .before .before .before .row-at .ensures) in omega (arith, f .line, f .lineEnd)
+sub-unit-pair c = let f = window-fits _ (c .before .before .before .before .before .before .before .before .before .before .before .before .before .before .before .args .i) (c .before .before .before .before .before .before .before .before .before .before .before .before .before .before .before .pre .4) (c .before .before .before .before .before .before .before .before .if1 .left) (c .before .before .before .before .before .row-at .ensures) in omega (arith, f .line .order, f .line .most)
 
 -- src/lib.rt:75:52
 part-unit-pair-start : tie.Need-part-unit-pair-start
-part-unit-pair-start c = let f = window-fits _ (c .before .before .before .before .before .before .before .before .before .before .before .before .before .before .before .args .i) (c .before .before .before .before .before .before .before .before .before .before .before .before .before .before .before .pre .4) (c .before .before .before .before .before .before .before .before .if1 .left) (c .before .before .before .before .before .row-at .ensures) in omega (arith, f .line, f .lineEnd)
+part-unit-pair-start c = let f = window-fits _ (c .before .before .before .before .before .before .before .before .before .before .before .before .before .before .before .args .i) (c .before .before .before .before .before .before .before .before .before .before .before .before .before .before .before .pre .4) (c .before .before .before .before .before .before .before .before .if1 .left) (c .before .before .before .before .before .row-at .ensures) in omega (arith, f .line .order, f .line .most)
 
 -- src/lib.rt:75:52
 part-unit-pair-end : tie.Need-part-unit-pair-end
-part-unit-pair-end c = let f = window-fits _ (c .before .before .before .before .before .before .before .before .before .before .before .before .before .before .before .args .i) (c .before .before .before .before .before .before .before .before .before .before .before .before .before .before .before .pre .4) (c .before .before .before .before .before .before .before .before .if1 .left) (c .before .before .before .before .before .row-at .ensures) in omega (arith, f .line, f .lineEnd)
+part-unit-pair-end c = let f = window-fits _ (c .before .before .before .before .before .before .before .before .before .before .before .before .before .before .before .args .i) (c .before .before .before .before .before .before .before .before .before .before .before .before .before .before .before .pre .4) (c .before .before .before .before .before .before .before .before .if1 .left) (c .before .before .before .before .before .row-at .ensures) in omega (arith, f .line .order, f .line .most)
 
 -- src/lib.rt:75:5
 unit-pair-requires : tie.Need-unit-pair-requires
