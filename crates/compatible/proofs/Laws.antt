@@ -5,12 +5,14 @@ use mathlib.Core.Bool.{Bool, true, false}
 use mathlib.Core.Option.{Option, none, some}
 use mathlib.Core.List.{List}
 use native.Mathlib.Omega.{arith}
-use borrow.Author.Tests.{eq-eqb, ne-eqb}
+use lib.Dec.{eqb}
+use borrow.Author.Tests.{eq-eqb, ne-eqb, eqb-true}
 use Rattle.rules.specs.Basic.{eqList, isSome, onSome}
 use Rattle.rules.specs.Units.{NamedUnit, PhysicalQuantity, volume, mass, len, temperature, time, physicalNumber, samePhysical, readUnits, findUnit}
 use Rattle.rules.specs.Answer.{unitsOr}
 use Rattle.rules.specs.Model.{trimmedText}
 use Rattle.rules.specs.Checks.{knownUnits, compatibleUnit}
+use Rattle.rules.proofs.Basics.{no-truth}
 use Rattle.rules.proofs.SameChars.{eq-true, eq-itself}
 use Rattle.content.specs.Contents.{keptIn}
 use Rattle.content.proofs.Plains as plains
@@ -25,7 +27,7 @@ use Rattle.parts.specs.declared.OptText.the-variants.{Absent, Present}
 use Rattle.parts.specs.declared.TextView.{TextView}
 use Rattle.parts.specs.Views.{partOf, textIn, optTextIn, TextWithin, OptTextWithin}
 use Rattle.parts.proofs.Contents.{content-of}
-use Rattle.compatible.specs.Fitting.{codeOf, knownOf, unitIn}
+use Rattle.compatible.specs.Fitting.{codeOf, unitCode, knownOf, trimmedIn, unitIn}
 
 -- ---- numbers of physical quantities
 
@@ -83,35 +85,68 @@ module _ (us : List NamedUnit) (a b : List ℕ) where
   both-other (some p) (some q) n m e =
       unfold knownUnits samePhysical in rw (ne-eqb (physicalNumber p) (physicalNumber q) (λ z. e (code-some p ∙ z ∙ sym (code-some q))))
 
+pub code-is : (us : List NamedUnit) (a : List ℕ) {p : Physical} {m : ℕ} → p ≡ physicalAs (findUnit a us) → m ≡ codeOf p → m ≡ unitCode us a
+unfolding unitCode
+code-is us a x y = y ∙ ap codeOf x
+
 module _ (us : List NamedUnit) (a b : List ℕ) {t : Bool} (s : t ≡ eqList a b) where
   pub units-same : t ≡ true → 0 ≡ knownOf us a b
   unfolding knownOf
   units-same h = rw (eq-true a b (sym s ∙ h)) (sym (twice us b (findUnit b us)))
 
-  module _ {p : Physical} {m : ℕ} (x : p ≡ physicalAs (findUnit a us)) (y : m ≡ codeOf p) where
-    first : m ≡ codeOf (physicalAs (findUnit a us))
-    first = y ∙ ap codeOf x
+  pub units-first : {m : ℕ} → m ≡ unitCode us a → t ≡ false → m ≡ 5 → 17 ≡ knownOf us a b
+  unfolding knownOf unitCode
+  units-first x h e = rw (code-five (findUnit a us) (sym x ∙ e)) (sym (left-none us a b (findUnit b us) (sym s ∙ h)))
 
-    pub units-first : t ≡ false → m ≡ 5 → 17 ≡ knownOf us a b
-    unfolding knownOf
-    units-first h e = rw (code-five (findUnit a us) (sym first ∙ e)) (sym (left-none us a b (findUnit b us) (sym s ∙ h)))
+  pub units-second : {n : ℕ} → n ≡ unitCode us b → t ≡ false → n ≡ 5 → 17 ≡ knownOf us a b
+  unfolding knownOf unitCode
+  units-second y h e = rw (code-five (findUnit b us) (sym y ∙ e)) (sym (right-none us a b (findUnit a us) (sym s ∙ h)))
 
-    module _ {q : Physical} {n : ℕ} (z : q ≡ physicalAs (findUnit b us)) (w : n ≡ codeOf q) where
-      second : n ≡ codeOf (physicalAs (findUnit b us))
-      second = w ∙ ap codeOf z
+module _ (us : List NamedUnit) (a b : List ℕ) {m n : ℕ} (x : m ≡ unitCode us a) (y : n ≡ unitCode us b) where
+  pub units-fit : (m ≡ 5 → ⊥) → m ≡ n → 0 ≡ knownOf us a b
+  unfolding knownOf unitCode
+  units-fit g e = sym (both-same us a b (findUnit a us) (findUnit b us) (λ k. g (x ∙ k)) (sym x ∙ e ∙ y))
 
-      pub units-second : t ≡ false → n ≡ 5 → 17 ≡ knownOf us a b
-      unfolding knownOf
-      units-second h e = rw (code-five (findUnit b us) (sym second ∙ e)) (sym (right-none us a b (findUnit a us) (sym s ∙ h)))
+  pub units-differ : (m ≡ 5 → ⊥) → (n ≡ 5 → ⊥) → (m ≡ n → ⊥) → 16 ≡ knownOf us a b
+  unfolding knownOf unitCode
+  units-differ g h e =
+      sym (both-other us a b (findUnit a us) (findUnit b us) (λ k. g (x ∙ k)) (λ k. h (y ∙ k)) (λ k. e (x ∙ k ∙ sym y)))
 
-      pub units-fit : (m ≡ 5 → ⊥) → m ≡ n → 0 ≡ knownOf us a b
-      unfolding knownOf
-      units-fit g e = sym (both-same us a b (findUnit a us) (findUnit b us) (λ k. g (first ∙ k)) (sym first ∙ e ∙ second))
+-- ---- whether they fit
 
-      pub units-differ : (m ≡ 5 → ⊥) → (n ≡ 5 → ⊥) → (m ≡ n → ⊥) → 16 ≡ knownOf us a b
-      unfolding knownOf
-      units-differ g h e =
-          sym (both-other us a b (findUnit a us) (findUnit b us) (λ k. g (first ∙ k)) (λ k. h (second ∙ k)) (λ k. e (first ∙ k ∙ sym second)))
+trimmed-is : {f r : List ℕ} → TrimmedTo f r → keptIn r ≡ trimmedIn f
+unfolding trimmedIn
+trimmed-is {f} {r} t = kept-trimmed f r (t .is)
+
+pub fits-same : (us : List NamedUnit) (f g : List ℕ) {t : Bool} → t ≡ eqList f g → t ≡ true → true ≡ eqb (knownOf us (trimmedIn f) (trimmedIn g)) 0
+unfolding knownOf
+fits-same us f g s h = rw (eq-true f g (sym s ∙ h), twice us (trimmedIn g) (findUnit (trimmedIn g) us))
+
+module _ (us : List NamedUnit) {f g y x : List ℕ} (j : TrimmedTo f y) (i : TrimmedTo g x) {n : ℕ} (p : n ≡ unitCode us (keptIn y)) where
+  on-trimmed : {r : Bool} → r ≡ eqb (knownOf us (keptIn y) (keptIn x)) 0 → r ≡ eqb (knownOf us (trimmedIn f) (trimmedIn g)) 0
+  on-trimmed e = rw (trimmed-is j, trimmed-is i) at e
+
+  unknown : (r : Bool) → r ≡ eqList (keptIn y) (keptIn x) → n ≡ 5 → r ≡ eqb (knownOf us (keptIn y) (keptIn x)) 0
+  unknown true s e = rw (sym (units-same us (keptIn y) (keptIn x) s refl))
+  unknown false s e = rw (sym (units-first us (keptIn y) (keptIn x) s p refl e))
+
+  -- one that is not in the list fits itself alone
+  pub fits-unknown : {r : Bool} → r ≡ eqList (keptIn y) (keptIn x) → n ≡ 5 → r ≡ eqb (knownOf us (trimmedIn f) (trimmedIn g)) 0
+  fits-unknown {r} s e = on-trimmed (unknown r s e)
+
+  module _ {m : ℕ} (q : m ≡ unitCode us (keptIn x)) (h : n ≡ 5 → ⊥) where
+    others : (t u : Bool) → t ≡ eqList (keptIn y) (keptIn x) → u ≡ eqb m 5 → (n ≡ m → ⊥) → false ≡ eqb (knownOf us (keptIn y) (keptIn x)) 0
+    others true u s k e = absurd (e (p ∙ ap (unitCode us) (eq-true (keptIn y) (keptIn x) (sym s)) ∙ sym q))
+    others false true s k e = rw (sym (units-second us (keptIn y) (keptIn x) s q refl (eqb-true m 5 (sym k))))
+    others false false s k e = rw (sym (units-differ us (keptIn y) (keptIn x) p q h (λ z. no-truth (k ∙ eq-eqb m 5 z)) e))
+
+    known : (r : Bool) → r ≡ eqb n m → r ≡ eqb (knownOf us (keptIn y) (keptIn x)) 0
+    known true e = rw (sym (units-fit us (keptIn y) (keptIn x) p q h (eqb-true n m (sym e))))
+    known false e = others (eqList (keptIn y) (keptIn x)) (eqb m 5) refl refl (λ k. no-truth (e ∙ eq-eqb n m k))
+
+    -- one that is in the list fits those of its physical quantity
+    pub fits-known : {r : Bool} → r ≡ eqb n m → r ≡ eqb (knownOf us (trimmedIn f) (trimmedIn g)) 0
+    fits-known {r} e = on-trimmed (known r e)
 
 -- ---- the units of two quantities
 

@@ -2,6 +2,8 @@
 use components::ComponentView;
 use components::Modifiers;
 use parts::OptQuantity;
+use parts::OptText;
+use parts::Part;
 ghost use mathlib.Core.Path.{_≡_};
 ghost use mathlib.Core.Bool.{true};
 ghost use Rattle.rules.specs.Basic.{lf, isSome};
@@ -9,7 +11,7 @@ ghost use Rattle.rules.specs.Read.{parseLine};
 ghost use Rattle.rules.specs.Model.{ingredient};
 ghost use Rattle.rules.proofs.Fields.{Without};
 ghost use Rattle.model.specs.Fits.{isOfKind};
-ghost use Rattle.recall.specs.Recalls.{blankView, viewOf, viewInside, viewIn, Recalled, QuantityRecalled};
+ghost use Rattle.recall.specs.Recalls.{blankView, viewOf, viewInside, viewIn, Recalled, QuantityRecalled, UnitRecalled};
 
 // A view of nothing.
 fn blank_view() -> ComponentView
@@ -93,4 +95,33 @@ pub fn quantity_in(line: &[u8]) -> OptQuantity
         return OptQuantity::Absent;
     };
     quantity
+}
+
+// Where the unit of a quantity stands in its line.
+pub enum UnitPlace {
+    // There is no quantity.
+    NoQuantity,
+    // The quantity has no unit.
+    NoUnit,
+    // The unit's content, still escaped.
+    At(Part),
+}
+
+pub fn unit_in(line: &[u8]) -> UnitPlace
+    requires { ⌜ isOfKind ingredient (parseLine (now line)) ≡ true ⌝ }
+    ensures { λ r. ⌜ UnitRecalled (now (line .entry)) r ⌝ }
+{
+    match quantity_in(line) {
+        OptQuantity::Absent => UnitPlace::NoQuantity,
+        OptQuantity::Present(q) => {
+            let u = q.unit;
+            match u {
+                OptText::Absent => UnitPlace::NoUnit,
+                OptText::Present(v) => {
+                    let p = v.content;
+                    UnitPlace::At(p)
+                }
+            }
+        }
+    }
 }

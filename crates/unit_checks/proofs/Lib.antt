@@ -1,3 +1,4 @@
 pub mod Rows
+pub mod Fitting
 pub mod Units
 pub mod After

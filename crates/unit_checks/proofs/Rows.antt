@@ -120,6 +120,12 @@ module _ (k : Kind) {sheet : List ℕ} {r : Row} (f : Fits k sheet r) where
     unfolding entryOf entryWith componentIn
     old-amount by = entry-quantity k sheet r by ∙ ap (λ (c : Component). onSome (amountOf (isIngredient k)) (c .quantity)) old-is
 
+-- the quantity of its line
+module _ {sheet : List ℕ} {r : Row} (f : Fits ingredient sheet r) where
+  pub line-amount : (by : List ℕ) → entryAs ingredient sheet r by .quantity ≡ onSome (amountOf true) (componentOfLine ingredient (take (r .«line_end» - r .«line_at») (drop (r .«line_at») sheet)) .quantity)
+  unfolding entryOf entryWith isIngredient
+  line-amount by = entry-quantity ingredient sheet r by ∙ ap (λ (l : List ℕ). onSome (amountOf true) (componentOfLine ingredient l .quantity)) (sym (lent ingredient f))
+
 -- the quantity of its line alone
 module _ {sheet : List ℕ} {r : Row} (f : Fits ingredient sheet r) {b : OptQuantity} (q : QuantityRecalled (take (r .«line_end» - r .«line_at») (drop (r .«line_at») sheet)) b) where
   quantity-is : componentOfLine ingredient (slice (r .«line_at») (r .«line_end») sheet) .quantity ≡ optQuantityIn (take (r .«line_end» - r .«line_at») (drop (r .«line_at») sheet)) b
@@ -128,10 +134,6 @@ module _ {sheet : List ℕ} {r : Row} (f : Fits ingredient sheet r) {b : OptQuan
   pub quantity-source : (by : List ℕ) → entryAs ingredient sheet r by .source .quantity ≡ optQuantityIn (take (r .«line_end» - r .«line_at») (drop (r .«line_at») sheet)) b
   unfolding entryOf entryWith sourceOf
   quantity-source by = ap (λ (s : Source). s .quantity) (entry-source ingredient sheet r by) ∙ quantity-is
-
-  pub quantity-amount : (by : List ℕ) → entryAs ingredient sheet r by .quantity ≡ onSome (amountOf true) (optQuantityIn (take (r .«line_end» - r .«line_at») (drop (r .«line_at») sheet)) b)
-  unfolding entryOf entryWith isIngredient
-  quantity-amount by = entry-quantity ingredient sheet r by ∙ ap (onSome (amountOf true)) quantity-is
 
 -- ---- the row of a kind
 

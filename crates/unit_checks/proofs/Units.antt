@@ -6,7 +6,7 @@ use mathlib.Core.Option.{Option, none, some}
 use mathlib.Core.List.{List, [], _∷_, _++_, append-nil}
 use native.Mathlib.Omega.{arith}
 use lib.ListN.{length, take, drop}
-use Rattle.rules.specs.Basic.{onSome}
+use Rattle.rules.specs.Basic.{pick, onSome}
 use Rattle.rules.specs.Event as rules
 use Rattle.rules.specs.Read.{noModifiers}
 use Rattle.rules.specs.Units.{NamedUnit}
@@ -17,7 +17,8 @@ use Rattle.rules.specs.State.{tableOf}
 use Rattle.parts.specs.declared.OptQuantity.{OptQuantity}
 use Rattle.parts.specs.Views.{optQuantityIn}
 use Rattle.model.specs.Blank.{blankSpan}
-use Rattle.model.specs.Rows.{rowAt, rowOf, entryAs, relationIn, relationAs, referrersIn, referrersFrom}
+use Rattle.compatible.specs.Fitting.{trimmedIn}
+use Rattle.model.specs.Rows.{rowAt, rowOf, componentOfLine, entryAs, relationIn, relationAs, referrersIn, referrersFrom}
 use Rattle.model.specs.Memory.{windowsOf, stateIn, Sound}
 use Rattle.model.specs.Fits.{Fits, AllFit}
 use Rattle.model.specs.Contracts.{NextReferrer, NextAs}
@@ -37,8 +38,9 @@ use Rattle.checks.proofs.Frames.{Framed, framed-none, framed-seq, framed-count,
 use Rattle.checks.proofs.Laws.{none-found, said}
 use Rattle.lookup.specs.Names.{rowsIn, pairsIn, earlierIn, earlierAt}
 use Rattle.recall.specs.Recalls.{QuantityRecalled}
-use Rattle.unit_checks.specs.Checked.{QuantityOf, RowChecked, ReferrersChecked, UnitChecked}
-use Rattle.unit_checks.proofs.Rows.{entry-past, entry-there, earlier-row, row-fits, quantity-source, quantity-amount}
+use Rattle.unit_checks.specs.Checked.{QuantityOf, UnitKnown, fitsUnit, RowChecked, ReferrersChecked, UnitChecked}
+use Rattle.unit_checks.proofs.Rows.{entry-past, entry-there, earlier-row, row-fits, line-amount, quantity-source}
+use Rattle.unit_checks.proofs.Fitting.{finding-none}
 
 -- ---- one row
 
@@ -66,36 +68,48 @@ module _ (w : List ℕ) (i : ℕ) where
 pub row-none : {us : List NamedUnit} {sheet line : List ℕ} {a : OptQuantity} {i : ℕ} {w : List ℕ} {h : Held} → h .counts .ingredients ≤ i → RowChecked us sheet line a i w h w h
 row-none {us} {sheet} {i = i} {w = w} {h = h} l = record { is = λ new q. none-found (ap (unitAgainst us new) (entry-past ingredient sheet w h i l) ∙ (unfold unitAgainst in refl)) }
 
-module _ (i : ℕ) {sheet w₀ : List ℕ} {h₀ : Held} {r : Row} {b : OptQuantity} (f : AllFit sheet w₀ h₀) (l : i < h₀ .counts .ingredients) (e : r ≡ rowOf (rowAt 12 (take 6156 (drop 0 w₀)) i))
-    (q : QuantityRecalled (take (r .«line_end» - r .«line_at») (drop (r .«line_at») sheet)) b) where
+module _ (i : ℕ) {sheet w₀ : List ℕ} {h₀ : Held} {r : Row} (f : AllFit sheet w₀ h₀) (l : i < h₀ .counts .ingredients) (e : r ≡ rowOf (rowAt 12 (take 6156 (drop 0 w₀)) i)) where
   abbrev by : List ℕ
   by = referrersIn (pairsIn ingredient w₀) i (h₀ .counts .«ingredient_pairs»)
 
   row-entry : entryAt i (tableOf ingredient (stateIn sheet w₀ h₀)) ≡ some (entryAs ingredient sheet r by)
   row-entry = entry-there ingredient sheet w₀ h₀ i l ∙ ap (λ (x : Entry). some x) (earlier-row ingredient sheet w₀ h₀ i (row-window w₀ i e))
 
-  row-amount : entryAs ingredient sheet r by .quantity ≡ onSome (amountOf true) (optQuantityIn (take (r .«line_end» - r .«line_at») (drop (r .«line_at») sheet)) b)
-  row-amount = quantity-amount (window-fits w₀ i f l e) q by
+  -- one that fits draws nothing
+  row-pair : (us : List NamedUnit) (new : Entry) {line : List ℕ} {a : OptQuantity} → QuantityOf new ingredient line a
+      → unitAgainst us new (entryAt i (tableOf ingredient (stateIn sheet w₀ h₀)))
+      ≡ unitPair us new (onSome (amountOf true) (optQuantityIn line a)) (onSome (amountOf true) (componentOfLine ingredient (take (r .«line_end» - r .«line_at») (drop (r .«line_at») sheet)) .quantity)) (entryAs ingredient sheet r by)
+  row-pair us new {line} {a} n =
+      ap (unitAgainst us new) row-entry
+      ∙ against-some us new (entryAs ingredient sheet r by)
+      ∙ ap (λ (x : Option Amount). unitPair us new x (entryAs ingredient sheet r by .quantity) (entryAs ingredient sheet r by)) (amount-is n)
+      ∙ ap (λ (x : Option Amount). unitPair us new (onSome (amountOf true) (optQuantityIn line a)) x (entryAs ingredient sheet r by)) (line-amount (window-fits w₀ i f l e) by)
 
-  module _ (us : List NamedUnit) {line : List ℕ} {a : OptQuantity} where
-    same : (new : Entry) → QuantityOf new ingredient line a
+  pub row-fitting : {us vs : List NamedUnit} {line : List ℕ} {a : OptQuantity} {has : Bool} {g x : List ℕ} {m : ℕ} {t : Bool} → us ≡ vs → UnitKnown us line a has g x m
+      → t ≡ fitsUnit us (componentOfLine ingredient (take (r .«line_end» - r .«line_at») (drop (r .«line_at») sheet)) .quantity) (pick has (some (trimmedIn g)) none) → t ≡ true
+      → RowChecked vs sheet line a i w₀ h₀ w₀ h₀
+  row-fitting {us} {line = line} {a} ev k t z =
+      rw (← ev)
+      record {
+        is = λ new n. none-found (row-pair us new n ∙ finding-none us new (optQuantityIn line a) _ _ (λ q o. ap (fitsUnit us _) (k .is q o) ∙ sym t ∙ z));
+      }
+
+  module _ {b : OptQuantity} (q : QuantityRecalled (take (r .«line_end» - r .«line_at») (drop (r .«line_at») sheet)) b) where
+    same : (us : List NamedUnit) {line : List ℕ} {a : OptQuantity} (new : Entry) → QuantityOf new ingredient line a
         → unitAgainst us new (entryAt i (tableOf ingredient (stateIn sheet w₀ h₀)))
         ≡ unitPair us new (onSome (amountOf true) (optQuantityIn line a)) (onSome (amountOf true) (optQuantityIn (take (r .«line_end» - r .«line_at») (drop (r .«line_at») sheet)) b)) (entryAs ingredient sheet r by)
-    same new n =
-        ap (unitAgainst us new) row-entry
-        ∙ against-some us new (entryAs ingredient sheet r by)
-        ∙ ap (λ (x : Option Amount). unitPair us new x (entryAs ingredient sheet r by .quantity) (entryAs ingredient sheet r by)) (amount-is n)
-        ∙ ap (λ (x : Option Amount). unitPair us new (onSome (amountOf true) (optQuantityIn line a)) x (entryAs ingredient sheet r by)) row-amount
+    same us {line} {a} new n =
+        row-pair us new n ∙ ap (λ (x : Option rules.Quantity). unitPair us new (onSome (amountOf true) (optQuantityIn line a)) (onSome (amountOf true) x) (entryAs ingredient sheet r by)) (sym (q .is))
 
-  pub row-checked : {us : List NamedUnit} {line : List ℕ} {a : OptQuantity} {w : List ℕ} {h : Held}
-      → UnitsChecked us line a (take (r .«line_end» - r .«line_at») (drop (r .«line_at») sheet)) b w₀ h₀ w h → RowChecked us sheet line a i w₀ h₀ w h
-  row-checked {us} u =
-      record {
-        is =
-            λ new n.
-            said (same us new n)
-            (u .is true true new (entryAs ingredient sheet r by) (n .isSource) (quantity-source (window-fits w₀ i f l e) q by));
-      }
+    pub row-checked : {us : List NamedUnit} {line : List ℕ} {a : OptQuantity} {w : List ℕ} {h : Held}
+        → UnitsChecked us line a (take (r .«line_end» - r .«line_at») (drop (r .«line_at») sheet)) b w₀ h₀ w h → RowChecked us sheet line a i w₀ h₀ w h
+    row-checked {us} u =
+        record {
+          is =
+              λ new n.
+              said (same us new n)
+              (u .is true true new (entryAs ingredient sheet r by) (n .isSource) (quantity-source (window-fits w₀ i f l e) q by));
+        }
 
 -- ---- what it leaves, whatever the entry is
 

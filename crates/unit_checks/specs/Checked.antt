@@ -3,16 +3,22 @@ use Prim.Native.Nat.{ℕ, _<_}
 use mathlib.Core.Path.{_≡_}
 use mathlib.Core.List.{List, []}
 use mathlib.Core.Bool.{Bool, true, _&&_, not}
-use Rattle.rules.specs.Basic.{pick, onSome}
+use mathlib.Core.Option.{Option, none, some}
+use lib.Dec.{eqb}
+use Rattle.rules.specs.Basic.{pick, isSome, onSome}
 use Rattle.rules.specs.Units.{NamedUnit}
 use Rattle.rules.specs.Modes.{hasAdvancedUnits}
-use Rattle.rules.specs.Model.{Kind, ingredient, cookware, isIngredient, amountOf, sourceOf, Entry}
+use Rattle.rules.specs.Event.{Text, Quantity}
+use Rattle.rules.specs.Model.{Kind, ingredient, cookware, isIngredient, trimmedText, amountOf, sourceOf, Entry}
 use Rattle.rules.specs.Reference.{entryAt}
-use Rattle.rules.specs.Checks.{isDefinedInStep, unitAgainst, unitsAgainst, unitCheck, referenceChecks}
+use Rattle.rules.specs.Checks.{isDefinedInStep, compatibleUnit, unitAgainst, unitsAgainst, unitCheck, referenceChecks}
 use Rattle.rules.specs.Components.{checksAfter}
 use Rattle.rules.specs.State.{tableOf}
+use Rattle.content.specs.Contents.{keptIn}
+use Rattle.text.specs.Trims.{TrimmedTo}
+use Rattle.compatible.specs.Fitting.{unitCode, trimmedIn}
 use Rattle.parts.specs.declared.OptQuantity.{OptQuantity}
-use Rattle.parts.specs.Views.{optQuantityIn}
+use Rattle.parts.specs.Views.{optQuantityIn, OptQuantityWithin}
 use Rattle.components.specs.declared.ComponentView.{ComponentView}
 use Rattle.components.specs.Views.{componentIn}
 use Rattle.model.specs.Rows.{referrersFrom, relationIn}
@@ -42,6 +48,24 @@ pub record SameBelow (k : Kind) (h : Held) (to : Same) : Type 0 where
 pub record QuantityOf (new : Entry) (k : Kind) (line : List ℕ) (a : OptQuantity) : Type 0 where
   pub isSource : new .source .quantity ≡ optQuantityIn line a
   pub isAmount : new .quantity ≡ onSome (amountOf (isIngredient k)) (optQuantityIn line a)
+
+-- whether a quantity has a unit, and its field in the line
+pub record HasUnit (a : OptQuantity) (r : Bool) : Type 0 where
+  pub is : (line : List ℕ) (q : Quantity) → optQuantityIn line a ≡ some q → isSome (q .unit) ≡ r
+
+pub record UnitField (line : List ℕ) (a : OptQuantity) (f : List ℕ) : Type 0 where
+  pub is : OptQuantityWithin line a → (q : Quantity) (t : Text) → optQuantityIn line a ≡ some q → q .unit ≡ some t → trimmedText t ≡ trimmedIn f
+
+-- what a new unit is compared by: whether there is one, its field, that trimmed, and the number of its physical quantity
+pub record UnitKnown (us : List NamedUnit) (line : List ℕ) (a : OptQuantity) (has : Bool) (f x : List ℕ) (m : ℕ) : Type 0 where
+  pub is : (q : Quantity) → optQuantityIn line a ≡ some q → onSome trimmedText (q .unit) ≡ pick has (some (trimmedIn f)) none
+  pub trimmed : TrimmedTo f x
+  pub code : m ≡ unitCode us (keptIn x)
+
+-- whether a quantity, where there is one, draws nothing beside a unit, or none
+unfoldable pub fitsUnit : List NamedUnit → Option Quantity → Option (List ℕ) → Bool
+fitsUnit us none b = true
+fitsUnit us (some q) b = eqb (compatibleUnit us (onSome trimmedText (q .unit)) b) 0
 
 -- whatever else the new entry is: its unit against that of the row i, where there is one
 pub record RowChecked (us : List NamedUnit) (sheet line : List ℕ) (a : OptQuantity) (i : ℕ) (w₀ : List ℕ) (h₀ : Held) (w : List ℕ) (h : Held) : Type 0 where

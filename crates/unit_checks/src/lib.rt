@@ -7,22 +7,32 @@ use model::Relation;
 use model::RelationRecord;
 use model::Row;
 use parts::OptQuantity;
+use parts::OptText;
+use recall::UnitPlace;
 ghost use mathlib.Core.Path.{_≡_};
 ghost use mathlib.Core.Bool.{true};
+ghost use mathlib.Core.Option.{none, some};
 ghost use Prim.Native.Nat.{_+_, _<_, _≤_};
 ghost use lib.ListN.{length};
+ghost use Rattle.rules.specs.Basic.{pick};
+ghost use Rattle.rules.specs.Read.{parseLine};
+ghost use Rattle.rules.specs.Model.{ingredient};
 ghost use Rattle.rules.specs.Units.{readUnits};
 ghost use Rattle.rules.specs.Answer.{unitsOr};
 ghost use Rattle.unit_index.specs.Index.{Indexed};
 ghost use Rattle.unicode.specs.Tables.{unicodeTables};
+ghost use Rattle.content.specs.Contents.{keptIn};
+ghost use Rattle.text.specs.Trims.{TrimmedTo};
+ghost use Rattle.units.specs.Lists.{unitsFrom};
+ghost use Rattle.compatible.specs.Fitting.{unitCode, trimmedIn};
 ghost use Rattle.parts.specs.Views.{OptQuantityWithin};
 ghost use Rattle.components.specs.Views.{ComponentWithin};
-ghost use Rattle.model.specs.Rows.{rowAt, rowOf};
+ghost use Rattle.model.specs.Rows.{rowAt, rowOf, componentOfLine};
 ghost use Rattle.model.specs.Memory.{Sound};
-ghost use Rattle.model.specs.Fits.{AllFit};
+ghost use Rattle.model.specs.Fits.{isOfKind, AllFit};
 ghost use Rattle.memory.specs.Pushes.{countOf};
 ghost use Rattle.lookup.specs.Names.{kindOf, rowsIn};
-ghost use Rattle.unit_checks.specs.Checked.{roomOf, InStep, SameBelow, RowChecked, ReferrersChecked, UnitChecked, UnitsAfter, EntryChecked, ChecksDone};
+ghost use Rattle.unit_checks.specs.Checked.{roomOf, InStep, SameBelow, HasUnit, UnitField, UnitKnown, fitsUnit, RowChecked, ReferrersChecked, UnitChecked, UnitsAfter, EntryChecked, ChecksDone};
 
 // ---- rows
 
@@ -49,6 +59,64 @@ fn in_step(r: RelationRecord) -> bool
 
 // ---- units
 
+fn has_unit(a: OptQuantity) -> bool
+    ensures { λ r. ⌜ HasUnit a r ⌝ }
+{
+    match a {
+        OptQuantity::Absent => false,
+        OptQuantity::Present(q) => {
+            let u = q.unit;
+            match u {
+                OptText::Absent => false,
+                OptText::Present(v) => true,
+            }
+        }
+    }
+}
+
+// The field of a quantity's unit in its line; nothing where there is none.
+fn unit_field<'a>(line: &'a [u8], a: OptQuantity) -> &'a [u8]
+    ensures { λ r. ⌜ UnitField (now (line .entry)) a (now r) ⌝ }
+{
+    match a {
+        OptQuantity::Absent => &line[0..0],
+        OptQuantity::Present(q) => {
+            let u = q.unit;
+            match u {
+                OptText::Absent => &line[0..0],
+                OptText::Present(v) => parts::part_of(line, v.content),
+            }
+        }
+    }
+}
+
+// Whether the quantity of an earlier ingredient's line draws nothing beside the unit of the field `f`, or beside none: `x` is
+// `f` trimmed, and m the number of its physical quantity.
+fn unit_fits(
+    t: &[u32],
+    units: &[u8],
+    index: &[u32],
+    old: &[u8],
+    has: bool,
+    f: &[u8],
+    x: &[u8],
+    m: u32,
+) -> bool
+    requires { ⌜ (now t ≡ unicodeTables) × Indexed (now units) (now index) × (isOfKind ingredient (parseLine (now old)) ≡ true) × TrimmedTo (now f) (now x) × (m ≡ unitCode (unitsFrom (now units) 0) (keptIn (now x))) ⌝ }
+    ensures { λ r. ⌜ r ≡ fitsUnit (unitsFrom (now (units .entry)) 0) (componentOfLine ingredient (now (old .entry)) .quantity) (pick has (some (trimmedIn (now (f .entry)))) none) ⌝ }
+{
+    match recall::unit_in(old) {
+        UnitPlace::NoQuantity => true,
+        UnitPlace::NoUnit => !has,
+        UnitPlace::At(p) => {
+            if has {
+                return compatible::fits_unit(t, units, index, parts::part_of(old, p), f, x, m);
+            }
+            false
+        }
+    }
+}
+
 // The unit of a new ingredient's quantity `a`, of its line, against that of the row i; nothing where there is no such row.
 fn unit_against(
     t: &[u32],
@@ -59,9 +127,13 @@ fn unit_against(
     sheet: &[u8],
     line: &[u8],
     a: OptQuantity,
+    has: bool,
+    f: &[u8],
+    x: &[u8],
+    m: u32,
     i: usize,
 ) -> Held
-    requires { ⌜ (now t ≡ unicodeTables) × Indexed (now units) (now index) × OptQuantityWithin (now line) a × Sound (now words) h × AllFit (now sheet) (now words) h × (h .counts .findings < 1544) ⌝ }
+    requires { ⌜ (now t ≡ unicodeTables) × Indexed (now units) (now index) × OptQuantityWithin (now line) a × UnitKnown (unitsFrom (now units) 0) (now line) a has (now f) (now x) m × Sound (now words) h × AllFit (now sheet) (now words) h × (h .counts .findings < 1544) ⌝ }
     ensures { λ r. ⌜ RowChecked (unitsOr (readUnits (now (units .entry)))) (now (sheet .entry)) (now (line .entry)) a i (now (words .entry)) h (now (words .exit)) r ⌝ }
 {
     let n = h.counts.ingredients;
@@ -71,6 +143,9 @@ fn unit_against(
     let r = model::row_at(&words[0..6156], i);
     let at = r.line_at as usize;
     let end = r.line_end as usize;
+    if unit_fits(t, units, index, &sheet[at..end], has, f, x, m) {
+        return h;
+    }
     let b = recall::quantity_in(&sheet[at..end]);
     checks::unit_pair(t, units, index, words, h, line, a, &sheet[at..end], b)
 }
@@ -85,9 +160,13 @@ fn referrer_check(
     sheet: &[u8],
     line: &[u8],
     a: OptQuantity,
+    has: bool,
+    f: &[u8],
+    x: &[u8],
+    m: u32,
     d: usize,
 ) -> Held
-    requires { ⌜ (now t ≡ unicodeTables) × Indexed (now units) (now index) × OptQuantityWithin (now line) a × Sound (now words) h × AllFit (now sheet) (now words) h × (d < h .counts .ingredients) × (h .counts .findings + h .counts .«ingredient_pairs» ≤ 1544) ⌝ }
+    requires { ⌜ (now t ≡ unicodeTables) × Indexed (now units) (now index) × OptQuantityWithin (now line) a × UnitKnown (unitsFrom (now units) 0) (now line) a has (now f) (now x) m × Sound (now words) h × AllFit (now sheet) (now words) h × (d < h .counts .ingredients) × (h .counts .findings + h .counts .«ingredient_pairs» ≤ 1544) ⌝ }
     ensures { λ r. ⌜ ReferrersChecked (unitsOr (readUnits (now (units .entry)))) (now (sheet .entry)) (now (line .entry)) a d (now (words .entry)) h (now (words .exit)) r ⌝ }
 {
     let n = h.counts.ingredient_pairs;
@@ -103,7 +182,21 @@ fn referrer_check(
         ) else {
             return k;
         };
-        k = unit_against(t, units, index, words, k, sheet, line, a, i as usize);
+        k = unit_against(
+            t,
+            units,
+            index,
+            words,
+            k,
+            sheet,
+            line,
+            a,
+            has,
+            f,
+            x,
+            m,
+            i as usize,
+        );
         from = next;
     }
     k
@@ -127,10 +220,28 @@ fn unit_check(
     let r = model::row_at(&words[0..6156], d);
     let g = r.relation;
     let e = g.relation;
-    let k = unit_against(t, units, index, words, h, sheet, line, a, d);
+    let has = has_unit(a);
+    let f = unit_field(line, a);
+    let x = text::text_outer_trimmed(t, f);
+    let m = compatible::unit_code(units, index, x);
+    let k = unit_against(t, units, index, words, h, sheet, line, a, has, f, x, m, d);
     match e {
-        Relation::Definition => referrer_check(t, units, index, words, k, sheet, line, a, d),
-        Relation::Reference(x) => k,
+        Relation::Definition => referrer_check(
+            t,
+            units,
+            index,
+            words,
+            k,
+            sheet,
+            line,
+            a,
+            has,
+            f,
+            x,
+            m,
+            d,
+        ),
+        Relation::Reference(y) => k,
     }
 }
 

@@ -12,72 +12,72 @@ use Rattle.model.proofs.next_referrer.Reads as next-referrer-reads
 use Rattle.unit_checks.proofs.unit_against.Reads as unit-against-reads
 
 abbrev Inv-loop : tie.InvT-loop
-Inv-loop t units index words₀ sheet line a d n definition k₀ from₀ words k from = Going (unitsOr (readUnits units)) sheet line a d words₀ k₀ words k from
+Inv-loop t units index words₀ sheet line a has f x m d n definition k₀ from₀ words k from = Going (unitsOr (readUnits units)) sheet line a d words₀ k₀ words k from
 
 abbrev μ-loop : tie.MeasureT-loop
-μ-loop t units index words₀ sheet line a d n definition k₀ from₀ words k from = n - from
+μ-loop t units index words₀ sheet line a has f x m d n definition k₀ from₀ words k from = n - from
 
--- src/lib.rt:93:22
+-- src/lib.rt:173:22
 cast-definition : tie.Need-cast-definition Inv-loop μ-loop
-cast-definition c = omega (arith, c .before .before .before .before .before .before .pre .5, c .before .before .before .before .before .before .pre .3 .room .ingredients)
+cast-definition c = omega (arith, c .before .before .before .before .before .before .before .before .pre .6, c .before .before .before .before .before .before .before .before .pre .4 .room .ingredients)
 
--- src/lib.rt:96:5
+-- src/lib.rt:176:5
 loop-holds : tie.Need-loop-holds Inv-loop μ-loop
-loop-holds c = going-start (c .before .before .before .before .before .before .pre .3) (c .before .before .before .before .before .before .pre .4) (c .before .before .before .before .before .before .pre .6)
+loop-holds c = going-start (c .before .before .before .before .before .before .before .before .pre .4) (c .before .before .before .before .before .before .before .before .pre .5) (c .before .before .before .before .before .before .before .before .pre .7)
 
--- src/lib.rt:98:34
+-- src/lib.rt:178:13
 sub-next-referrer : tie.Need-sub-next-referrer Inv-loop μ-loop
 sub-next-referrer c = omega (arith, c .before .loop .inv .sound .long)
 
--- src/lib.rt:98:34
+-- src/lib.rt:178:13
 part-next-referrer-start : tie.Need-part-next-referrer-start Inv-loop μ-loop
 part-next-referrer-start c = omega (arith, c .before .before .loop .inv .sound .long)
 
--- src/lib.rt:98:34
+-- src/lib.rt:178:13
 part-next-referrer-end : tie.Need-part-next-referrer-end Inv-loop μ-loop
 part-next-referrer-end c = omega (arith, c .before .before .loop .inv .sound .long)
 
--- src/lib.rt:98:13
+-- src/lib.rt:177:46
 next-referrer-requires : tie.Need-next-referrer-requires Inv-loop μ-loop
-next-referrer-requires c κs = going-ready (c .before .before .before .loop .inv) (c .before .before .before .before .before .before .before .before .before .before .pre .3)
+next-referrer-requires c κs = going-ready (c .before .before .before .loop .inv) (c .before .before .before .before .before .before .before .before .before .before .before .before .pre .4)
 
--- src/lib.rt:97:35
+-- src/lib.rt:177:35
 enum-known-i : tie.Need-enum-known-i Inv-loop μ-loop
 enum-known-i c = search needs
 
--- src/lib.rt:100:13
+-- src/lib.rt:183:13
 enum-told : tie.Need-enum-told Inv-loop μ-loop
 enum-told c = search needs
 
--- src/lib.rt:100:13
+-- src/lib.rt:183:13
 same-length : tie.Need-same-length Inv-loop μ-loop
 same-length c = omega (arith, c .before .before .before .before .before .before .loop .inv .framed .long)
 
--- src/lib.rt:100:13
+-- src/lib.rt:183:13
 returns : tie.Need-returns Inv-loop μ-loop
 returns c = going-end (c .before .before .before .before .before .before .loop .inv) (c .before .before .next-referrer .ensures) (c .enum-told .given .1)
 
--- src/lib.rt:102:62
+-- src/lib.rt:198:13
 cast-unit-against : tie.Need-cast-unit-against Inv-loop μ-loop
 cast-unit-against c = search needs
 
--- src/lib.rt:102:9
+-- src/lib.rt:185:9
 unit-against-requires : tie.Need-unit-against-requires Inv-loop μ-loop
-unit-against-requires c κs = (c .before .before .before .before .before .before .before .before .before .before .before .before .before .before .before .pre .0, c .before .before .before .before .before .before .before .before .before .before .before .before .before .before .before .pre .1, c .before .before .before .before .before .before .before .before .before .before .before .before .before .before .before .pre .2, c .before .before .before .before .before .before .before .before .loop .inv .sound, c .before .before .before .before .before .before .before .before .loop .inv .fit, going-room (c .before .before .before .before .before .before .before .before .loop .inv) (c .before .before .before .before .before .before .before .loop-test .taken))
+unit-against-requires c κs = (c .before .before .before .before .before .before .before .before .before .before .before .before .before .before .before .before .before .pre .0, c .before .before .before .before .before .before .before .before .before .before .before .before .before .before .before .before .before .pre .1, c .before .before .before .before .before .before .before .before .before .before .before .before .before .before .before .before .before .pre .2, c .before .before .before .before .before .before .before .before .before .before .before .before .before .before .before .before .before .pre .3, c .before .before .before .before .before .before .before .before .loop .inv .sound, c .before .before .before .before .before .before .before .before .loop .inv .fit, going-room (c .before .before .before .before .before .before .before .before .loop .inv) (c .before .before .before .before .before .before .before .loop-test .taken))
 
--- src/lib.rt:96:5
+-- src/lib.rt:176:5
 loop-less : tie.Need-loop-less Inv-loop μ-loop
 loop-less c = omega (arith, going-less (c .before .before .before .before .before .before .before .before .before .before .before .loop .inv) (c .before .before .before .before .before .before .before .next-referrer .ensures) _ _ (c .before .before .before .before .before .i .given .1), c .before .before .before .before .before .before .before .before .before .before .loop-test .taken)
 
--- src/lib.rt:96:5
+-- src/lib.rt:176:5
 loop-again : tie.Need-loop-again Inv-loop μ-loop
 loop-again c = going-turn (c .before .before .before .before .before .before .before .before .before .before .before .loop .inv) (c .before .before .before .before .before .before .before .next-referrer .ensures) _ _ (c .before .before .before .before .before .i .given .1) (c .before .before .before .before .before .before .before .before .before .before .loop-test .taken) (c .before .before .unit-against .ensures)
 
--- src/lib.rt:79:1
+-- src/lib.rt:154:1
 same-length-2 : tie.Need-same-length-2 Inv-loop μ-loop
 same-length-2 c = omega (arith, c .before .loop .inv .framed .long)
 
--- src/lib.rt:79:1
+-- src/lib.rt:154:1
 returns-2 : tie.Need-returns-2 Inv-loop μ-loop
 returns-2 c = going-past (c .before .loop .inv) (c .loop-test .left)
 

@@ -1,61 +1,82 @@
 use borrow.Author.Needs.{needs}
 use native.Mathlib.Omega.{arith}
+use Rattle.unit_checks.proofs.Fitting.{unit-known}
 use Rattle.unit_checks.proofs.Units.{row-sound, row-fit, row-below, row-left, check-reference, check-definition}
 use Rattle.unit_checks.proofs.unit_check.Statement.{statement}
 use Rattle.unit_checks.proofs.unit_check.Tie as tie
 use Rattle.unit_checks.proofs.unit_check.Reads as reads
 use Rattle.unit_checks.proofs.unit_check.Lts as lts
+use Rattle.compatible.proofs.unit_code.Reads as unit-code-reads
 use Rattle.model.proofs.row_at.Reads as row-at-reads
+use Rattle.text.proofs.text_outer_trimmed.Reads as text-outer-trimmed-reads
+use Rattle.unit_checks.proofs.has_unit.Reads as has-unit-reads
 use Rattle.unit_checks.proofs.referrer_check.Reads as referrer-check-reads
 use Rattle.unit_checks.proofs.unit_against.Reads as unit-against-reads
+use Rattle.unit_checks.proofs.unit_field.Reads as unit-field-reads
 
--- src/lib.rt:122:27
+-- src/lib.rt:220:27
 sub-row-at : tie.Need-sub-row-at
 sub-row-at c = search needs
 
--- src/lib.rt:122:27
+-- src/lib.rt:220:27
 part-row-at-start : tie.Need-part-row-at-start
 part-row-at-start c = search needs
 
--- src/lib.rt:122:27
+-- src/lib.rt:220:27
 part-row-at-end : tie.Need-part-row-at-end
 part-row-at-end c = search needs
 
--- src/lib.rt:122:9
+-- src/lib.rt:220:9
 row-at-requires : tie.Need-row-at-requires
 row-at-requires c κs = search needs
 
--- src/lib.rt:125:9
-unit-against-requires : tie.Need-unit-against-requires
-unit-against-requires c κs = search needs
+-- src/lib.rt:223:9
+has-unit-requires : tie.Need-has-unit-requires
+has-unit-requires c κs = search needs
 
--- src/lib.rt:127:58
+-- src/lib.rt:224:9
+unit-field-requires : tie.Need-unit-field-requires
+unit-field-requires c κs = search needs
+
+-- src/lib.rt:225:9
+text-outer-trimmed-requires : tie.Need-text-outer-trimmed-requires
+text-outer-trimmed-requires c κs = search needs
+
+-- src/lib.rt:226:9
+unit-code-requires : tie.Need-unit-code-requires
+unit-code-requires c κs = search needs
+
+-- src/lib.rt:227:9
+unit-against-requires : tie.Need-unit-against-requires
+unit-against-requires c κs = (c .before .before .before .before .before .before .before .before .before .before .before .before .before .before .before .pre .0, c .before .before .before .before .before .before .before .before .before .before .before .before .before .before .before .pre .1, c .before .before .before .before .before .before .before .before .before .before .before .before .before .before .before .pre .2, unit-known (c .before .before .before .before .before .before .before .before .before .before .before .before .before .before .before .pre .2) (c .before .before .before .before .has-unit .ensures) (c .before .before .before .unit-field .ensures) (c .before .before .text-outer-trimmed .ensures) (c .before .unit-code .ensures), c .before .before .before .before .before .before .before .before .before .before .before .before .before .before .before .pre .3, c .before .before .before .before .before .before .before .before .before .before .before .before .before .before .before .pre .4, omega (arith, c .before .before .before .before .before .before .before .before .before .before .before .before .before .before .before .pre .6))
+
+-- src/lib.rt:233:13
 enum-told : tie.Need-enum-told
 enum-told c = search needs
 
--- src/lib.rt:127:33
+-- src/lib.rt:229:33
 referrer-check-requires : tie.Need-referrer-check-requires
-referrer-check-requires c κs = (c .before .before .before .before .before .before .before .before .before .before .before .before .before .before .before .before .before .pre .0, c .before .before .before .before .before .before .before .before .before .before .before .before .before .before .before .before .before .pre .1, c .before .before .before .before .before .before .before .before .before .before .before .before .before .before .before .before .before .pre .2, row-sound (c .before .before .before .before .before .unit-against .ensures) (c .before .before .before .before .before .before .before .before .before .before .before .before .before .before .before .before .before .pre .3), row-fit (c .before .before .before .before .before .unit-against .ensures) (c .before .before .before .before .before .before .before .before .before .before .before .before .before .before .before .before .before .pre .4), row-below (c .before .before .before .before .before .unit-against .ensures) (c .before .before .before .before .before .before .before .before .before .before .before .before .before .before .before .before .before .pre .5), row-left (c .before .before .before .before .before .unit-against .ensures) (c .before .before .before .before .before .before .before .before .before .before .before .before .before .before .before .before .before .pre .6))
+referrer-check-requires c κs = (c .before .before .before .before .before .before .before .before .before .before .before .before .before .before .before .before .before .before .before .before .before .pre .0, c .before .before .before .before .before .before .before .before .before .before .before .before .before .before .before .before .before .before .before .before .before .pre .1, c .before .before .before .before .before .before .before .before .before .before .before .before .before .before .before .before .before .before .before .before .before .pre .2, unit-known (c .before .before .before .before .before .before .before .before .before .before .before .before .before .before .before .before .before .before .before .before .before .pre .2) (c .before .before .before .before .before .before .before .before .before .before .has-unit .ensures) (c .before .before .before .before .before .before .before .before .before .unit-field .ensures) (c .before .before .before .before .before .before .before .before .text-outer-trimmed .ensures) (c .before .before .before .before .before .before .before .unit-code .ensures), row-sound (c .before .before .before .before .before .unit-against .ensures) (c .before .before .before .before .before .before .before .before .before .before .before .before .before .before .before .before .before .before .before .before .before .pre .3), row-fit (c .before .before .before .before .before .unit-against .ensures) (c .before .before .before .before .before .before .before .before .before .before .before .before .before .before .before .before .before .before .before .before .before .pre .4), row-below (c .before .before .before .before .before .unit-against .ensures) (c .before .before .before .before .before .before .before .before .before .before .before .before .before .before .before .before .before .before .before .before .before .pre .5), row-left (c .before .before .before .before .before .unit-against .ensures) (c .before .before .before .before .before .before .before .before .before .before .before .before .before .before .before .before .before .before .before .before .before .pre .6))
 
--- src/lib.rt:128:29
+-- src/lib.rt:244:29
 enum-known-e : tie.Need-enum-known-e
 enum-known-e c = search needs
 
--- src/lib.rt:109:1
+-- src/lib.rt:206:1
 same-length : tie.Need-same-length
 same-length c = search needs
 
--- src/lib.rt:109:1
+-- src/lib.rt:206:1
 returns : tie.Need-returns
-returns c = check-definition (c .before .before .before .before .before .before .before .before .before .before .before .row-at .ensures) (c .before .before .before .before .before .before .before .before .unit-against .ensures) (c .before .before .before .before .enum-told .given .1) (c .before .before .referrer-check .ensures)
+returns c = check-definition (c .before .before .before .before .before .before .before .before .before .before .before .before .before .before .before .row-at .ensures) (c .before .before .before .before .before .before .before .before .unit-against .ensures) (c .before .before .before .before .enum-told .given .1) (c .before .before .referrer-check .ensures)
 
--- src/lib.rt:109:1
+-- src/lib.rt:206:1
 same-length-2 : tie.Need-same-length-2
 same-length-2 c = search needs
 
--- src/lib.rt:109:1
+-- src/lib.rt:206:1
 returns-2 : tie.Need-returns-2
-returns-2 c = check-reference (c .before .before .before .before .before .before .before .before .row-at .ensures) (c .before .before .before .before .before .unit-against .ensures) _ (c .before .e .given .1)
+returns-2 c = check-reference (c .before .before .before .before .before .before .before .before .before .before .before .before .row-at .ensures) (c .before .before .before .before .before .unit-against .ensures) _ (c .before .e .given .1)
 
 pub unit-check-spec : {M : Type 1} → statement M
 unit-check-spec =
@@ -65,6 +86,10 @@ unit-check-spec =
     part-row-at-start
     part-row-at-end
     row-at-requires
+    has-unit-requires
+    unit-field-requires
+    text-outer-trimmed-requires
+    unit-code-requires
     unit-against-requires
     enum-told
     referrer-check-requires
