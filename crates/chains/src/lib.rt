@@ -25,9 +25,15 @@ pub fn hash_kept(f: &[u8]) -> usize
     let mut h = 0;
     let mut i = 0;
     while i < f.len() {
-        let c = content::kept_char(f, i);
-        h = mixed(h, c.code);
-        i += c.size;
+        let a = f[i];
+        if content::is_plain(a) {
+            h = mixed(h, a as u32);
+            i += 1;
+        } else {
+            let c = content::kept_char(f, i);
+            h = mixed(h, c.code);
+            i += c.size;
+        }
     }
     h
 }
@@ -39,9 +45,15 @@ pub fn hash_content(f: &[u8]) -> usize
     let mut h = 0;
     let mut i = 0;
     while i < f.len() {
-        let c = content::char_in(f, i);
-        h = mixed(h, c.code);
-        i += c.size;
+        let a = f[i];
+        if content::is_plain(a) {
+            h = mixed(h, a as u32);
+            i += 1;
+        } else {
+            let c = content::char_in(f, i);
+            h = mixed(h, c.code);
+            i += c.size;
+        }
     }
     h
 }
@@ -53,9 +65,15 @@ pub fn hash_chars(s: &[u8]) -> usize
     let mut h = 0;
     let mut i = 0;
     while i < s.len() {
-        let c = utf8::char_at(s, i);
-        h = mixed(h, c.code);
-        i += c.size;
+        let a = s[i];
+        if a < 0x80 {
+            h = mixed(h, a as u32);
+            i += 1;
+        } else {
+            let c = utf8::char_at(s, i);
+            h = mixed(h, c.code);
+            i += c.size;
+        }
     }
     h
 }

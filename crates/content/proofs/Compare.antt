@@ -1,23 +1,25 @@
 -- Comparing two texts character by character; r is the answer on the whole.
 use Prim.Native.Nat.{ℕ, _+_, _≤_, _<_}
-use mathlib.Core.Path.{_≡_, refl, _∙_}
+use mathlib.Core.Path.{_≡_, refl, sym, ap, _∙_}
 use mathlib.Core.List.{List, [], _∷_}
-use mathlib.Core.Bool.{Bool, true, false}
-use lib.Dec.{leb}
-use lib.ListN.{length, drop, drop-of-length-le}
-use borrow.Author.Tests.{eq-eqb, ne-eqb, le-leb, lt-leb}
+use mathlib.Core.Bool.{Bool, true, false, not, _&&_}
+use lib.Dec.{eqb, ltb, leb}
+use lib.ListN.{length, getD, drop, drop-of-length-le}
+use borrow.Author.Tests.{eq-eqb, ne-eqb, le-leb, lt-leb, eqb-true, eqb-false, ltb-true, not-true}
 use native.Mathlib.Omega.{arith}
 use Rattle.rules.specs.Basic.{eqList}
 use Rattle.rules.specs.Utf8.{charsFrom, chars}
-use Rattle.rules.proofs.Basics.{by-order}
+use Rattle.rules.proofs.Basics.{by-order, and-left, and-right}
+use Rattle.rules.proofs.SameChars.{eq-itself, eq-true}
 use Rattle.utf8.specs.declared.Char.{Char}
 use Rattle.utf8.specs.Reading.{charOf}
+use Rattle.utf8.proofs.Turns.{ascii-char}
 use Rattle.utf8.proofs.Steps.{char-step}
 use Rattle.content.specs.Contents.{contentIn, keptIn}
-use Rattle.content.specs.Readings.{charIn}
-use Rattle.content.proofs.Chars.{content-step, content-none}
+use Rattle.content.specs.Readings.{charIn, plainByte, samePlain}
+use Rattle.content.proofs.Chars.{content-step, content-none, in-ascii}
 use Rattle.content.specs.Kept.{KeptStep}
-use Rattle.content.proofs.Kept.{kept-none, kept-some}
+use Rattle.content.proofs.Kept.{kept-ascii, kept-none, kept-some}
 
 module _ {xs ys : List ℕ} {r : Bool} (v : eqList xs ys ≡ r) where
   pub eq-on : {x y : ℕ} {xs′ ys′ : List ℕ} → xs ≡ x ∷ xs′ → ys ≡ y ∷ ys′ → x ≡ y → eqList xs′ ys′ ≡ r
@@ -71,6 +73,54 @@ module _ {g h : List ℕ → List ℕ} {f w : List ℕ} {i j : ℕ} (v : Compari
 
     pub compare-differ : (x ≡ y → ⊥) → false ≡ eqList (g f) (h w)
     compare-differ q = eq-differ (v .is) (a .reads) (b .reads) q
+
+-- the same bytes are read the same
+pub same-reading : (g : List ℕ → List ℕ) (f w : List ℕ) {t : Bool} → t ≡ eqList f w → t ≡ true → true ≡ eqList (g f) (g w)
+same-reading g f w e q = let k : f ≡ w = eq-true f w (sym e ∙ q) in rw k (sym (eq-itself (g w)))
+
+-- ---- a plain byte
+
+record Plain (b : ℕ) : Type 0 where
+  low : b < 128
+  bare : b ≡ 92 → ⊥
+  solid : b ≡ 32 → ⊥
+
+plain : (b : ℕ) → plainByte b ≡ true → Plain b
+unfolding plainByte
+plain b t =
+    let l = and-left (ltb b 128 && not (eqb b 92)) _ t in
+    record {
+      low = ltb-true b 128 (and-left (ltb b 128) _ l);
+      bare = eqb-false b 92 (not-true (eqb b 92) (and-right (ltb b 128) _ l));
+      solid = eqb-false b 32 (not-true (eqb b 32) (and-right (ltb b 128 && not (eqb b 92)) _ t));
+    }
+
+pub plain-low : (b : ℕ) {t : Bool} → t ≡ plainByte b → t ≡ true → b < 128
+plain-low b e q = plain b (sym e ∙ q) .low
+
+module _ {f : List ℕ} {i x : ℕ} (h : i < length f) (e : x ≡ getD f i 0) where
+  pub ascii-chars : getD f i 0 < 128 → Stepped chars f i x 1
+  ascii-chars l = chars-step h (ascii-char f i h x e l)
+
+  module _ (t : plainByte (getD f i 0) ≡ true) where
+    pub plain-chars : Stepped chars f i x 1
+    plain-chars = ascii-chars (plain (getD f i 0) t .low)
+
+    pub plain-content : Stepped contentIn f i x 1
+    plain-content = let p = plain (getD f i 0) t in content-on h (in-ascii f i h e (p .low) (p .bare))
+
+    pub plain-kept : Stepped keptIn f i x 1
+    plain-kept = let p = plain (getD f i 0) t in kept-step (kept-ascii f i h e (p .low) (p .bare) (p .solid))
+
+-- the same plain byte in both
+module _ {g h : List ℕ → List ℕ} {f w : List ℕ} {i j : ℕ} (v : Comparing g h f w i j) {t : Bool} (e : t ≡ samePlain (getD f i 0) (getD w j 0)) (q : t ≡ true) where
+  pub plain-on : (plainByte (getD f i 0) ≡ true → Stepped g f i (getD f i 0) 1) → (plainByte (getD w j 0) ≡ true → Stepped h w j (getD w j 0) 1) → Comparing g h f w (i + 1) (j + 1)
+  unfolding samePlain
+  plain-on a b =
+      let s = sym e ∙ q in
+      let k : getD f i 0 ≡ getD w j 0 = eqb-true _ _ (and-left (eqb (getD f i 0) (getD w j 0)) _ s) in
+      let p = and-right (eqb (getD f i 0) (getD w j 0)) _ s in
+      compare-on v (a p) (b (ap plainByte (sym k) ∙ p)) k
 
 -- ---- a content against a text, and against another
 

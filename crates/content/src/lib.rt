@@ -6,7 +6,7 @@ ghost use Rattle.rules.specs.Basic.{eqList};
 ghost use Rattle.rules.specs.Utf8.{chars};
 ghost use lib.ListN.{length, getD, drop};
 ghost use Rattle.content.specs.Contents.{keptIn};
-ghost use Rattle.content.specs.Readings.{charIn};
+ghost use Rattle.content.specs.Readings.{charIn, plainByte, samePlain};
 ghost use Rattle.content.specs.Kept.{Skipped, KeptStep};
 ghost use Rattle.rules.specs.Model.{isPath};
 ghost use Rattle.content.specs.Contents.{contentIn};
@@ -107,6 +107,19 @@ pub fn kept_char(f: &[u8], at: usize) -> Char
     }
 }
 
+// Whether a byte is a character by itself, and kept: ASCII, no backslash and no blank.
+pub fn is_plain(b: u8) -> bool
+    ensures { λ r. ⌜ r ≡ plainByte b ⌝ }
+{
+    (b < 0x80) & (b != b'\\') & (b != b' ')
+}
+
+fn same_plain(a: u8, b: u8) -> bool
+    ensures { λ r. ⌜ r ≡ samePlain a b ⌝ }
+{
+    (a == b) & is_plain(a)
+}
+
 // Whether the content of a field, its blanks collapsed, is a text in UTF-8.
 pub fn same_content(f: &[u8], w: &[u8]) -> bool
     ensures { λ r. ⌜ r ≡ eqList (keptIn (now (f .entry))) (chars (now (w .entry))) ⌝ }
@@ -117,13 +130,18 @@ pub fn same_content(f: &[u8], w: &[u8]) -> bool
         if w.len() <= j {
             return false;
         }
-        let a = kept_char(f, i);
-        let b = utf8::char_at(w, j);
-        if a.code != b.code {
-            return false;
+        if same_plain(f[i], w[j]) {
+            i += 1;
+            j += 1;
+        } else {
+            let a = kept_char(f, i);
+            let b = utf8::char_at(w, j);
+            if a.code != b.code {
+                return false;
+            }
+            i += a.size;
+            j += b.size;
         }
-        i += a.size;
-        j += b.size;
     }
     w.len() <= j
 }
@@ -138,13 +156,18 @@ pub fn same_chars(f: &[u8], w: &[u8]) -> bool
         if w.len() <= j {
             return false;
         }
-        let a = char_in(f, i);
-        let b = utf8::char_at(w, j);
-        if a.code != b.code {
-            return false;
+        if same_plain(f[i], w[j]) {
+            i += 1;
+            j += 1;
+        } else {
+            let a = char_in(f, i);
+            let b = utf8::char_at(w, j);
+            if a.code != b.code {
+                return false;
+            }
+            i += a.size;
+            j += b.size;
         }
-        i += a.size;
-        j += b.size;
     }
     w.len() <= j
 }
@@ -153,6 +176,9 @@ pub fn same_chars(f: &[u8], w: &[u8]) -> bool
 pub fn same_parts(f: &[u8], g: &[u8]) -> bool
     ensures { λ r. ⌜ r ≡ eqList (keptIn (now (f .entry))) (keptIn (now (g .entry))) ⌝ }
 {
+    if sheet::same_bytes(f, g) {
+        return true;
+    }
     let mut i = 0;
     let mut j = 0;
     while i < f.len() {

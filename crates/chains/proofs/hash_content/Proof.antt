@@ -1,9 +1,10 @@
 use borrow.Author.Needs.{needs}
 use native.Mathlib.Omega.{arith}
 use Prim.Native.Nat.{_-_}
+use mathlib.Core.Path.{refl, sym, _∙_}
 use lib.ListN.{length}
 use Rattle.content.specs.Contents.{contentIn}
-use Rattle.content.proofs.Compare.{content-on, content-ending}
+use Rattle.content.proofs.Compare.{plain-low, content-on, plain-content, content-ending}
 use Rattle.chains.proofs.Hashing.{Hashing, hash-starts, hash-on, hash-ends}
 use Rattle.chains.proofs.hash_content.Statement.{statement}
 use Rattle.chains.proofs.hash_content.Tie as tie
@@ -11,6 +12,7 @@ use Rattle.chains.proofs.hash_content.Reads as reads
 use Rattle.chains.proofs.hash_content.Lts as lts
 use Rattle.chains.proofs.mixed.Reads as mixed-reads
 use Rattle.content.proofs.char_in.Reads as char-in-reads
+use Rattle.content.proofs.is_plain.Reads as is-plain-reads
 
 abbrev Inv-loop : tie.InvT-loop
 Inv-loop f h₀ i₀ h i = Hashing contentIn f h i
@@ -18,31 +20,63 @@ Inv-loop f h₀ i₀ h i = Hashing contentIn f h i
 abbrev μ-loop : tie.MeasureT-loop
 μ-loop f h₀ i₀ h i = length f - i
 
--- src/lib.rt:41:5
+-- src/lib.rt:47:5
 loop-holds : tie.Need-loop-holds Inv-loop μ-loop
 loop-holds c = hash-starts _ _
 
--- src/lib.rt:42:13
-char-in-requires : tie.Need-char-in-requires Inv-loop μ-loop
-char-in-requires c κs = search needs
+-- src/lib.rt:48:17
+shared-slice-read-a : tie.Need-shared-slice-read-a Inv-loop μ-loop
+shared-slice-read-a c = search needs
 
--- src/lib.rt:43:9
+-- src/lib.rt:49:12
+is-plain-requires : tie.Need-is-plain-requires Inv-loop μ-loop
+is-plain-requires c κs = search needs
+
+-- src/lib.rt:50:26
+cast-mixed : tie.Need-cast-mixed Inv-loop μ-loop
+cast-mixed c = record { fits = omega (arith, plain-low _ (c .before .is-plain .ensures) (c .if1 .taken)) }
+
+-- src/lib.rt:50:13
 mixed-requires : tie.Need-mixed-requires Inv-loop μ-loop
 mixed-requires c κs = search needs
 
--- src/lib.rt:44:9
+-- src/lib.rt:51:13
 add-i : tie.Need-add-i Inv-loop μ-loop
-add-i c = let k = content-on (c .before .before .before .loop-test .taken) (c .before .before .char-in .ensures) in omega (arith, k .most)
+add-i c = search needs
 
--- src/lib.rt:41:5
+-- src/lib.rt:47:5
 loop-less : tie.Need-loop-less Inv-loop μ-loop
-loop-less c = let k = content-on (c .before .before .before .loop-test .taken) (c .before .before .char-in .ensures) in omega (arith, k .most, k .least)
+loop-less c = search needs
 
--- src/lib.rt:41:5
+-- src/lib.rt:47:5
 loop-again : tie.Need-loop-again Inv-loop μ-loop
-loop-again c = hash-on (c .before .before .before .before .loop .inv) (content-on (c .before .before .before .loop-test .taken) (c .before .before .char-in .ensures)) (c .before .mixed .ensures .0) (c .before .mixed .ensures .1)
+loop-again c = hash-on (c .before .before .before .before .before .loop .inv) (plain-content (c .before .before .before .before .loop-test .taken) refl (sym (c .before .before .is-plain .ensures) ∙ c .before .if1 .taken)) (c .mixed .ensures .0) (c .mixed .ensures .1)
 
--- src/lib.rt:36:1
+-- src/lib.rt:53:17
+char-in-requires : tie.Need-char-in-requires Inv-loop μ-loop
+char-in-requires c κs = search needs
+
+-- src/lib.rt:54:13
+mixed-requires-2 : tie.Need-mixed-requires-2 Inv-loop μ-loop
+mixed-requires-2 c κs = search needs
+
+-- src/lib.rt:55:13
+add-i-2 : tie.Need-add-i-2 Inv-loop μ-loop
+add-i-2 c =
+    let k = content-on (c .before .before .before .before .before .before .loop-test .taken) (c .before .before .char-in .ensures) in
+    omega (arith, k .most)
+
+-- src/lib.rt:47:5
+loop-less-2 : tie.Need-loop-less-2 Inv-loop μ-loop
+loop-less-2 c =
+    let k = content-on (c .before .before .before .before .before .before .loop-test .taken) (c .before .before .char-in .ensures) in
+    omega (arith, k .most, k .least)
+
+-- src/lib.rt:47:5
+loop-again-2 : tie.Need-loop-again-2 Inv-loop μ-loop
+loop-again-2 c = hash-on (c .before .before .before .before .before .before .before .loop .inv) (content-on (c .before .before .before .before .before .before .loop-test .taken) (c .before .before .char-in .ensures)) (c .before .mixed2 .ensures .0) (c .before .mixed2 .ensures .1)
+
+-- src/lib.rt:42:1
 returns : tie.Need-returns Inv-loop μ-loop
 returns c = hash-ends (c .before .loop .inv) (content-ending _ _) (c .loop-test .left)
 
@@ -53,9 +87,16 @@ hash-content-spec =
     Inv-loop
     μ-loop
     loop-holds
-    char-in-requires
+    shared-slice-read-a
+    is-plain-requires
+    cast-mixed
     mixed-requires
     add-i
     loop-less
     loop-again
+    char-in-requires
+    mixed-requires-2
+    add-i-2
+    loop-less-2
+    loop-again-2
     returns)

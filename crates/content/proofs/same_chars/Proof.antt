@@ -1,17 +1,17 @@
 use borrow.Author.Needs.{needs}
 use native.Mathlib.Omega.{arith}
 use Prim.Native.Nat.{_-_}
+use mathlib.Core.Path.{refl}
 use lib.ListN.{length}
-use Rattle.content.proofs.Chars.{content-step}
 use Rattle.rules.specs.Utf8.{chars}
-use Rattle.utf8.proofs.Steps.{char-step}
 use Rattle.content.specs.Contents.{contentIn}
-use Rattle.content.proofs.Compare.{Comparing, comparing, content-on, chars-step, compare-on, compare-differ, compare-longer, compare-end, content-ending, chars-ending}
+use Rattle.content.proofs.Compare.{Comparing, comparing, content-on, chars-step, plain-content, plain-chars, plain-on, compare-on, compare-differ, compare-longer, compare-end, content-ending, chars-ending}
 use Rattle.content.proofs.same_chars.Statement.{statement}
 use Rattle.content.proofs.same_chars.Tie as tie
 use Rattle.content.proofs.same_chars.Reads as reads
 use Rattle.content.proofs.same_chars.Lts as lts
 use Rattle.content.proofs.char_in.Reads as char-in-reads
+use Rattle.content.proofs.same_plain.Reads as same-plain-reads
 use Rattle.utf8.proofs.char_at.Reads as char-at-reads
 
 abbrev Inv-loop : tie.InvT-loop
@@ -20,46 +20,77 @@ Inv-loop f w i₀ j₀ i j = Comparing contentIn chars f w i j
 abbrev μ-loop : tie.MeasureT-loop
 μ-loop f w i₀ j₀ i j = length f - i
 
--- src/lib.rt:92:5
+-- src/lib.rt:155:5
 loop-holds : tie.Need-loop-holds Inv-loop μ-loop
 loop-holds c = comparing
 
--- src/lib.rt:94:13
+-- src/lib.rt:157:13
 returns : tie.Need-returns Inv-loop μ-loop
 returns c = compare-longer (c .before .before .loop .inv) (content-ending _ _) (chars-ending _ _) (c .before .loop-test .taken) (c .if1 .taken)
 
--- src/lib.rt:96:13
+-- src/lib.rt:159:23
+shared-slice-read-same-plain : tie.Need-shared-slice-read-same-plain Inv-loop μ-loop
+shared-slice-read-same-plain c = search needs
+
+-- src/lib.rt:159:29
+shared-slice-read-same-plain-2 : tie.Need-shared-slice-read-same-plain-2 Inv-loop μ-loop
+shared-slice-read-same-plain-2 c = search needs
+
+-- src/lib.rt:159:12
+same-plain-requires : tie.Need-same-plain-requires Inv-loop μ-loop
+same-plain-requires c κs = search needs
+
+-- src/lib.rt:160:13
+add-i : tie.Need-add-i Inv-loop μ-loop
+add-i c = search needs
+
+-- src/lib.rt:161:13
+add-j : tie.Need-add-j Inv-loop μ-loop
+add-j c = search needs
+
+-- src/lib.rt:155:5
+loop-less : tie.Need-loop-less Inv-loop μ-loop
+loop-less c = search needs
+
+-- src/lib.rt:155:5
+loop-again : tie.Need-loop-again Inv-loop μ-loop
+loop-again c = plain-on (c .before .before .before .before .before .before .loop .inv) (c .before .same-plain .ensures) (c .if2 .taken) (plain-content (c .before .before .before .before .before .loop-test .taken) refl) (plain-chars (c .before .before .before .before .if1 .left) refl)
+
+-- src/lib.rt:163:17
 char-in-requires : tie.Need-char-in-requires Inv-loop μ-loop
 char-in-requires c κs = search needs
 
--- src/lib.rt:97:13
+-- src/lib.rt:164:17
 char-at-requires : tie.Need-char-at-requires Inv-loop μ-loop
 char-at-requires c κs = search needs
 
--- src/lib.rt:99:13
+-- src/lib.rt:166:17
 returns-2 : tie.Need-returns-2 Inv-loop μ-loop
-returns-2 c = compare-differ (c .before .before .before .before .before .before .before .loop .inv) (content-on (c .before .before .before .before .before .before .loop-test .taken) (c .before .before .before .before .char-in .ensures)) (chars-step (c .before .before .before .before .before .if1 .left) (c .before .before .before .char-at .ensures)) (c .if2 .taken)
+returns-2 c = compare-differ (c .before .before .before .before .before .before .before .before .before .before .before .loop .inv) (content-on (c .before .before .before .before .before .before .before .before .before .before .loop-test .taken) (c .before .before .before .before .char-in .ensures)) (chars-step (c .before .before .before .before .before .before .before .before .before .if1 .left) (c .before .before .before .char-at .ensures)) (c .if3 .taken)
 
--- src/lib.rt:101:9
-add-i : tie.Need-add-i Inv-loop μ-loop
-add-i c = omega (arith, content-step _ _ _ (c .before .before .before .before .before .before .before .loop-test .taken) (c .before .before .before .before .before .char-in .ensures) .most)
+-- src/lib.rt:168:13
+add-i-2 : tie.Need-add-i-2 Inv-loop μ-loop
+add-i-2 c =
+    let k = content-on (c .before .before .before .before .before .before .before .before .before .before .before .loop-test .taken) (c .before .before .before .before .before .char-in .ensures) in
+    omega (arith, k .most)
 
--- src/lib.rt:102:9
-add-j : tie.Need-add-j Inv-loop μ-loop
-add-j c =
-    omega (arith, char-step _ _ _ (c .before .before .before .before .before .before .before .if1 .left) (c .before .before .before .before .before .char-at .ensures) .most)
+-- src/lib.rt:169:13
+add-j-2 : tie.Need-add-j-2 Inv-loop μ-loop
+add-j-2 c =
+    let k = chars-step (c .before .before .before .before .before .before .before .before .before .before .before .if1 .left) (c .before .before .before .before .before .char-at .ensures) in
+    omega (arith, k .most)
 
--- src/lib.rt:92:5
-loop-less : tie.Need-loop-less Inv-loop μ-loop
-loop-less c =
-    let k = content-step _ _ _ (c .before .before .before .before .before .before .before .before .loop-test .taken) (c .before .before .before .before .before .before .char-in .ensures) in
+-- src/lib.rt:155:5
+loop-less-2 : tie.Need-loop-less-2 Inv-loop μ-loop
+loop-less-2 c =
+    let k = content-on (c .before .before .before .before .before .before .before .before .before .before .before .before .loop-test .taken) (c .before .before .before .before .before .before .char-in .ensures) in
     omega (arith, k .most, k .least)
 
--- src/lib.rt:92:5
-loop-again : tie.Need-loop-again Inv-loop μ-loop
-loop-again c = compare-on (c .before .before .before .before .before .before .before .before .before .loop .inv) (content-on (c .before .before .before .before .before .before .before .before .loop-test .taken) (c .before .before .before .before .before .before .char-in .ensures)) (chars-step (c .before .before .before .before .before .before .before .if1 .left) (c .before .before .before .before .before .char-at .ensures)) (c .before .before .if2 .left)
+-- src/lib.rt:155:5
+loop-again-2 : tie.Need-loop-again-2 Inv-loop μ-loop
+loop-again-2 c = compare-on (c .before .before .before .before .before .before .before .before .before .before .before .before .before .loop .inv) (content-on (c .before .before .before .before .before .before .before .before .before .before .before .before .loop-test .taken) (c .before .before .before .before .before .before .char-in .ensures)) (chars-step (c .before .before .before .before .before .before .before .before .before .before .before .if1 .left) (c .before .before .before .before .before .char-at .ensures)) (c .before .before .if3 .left)
 
--- src/lib.rt:87:1
+-- src/lib.rt:150:1
 returns-3 : tie.Need-returns-3 Inv-loop μ-loop
 returns-3 c = compare-end (c .before .loop .inv) (content-ending _ _) (chars-ending _ _) (c .loop-test .left)
 
@@ -71,11 +102,18 @@ same-chars-spec =
     μ-loop
     loop-holds
     returns
-    char-in-requires
-    char-at-requires
-    returns-2
+    shared-slice-read-same-plain
+    shared-slice-read-same-plain-2
+    same-plain-requires
     add-i
     add-j
     loop-less
     loop-again
+    char-in-requires
+    char-at-requires
+    returns-2
+    add-i-2
+    add-j-2
+    loop-less-2
+    loop-again-2
     returns-3)
