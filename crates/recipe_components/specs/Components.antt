@@ -48,9 +48,9 @@ lineOf sheet c = slice (c .«line_at») (c .«line_end») sheet
 abbrev pub nameIn : List ℕ → Component → List ℕ
 nameIn sheet c = slice (c .«name_at») (c .«name_end») sheet
 
--- c is the record of the entry e: its modifiers, its relation, a line of the sheet that is a component of the kind and whose
--- entry is e, and the entry's name there, after a path and still escaped. Of two equal lines the record may have either:
--- their spans are equal too, so both are the same mention in the recipe's text
+-- c is the record of the entry e: its modifiers, its relation, a whole line of the sheet that is a component of the kind and
+-- whose entry is e, and the entry's name in that line, after a path and still escaped. Of two lines with the same entry the
+-- record may have either: their spans are equal, so both are the same mention in the recipe's text
 pub record RecordOf (k : Kind) (sheet : List ℕ) (e : Entry) (c : Component) : Type 0 where
   pub relation : c .relation ≡ relationRecordOf (e .relation)
   pub modifiers : modifiersOf c ≡ e .modifiers
