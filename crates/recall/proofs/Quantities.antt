@@ -101,11 +101,11 @@ word-is f q =
 
 -- ---- the component after it
 
-record Got (gs : Fields) (e : Option Event) : Type 0 where
-  component : Component
-  rest : Fields
-  isRead : readComponent gs ≡ some (component, rest)
-  isEvent : componentIn ingredient e ≡ component
+pub record Got (gs : Fields) (e : Option Event) : Type 0 where
+  pub component : Component
+  pub rest : Fields
+  pub isRead : readComponent gs ≡ some (component, rest)
+  pub isEvent : componentIn ingredient e ≡ component
 
 one-ended : (gs : Fields) (c : Component) (hs : Fields) → readComponent gs ≡ some (c, hs) → (o : Option (Option Intermediate × Fields))
     → IsOne (goOn (λ (i : Option Intermediate). give (inside (componentEvent (ingredientEvent c i)))) o)
@@ -151,7 +151,7 @@ module _ (s : Span) (n : Text) (a : Option Text) (q : Option Quantity) where
     note-last none k = no-some k
     note-last (some r) k = modifiers-last (r .0) (readModifiers (r .1)) k
 
-    quantity-of : (fs : Fields) → afterQuantity fs ≡ some (c, rest) → c .quantity ≡ q
+    pub quantity-of : (fs : Fields) → afterQuantity fs ≡ some (c, rest) → c .quantity ≡ q
     unfolding _>>=_
     quantity-of fs k = note-last (opt readText fs) k
 
@@ -178,7 +178,7 @@ module _ (line : List ℕ) (h : isOfKind ingredient (parseLine line) ≡ true) w
   unfolding goOn saying readAfter _>>=_
   line-one = let w = word-is (fieldAt line 0) line-word in line-read ∙ rw (line-word, w)
 
-  line-got : Got (fieldsFrom line 11) (parseLine line)
+  pub line-got : Got (fieldsFrom line 11) (parseLine line)
   line-got = rw line-one (got-one (fieldsFrom line 11) (rw line-one at h))
 
   -- it is read

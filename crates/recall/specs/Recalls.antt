@@ -1,20 +1,14 @@
 -- What the component of a line stands for.
-use Prim.Native.Nat.{ℕ, _≤_}
+use Prim.Native.Nat.{ℕ}
 use mathlib.Core.Path.{_≡_}
 use mathlib.Core.Bool.{true, false}
 use mathlib.Core.List.{List}
-use mathlib.Core.Option.{Option, none, some}
-use lib.ListN.{length}
-use Rattle.rules.specs.Basic.{onSome}
-use Rattle.rules.specs.Event.{Text, Quantity}
 use Rattle.rules.specs.Read.{parseLine}
 use Rattle.rules.specs.Model.{Kind, ingredient}
-use Rattle.content.specs.Contents.{contentIn}
-use Rattle.parts.specs.declared.Part.{Part}
 use Rattle.parts.specs.declared.OptText.the-variants as text
 use Rattle.parts.specs.declared.OptQuantity.{OptQuantity}
 use Rattle.parts.specs.declared.OptQuantity.the-variants as quantity
-use Rattle.parts.specs.Views.{partOf, optQuantityIn, OptQuantityWithin}
+use Rattle.parts.specs.Views.{optQuantityIn, OptQuantityWithin}
 use Rattle.components.specs.declared.ComponentView.{ComponentView}
 use Rattle.components.specs.Views.{componentIn, ComponentWithin}
 use Rattle.events.specs.declared.EventView.{EventView}
@@ -26,8 +20,6 @@ use Rattle.events.specs.declared.ComponentEvent.the-variants as component
 use Rattle.known_events.specs.Fields.{ComponentFields}
 use Rattle.model.specs.Rows.{componentOfLine}
 use Rattle.model.specs.Fits.{isOfKind}
-use Rattle.recall.specs.declared.UnitPlace.{UnitPlace}
-use Rattle.recall.specs.declared.UnitPlace.the-variants.{NoQuantity, NoUnit, At}
 
 -- the view of nothing
 unfoldable pub blankView : ComponentView
@@ -70,20 +62,3 @@ pub record Recalled (line : List ℕ) (v : ComponentView) : Type 0 where
 pub record QuantityRecalled (line : List ℕ) (q : OptQuantity) : Type 0 where
   pub is : optQuantityIn line q ≡ componentOfLine ingredient line .quantity
   pub within : OptQuantityWithin line q
-
--- ---- the unit of a quantity
-
--- its content, where there is a quantity
-unfoldable pub unitOf : Option Quantity → Option (Option (List ℕ))
-unitOf q = onSome (λ (x : Quantity). onSome (λ (t : Text). t .content) (x .unit)) q
-
--- what a place in a line says of it
-unfoldable pub unitAs : List ℕ → UnitPlace → Option (Option (List ℕ))
-unitAs line NoQuantity = none
-unitAs line NoUnit = some none
-unitAs line (At p) = some (some (contentIn (partOf line p)))
-
--- r is where the unit of the line's ingredient stands
-pub record UnitRecalled (line : List ℕ) (r : UnitPlace) : Type 0 where
-  pub is : unitOf (componentOfLine ingredient line .quantity) ≡ unitAs line r
-  pub within : (p : Part) → r ≡ At p → (p .from ≤ p .to) × (p .to ≤ length line)

@@ -29,7 +29,7 @@ use Rattle.parts.specs.Views.{partOf, textIn, optTextIn, quantityIn, optQuantit
 use Rattle.parts.proofs.Contents.{content-of}
 use Rattle.compatible.specs.Fitting.{unitCode, knownOf, trimmedIn}
 use Rattle.model.specs.Rows.{rowAt, rowOf, componentOfLine, entryAs}
-use Rattle.recall.specs.Recalls.{unitOf, unitAs, UnitRecalled}
+use Rattle.recall.specs.Places.{contentIf, unitOf, unitAs, UnitRecalled}
 use Rattle.recall.specs.declared.UnitPlace.{UnitPlace}
 use Rattle.recall.specs.declared.UnitPlace.the-variants.{NoQuantity, NoUnit, At}
 use Rattle.unit_checks.specs.Checked.{HasUnit, UnitField, UnitKnown, fitsUnit}
@@ -86,19 +86,19 @@ module _ (us : List NamedUnit) (f : List ℕ) where
   abbrev fits : Bool → Option Text → Bool
   fits has u = eqb (compatibleUnit us (onSome trimmedText u) (pick has (some (trimmedIn f)) none)) 0
 
-  unit-none : (has : Bool) (u : Option Text) → onSome (λ (t : Text). t .content) u ≡ none → not has ≡ fits has u
-  unfolding onSome compatibleUnit
+  unit-none : (has : Bool) (u : Option Text) → contentIf u ≡ none → not has ≡ fits has u
+  unfolding contentIf onSome compatibleUnit
   unit-none true none k = refl
   unit-none false none k = refl
   unit-none has (some t) k = no-some (sym k)
 
-  unit-alone : (u : Option Text) {c : List ℕ} → onSome (λ (t : Text). t .content) u ≡ some c → false ≡ fits false u
-  unfolding onSome compatibleUnit
+  unit-alone : (u : Option Text) {c : List ℕ} → contentIf u ≡ some c → false ≡ fits false u
+  unfolding contentIf onSome compatibleUnit
   unit-alone none k = no-some k
   unit-alone (some t) k = refl
 
-  unit-both : (u : Option Text) (g : List ℕ) {r : Bool} → onSome (λ (t : Text). t .content) u ≡ some (contentIn g) → r ≡ eqb (knownOf us (trimmedIn g) (trimmedIn f)) 0 → r ≡ fits true u
-  unfolding onSome compatibleUnit knownOf
+  unit-both : (u : Option Text) (g : List ℕ) {r : Bool} → contentIf u ≡ some (contentIn g) → r ≡ eqb (knownOf us (trimmedIn g) (trimmedIn f)) 0 → r ≡ fits true u
+  unfolding contentIf onSome compatibleUnit knownOf
   unit-both none g k e = no-some k
   unit-both (some t) g k e =
       let c : trimmedText t ≡ trimmedIn g = unfold trimmedText trimmedIn in ap textTrimmed (some-inj k) in
