@@ -1,7 +1,7 @@
 -- A component that is looked up by its name.
 use Prim.Native.Nat.{ℕ, _+_, _-_, _≤_, _<_}
 use mathlib.Core.Path.{_≡_, refl, ap, sym, _∙_, subst}
-use mathlib.Core.Bool.{Bool, true, not}
+use mathlib.Core.Bool.{Bool, true, false, not}
 use mathlib.Core.List.{List, [], _++_}
 use mathlib.Core.Option.{Option, none, some}
 use native.Mathlib.Omega.{arith}
@@ -14,7 +14,7 @@ use Rattle.rules.specs.Model.{Kind, ingredient, isIngredient, amountOf, inherit
 use Rattle.rules.specs.Modes.{Modes, isComponents}
 use Rattle.rules.specs.Reference.{Earlier, sameNameOf, refersTo, referenceFindings, asReferring}
 use Rattle.rules.specs.State.{State, tableOf}
-use Rattle.rules.specs.Components.{lockFindings, newEntry, foundSame, checksAfter, madeWith, madeByName}
+use Rattle.rules.specs.Components.{Made, lockFindings, newEntry, foundSame, checksAfter, madeWith, madeByName}
 use Rattle.parts.specs.Views.{optQuantityIn}
 use Rattle.components.specs.Views.{modifiersIn, componentIn, ComponentWithin}
 use Rattle.components.specs.declared.ComponentView.{ComponentView}
@@ -38,10 +38,11 @@ use Rattle.timers.specs.Timed.{LockChecked}
 use Rattle.reference_findings.specs.Reports.{oldIn, handsDown, SameAs, NewAs, ReferenceReported}
 use Rattle.reference_findings.specs.declared.Old.{Old}
 use Rattle.reference_findings.specs.declared.Old.the-variants as old
-use Rattle.component_lines.specs.Steps.{ComponentHere, NamePlaced, Roomy, SameSmall, FoundAs, OldRead, NamedReported, RowNamed, ReferredBelow, RowPut, NamedDone}
+use Rattle.component_lines.specs.Steps.{ComponentHere, NamePlaced, asksSame, SameAsked, Roomy, SameSmall, FoundAs, OldRead, NamedReported, RowNamed, ReferredBelow, RowPut, NamedDone}
 use Rattle.component_lines.proofs.Places.{own-content, row-fits}
 use Rattle.component_lines.proofs.Rows.{entry-named}
 use Rattle.component_lines.proofs.Earlier.{old-referred, to-below, small-same, found-below, earliers-kept, below-kept, earlier-index}
+use Rattle.component_lines.proofs.Asked.{same-below, made-unasked}
 use Rattle.component_lines.proofs.Rooms.{reference-short, short-count}
 use Rattle.component_lines.proofs.Whole.{locked, lock-count, reported-roomy, new-entry, pushed-done}
 
@@ -170,22 +171,36 @@ made-by us flags k c st {modes} {new} {same} em en es =
     ∙ ap (λ (m : Modes). madeWith us flags k m (tableOf k st) (lockFindings (c .quantity)) new same) em
 
 module _ {k : Kind} {sheet : List ℕ} {at end : ℕ} {v : ComponentView} {p : NamePart} {same to : Same} {o : Old} {w₀ : List ℕ} {h₀ : Held} (x : ComponentHere k sheet at end v) (n : NamePlaced k sheet at v p)
-    (s : SameFound k sheet w₀ h₀ (slice (p .at) (p .end) sheet) (v .modifiers .reference) (v .modifiers .opt) same) (d : OldRead k w₀ h₀ same o) (r : Refers (h₀ .define) (h₀ .duplicate) (v .modifiers .reference) (v .modifiers .new) same to) where
+    (s : SameAsked k sheet w₀ h₀ (slice (p .at) (p .end) sheet) (v .modifiers .reference) (v .modifiers .opt) same) (d : OldRead k w₀ h₀ same o) (r : Refers (h₀ .define) (h₀ .duplicate) (v .modifiers .reference) (v .modifiers .new) same to) where
   to-is : (inStep : Bool) → onSome (earlierAt k sheet w₀ h₀) (sameOf to) ≡ refersTo (modesOf (h₀ .define) (h₀ .duplicate)) (entryOf k inStep (componentIn (slice at end sheet) v)) (onSome (earlierAt k sheet w₀ h₀) (sameOf same))
   to-is inStep = r .is (entryOf k inStep (componentIn (slice at end sheet) v)) (earlierAt k sheet w₀ h₀) (new-marked k inStep (slice at end sheet) v)
 
   pub to-there : SameBelow k h₀ to
   to-there =
-      to-below (earlierAt k sheet w₀ h₀) (earlier-index k sheet w₀ h₀) (modesOf (h₀ .define) (h₀ .duplicate)) (entryOf k true (componentIn (slice at end sheet) v)) same to (record { below = s .below }) (to-is true)
+      to-below (earlierAt k sheet w₀ h₀) (earlier-index k sheet w₀ h₀) (modesOf (h₀ .define) (h₀ .duplicate)) (entryOf k true (componentIn (slice at end sheet) v)) same to (same-below s) (to-is true)
 
   pub to-small : Sound w₀ h₀ → SameSmall to
   to-small z = small-same k z to-there
 
-  same-is : (inStep : Bool) → onSome (earlierAt k sheet w₀ h₀) (sameOf same) ≡ foundSame (entryOf k inStep (componentIn (slice at end sheet) v)) (tableOf k (stateIn sheet w₀ h₀))
+  same-is : (inStep : Bool) → SameFound k sheet w₀ h₀ (slice (p .at) (p .end) sheet) (v .modifiers .reference) (v .modifiers .opt) same
+      → onSome (earlierAt k sheet w₀ h₀) (sameOf same) ≡ foundSame (entryOf k inStep (componentIn (slice at end sheet) v)) (tableOf k (stateIn sheet w₀ h₀))
   unfolding foundSame
-  same-is inStep =
-      s .is (entryOf k inStep (componentIn (slice at end sheet) v)) (sym (n .new .is inStep (componentIn (slice at end sheet) v) (own-content x))) (new-opt k inStep (slice at end sheet) v)
-      ∙ ap (λ (q : Bool). sameNameOf q (entryOf k inStep (componentIn (slice at end sheet) v)) (tableOf k (stateIn sheet w₀ h₀))) (sym (new-ref k inStep (slice at end sheet) v))
+  same-is inStep q =
+      q .is (entryOf k inStep (componentIn (slice at end sheet) v)) (sym (n .new .is inStep (componentIn (slice at end sheet) v) (own-content x))) (new-opt k inStep (slice at end sheet) v)
+      ∙ ap (λ (b : Bool). sameNameOf b (entryOf k inStep (componentIn (slice at end sheet) v)) (tableOf k (stateIn sheet w₀ h₀))) (sym (new-ref k inStep (slice at end sheet) v))
+
+  abbrev made : List NamedUnit → ℕ → Bool → Option Earlier → Made
+  made us flags inStep o = madeWith us flags k (modesOf (h₀ .define) (h₀ .duplicate)) (tableOf k (stateIn sheet w₀ h₀)) (lockFindings (componentIn (slice at end sheet) v .quantity)) (entryOf k inStep (componentIn (slice at end sheet) v)) o
+
+  -- with what the search finds, asked for or not
+  made-same : (us : List NamedUnit) (flags : ℕ) (inStep : Bool)
+      → made us flags inStep (foundSame (entryOf k inStep (componentIn (slice at end sheet) v)) (tableOf k (stateIn sheet w₀ h₀))) ≡ made us flags inStep (onSome (earlierAt k sheet w₀ h₀) (sameOf same))
+  made-same us flags inStep = go (asksSame (modesOf (h₀ .define) (h₀ .duplicate)) (v .modifiers .reference)) refl
+    where
+      go : (b : Bool) → asksSame (modesOf (h₀ .define) (h₀ .duplicate)) (v .modifiers .reference) ≡ b
+          → made us flags inStep (foundSame (entryOf k inStep (componentIn (slice at end sheet) v)) (tableOf k (stateIn sheet w₀ h₀))) ≡ made us flags inStep (onSome (earlierAt k sheet w₀ h₀) (sameOf same))
+      go true e = ap (made us flags inStep) (sym (same-is inStep (s .found e)))
+      go false e = made-unasked us flags k _ _ _ _ _ _ (ap (asksSame (modesOf (h₀ .define) (h₀ .duplicate))) (new-ref k inStep (slice at end sheet) v) ∙ e)
 
   module _ {us : List NamedUnit} {flags : ℕ} {w₁ : List ℕ} {h₁ : Held} (f : NamedReported us flags k sheet (slice at end sheet) v o to w₀ h₀ w₁ h₁) where
     found-named : (inStep : Bool)
@@ -221,6 +236,6 @@ module _ {k : Kind} {sheet : List ℕ} {at end : ℕ} {v : ComponentView} {p : N
       named-done =
           record {
             is =
-                rw (made-by us flags k (componentIn (slice at end sheet) v) (stateIn sheet w₀ h₀) (modes-in sheet w₀ h₀) (new-entry k (componentIn (slice at end sheet) v) sheet w₀ h₀ e) (same-is (not b)))
+                rw (made-by us flags k (componentIn (slice at end sheet) v) (stateIn sheet w₀ h₀) (modes-in sheet w₀ h₀) (new-entry k (componentIn (slice at end sheet) v) sheet w₀ h₀ e) refl ∙ made-same us flags (not b))
                 (pushed-done k sheet _ (found-named (not b)) a q (row-fits x n (y .made)) made-entry made-to);
           }

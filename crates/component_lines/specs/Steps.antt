@@ -1,7 +1,7 @@
 -- What the steps of a component's line come to.
 use Prim.Native.Nat.{ℕ, _+_, _≤_, _<_}
 use mathlib.Core.Path.{_≡_}
-use mathlib.Core.Bool.{Bool, true}
+use mathlib.Core.Bool.{Bool, true, false, _||_}
 use mathlib.Core.List.{List, []}
 use mathlib.Core.Option.{Option, none, some}
 use lib.ListN.{length}
@@ -10,6 +10,7 @@ use Rattle.rules.specs.Basic.{onSome}
 use Rattle.rules.specs.Event as rules
 use Rattle.rules.specs.Read.{parseLine}
 use Rattle.rules.specs.Units.{NamedUnit}
+use Rattle.rules.specs.Modes.{Modes, isSteps, isReference}
 use Rattle.rules.specs.Model.{Kind, ingredient, both, either, withRef, inherits, targetOf, Relation, definition, reference, Entry, entryOf}
 use Rattle.rules.specs.Reference.{Earlier, refersTo}
 use Rattle.rules.specs.State.{tableOf}
@@ -31,9 +32,9 @@ use Rattle.model.specs.declared.Row.{Row}
 use Rattle.model.specs.declared.Held.{Held}
 use Rattle.memory.specs.Pushes.{countOf, FoundBelow, ComponentAdded}
 use Rattle.lookup.specs.declared.Same.{Same}
-use Rattle.lookup.specs.declared.Same.the-variants.{At}
+use Rattle.lookup.specs.declared.Same.the-variants.{At, Nothing}
 use Rattle.lookup.specs.declared.NamePart.{NamePart}
-use Rattle.lookup.specs.Names.{sameOf, earlierAt, NewName}
+use Rattle.lookup.specs.Names.{sameOf, earlierAt, SameFound, NewName}
 use Rattle.lookup.specs.References.{modesOf}
 use Rattle.checks.specs.Reports.{Reported}
 use Rattle.reference_findings.specs.Reports.{oldIn, SameAs}
@@ -64,6 +65,15 @@ pub record Roomy (h : Held) : Type 0 where
   pub items : h .counts .items ≤ 4096
 
 -- ---- what it refers to
+
+-- whether what is made of a component depends on the same-name search (the Rust's `same_name` is lazy)
+unfoldable pub asksSame : Modes → Bool → Bool
+asksSame modes ref = ref || isSteps (modes .define) || isReference (modes .duplicate)
+
+-- same is what the search finds, where it is asked for
+pub record SameAsked (k : Kind) (sheet w : List ℕ) (h : Held) (name : List ℕ) (ref opt : Bool) (same : Same) : Type 0 where
+  pub found : asksSame (modesOf (h .define) (h .duplicate)) ref ≡ true → SameFound k sheet w h name ref opt same
+  pub unasked : asksSame (modesOf (h .define) (h .duplicate)) ref ≡ false → same ≡ Nothing
 
 -- the index of what was found is small
 pub record SameSmall (same : Same) : Type 0 where

@@ -18,9 +18,10 @@ ghost use Rattle.model.specs.Rows as rows;
 ghost use Rattle.model.specs.Memory.{Sound};
 ghost use Rattle.model.specs.Fits.{AllFit};
 ghost use Rattle.lookup.specs.Names.{kindOf, sameOf, SameFound};
+ghost use Rattle.lookup.specs.References.{modesOf};
 ghost use Rattle.reference_findings.specs.Reports.{oldIn};
 ghost use Rattle.component_lines.specs.Lines.{LineHere, Kept, ComponentDone};
-ghost use Rattle.component_lines.specs.Steps.{ComponentHere, NamePlaced, Roomy, SameSmall, FoundAs, OldRead, NamedReported, heirOf, RelatedTo, RowNamed, ReferredBelow, RowPut, IntermediateReported, IntermediateDone, NamedDone};
+ghost use Rattle.component_lines.specs.Steps.{ComponentHere, NamePlaced, asksSame, SameAsked, Roomy, SameSmall, FoundAs, OldRead, NamedReported, heirOf, RelatedTo, RowNamed, ReferredBelow, RowPut, IntermediateReported, IntermediateDone, NamedDone};
 ghost use Rattle.new_rows.specs.Rows.{RowMade};
 ghost use Rattle.unit_checks.specs.Checked.{SameBelow};
 use blocks::Passed;
@@ -30,6 +31,8 @@ use components::Modifiers;
 use components::OptIntermediate;
 use lookup::NamePart;
 use lookup::Same;
+use model::Define;
+use model::Duplicate;
 use model::Found;
 use model::Held;
 use model::Relation;
@@ -49,8 +52,21 @@ fn name_of(t: &[u32], sheet: &[u8], at: usize, v: ComponentView, is_ingredient: 
     lookup::new_name(t, sheet, from, to, is_ingredient)
 }
 
+// Whether the search is needed at all: elsewhere nothing that is made of a component depends on it.
+fn asks_same(define: Define, duplicate: Duplicate, reference: bool) -> bool
+    ensures { λ r. ⌜ r ≡ asksSame (modesOf define duplicate) reference ⌝ }
+{
+    if reference {
+        return true;
+    }
+    if lookup::is_steps(define) {
+        return true;
+    }
+    lookup::is_reference(duplicate)
+}
+
 // The earlier component of the name; an explicit REF does not ask for OPT.
-fn same_of(
+fn found_before(
     t: &[u32],
     sheet: &[u8],
     words: &[u32],
@@ -70,6 +86,27 @@ fn same_of(
         return lookup::same_ingredient(t, sheet, words, h, &sheet[from..to], any_opt, opt);
     }
     lookup::same_cookware(t, sheet, words, h, &sheet[from..to], any_opt, opt)
+}
+
+// The same, where it is needed.
+fn same_of(
+    t: &[u32],
+    sheet: &[u8],
+    words: &[u32],
+    h: Held,
+    p: NamePart,
+    m: Modifiers,
+    is_ingredient: bool,
+) -> Same
+    requires { ⌜ (now t ≡ unicodeTables) × (p .at ≤ p .end) × (p .end ≤ length (now sheet)) × Sound (now words) h × AllFit (now sheet) (now words) h ⌝ }
+    ensures { λ r. ⌜ SameAsked (kindOf «is_ingredient») (now (sheet .entry)) (now (words .entry)) h (slice (p .at) (p .end) (now (sheet .entry))) (m .reference) (m .opt) r ⌝ }
+{
+    let define = h.define;
+    let duplicate = h.duplicate;
+    if asks_same(define, duplicate, m.reference) {
+        return found_before(t, sheet, words, h, p, m, is_ingredient);
+    }
+    Same::Nothing
 }
 
 fn modifiers_of(r: Row) -> Modifiers

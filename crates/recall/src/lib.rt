@@ -197,7 +197,8 @@ fn unit_at(line: &[u8], at: usize) -> UnitPlace
     }
 }
 
-// Where the unit of the quantity of a line that is an ingredient stands. The line is known to be well formed, so fields are skipped by their tabs.
+// Where the unit of the quantity of a line that is an ingredient stands. The line is known to be well formed, so fields are
+// skipped by their tabs.
 pub fn unit_in(line: &[u8]) -> UnitPlace
     requires { ⌜ isOfKind ingredient (parseLine (now line)) ≡ true ⌝ }
     ensures { λ r. ⌜ UnitRecalled (now (line .entry)) r ⌝ }

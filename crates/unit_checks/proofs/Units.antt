@@ -15,6 +15,7 @@ use Rattle.rules.specs.Reference.{entryAt, referrers}
 use Rattle.rules.specs.Checks.{unitFinding, unitPair, unitAgainst, unitsAgainst, unitCheck}
 use Rattle.rules.specs.State.{tableOf}
 use Rattle.parts.specs.declared.OptQuantity.{OptQuantity}
+use Rattle.parts.specs.declared.OptQuantity.the-variants.{Absent}
 use Rattle.parts.specs.Views.{optQuantityIn}
 use Rattle.model.specs.Blank.{blankSpan}
 use Rattle.compatible.specs.Fitting.{trimmedIn}
@@ -240,6 +241,19 @@ module _ {us : List NamedUnit} {sheet line : List ℕ} {a : OptQuantity} {d : �
             }
 
 -- ---- the definition, and then its referrers
+
+units-none : (us : List NamedUnit) (new : Entry) (table : List Entry) → new .quantity ≡ none → (is : List ℕ) → unitsAgainst us new table is ≡ []
+unfolding unitsAgainst
+units-none us new table e [] = refl
+units-none us new table e (i ∷ is) = rw (against-none (entryAt i table), units-none us new table e is)
+  where
+    against-none : (o : Option Entry) → unitAgainst us new o ≡ []
+    against-none none = unfold unitAgainst in refl
+    against-none (some old) = unfold unitAgainst unitPair in rw e
+
+pub check-none : {us : List NamedUnit} {sheet line : List ℕ} {a : OptQuantity} {d : ℕ} {w : List ℕ} {h : Held} → a ≡ Absent → UnitChecked us sheet line a d w h w h
+unfolding unitCheck optQuantityIn onSome
+check-none {us} e = record { is = λ new p q. none-found (units-none us new _ (q ∙ rw e) _) }
 
 pub referrers-none : (k : Kind) (x : Target) (inStep : Bool) (index : ℕ) (by : List ℕ) → referrers (relationAs k (Reference x) inStep index by) ≡ []
 unfolding referrers relationAs

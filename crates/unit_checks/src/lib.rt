@@ -202,7 +202,7 @@ fn referrer_check(
     k
 }
 
-// Against that of the definition at d, then those of all that refer to it.
+// Against that of the definition at d, then those of all that refer to it; nothing where there is no quantity.
 fn unit_check(
     t: &[u32],
     units: &[u8],
@@ -217,6 +217,9 @@ fn unit_check(
     requires { ⌜ (now t ≡ unicodeTables) × Indexed (now units) (now index) × OptQuantityWithin (now line) a × Sound (now words) h × AllFit (now sheet) (now words) h × (d < h .counts .ingredients) × (h .counts .findings + h .counts .«ingredient_pairs» < 1544) ⌝ }
     ensures { λ r. ⌜ UnitChecked (unitsOr (readUnits (now (units .entry)))) (now (sheet .entry)) (now (line .entry)) a d (now (words .entry)) h (now (words .exit)) r ⌝ }
 {
+    let OptQuantity::Present(_) = a else {
+        return h;
+    };
     let r = model::row_at(&words[0..6156], d);
     let g = r.relation;
     let e = g.relation;

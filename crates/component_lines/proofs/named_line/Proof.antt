@@ -1,5 +1,6 @@
 use borrow.Author.Needs.{needs}
 use native.Mathlib.Omega.{arith}
+use Rattle.component_lines.proofs.Asked.{same-below}
 use Rattle.component_lines.proofs.Places.{name-ready}
 use Rattle.component_lines.proofs.Whole.{row-ready}
 use Rattle.component_lines.proofs.Named.{to-there, to-small, put-ready, named-done}
@@ -27,7 +28,7 @@ same-of-requires c κs = search needs
 
 -- src/lib.rt:306:9
 old-of-requires : tie.Need-old-of-requires
-old-of-requires c κs = search needs
+old-of-requires c κs = (c .before .before .before .before .before .before .before .before .before .before .pre .3, same-below (c .before .same-of .ensures))
 
 -- src/lib.rt:307:9
 refers-to-requires : tie.Need-refers-to-requires

@@ -1,7 +1,7 @@
 use borrow.Author.Needs.{needs}
 use native.Mathlib.Omega.{arith}
 use Rattle.unit_checks.proofs.Fitting.{unit-known}
-use Rattle.unit_checks.proofs.Units.{row-sound, row-fit, row-below, row-left, check-reference, check-definition}
+use Rattle.unit_checks.proofs.Units.{row-sound, row-fit, row-below, row-left, check-none, check-reference, check-definition}
 use Rattle.unit_checks.proofs.unit_check.Statement.{statement}
 use Rattle.unit_checks.proofs.unit_check.Tie as tie
 use Rattle.unit_checks.proofs.unit_check.Reads as reads
@@ -14,51 +14,62 @@ use Rattle.unit_checks.proofs.referrer_check.Reads as referrer-check-re
 use Rattle.unit_checks.proofs.unit_against.Reads as unit-against-reads
 use Rattle.unit_checks.proofs.unit_field.Reads as unit-field-reads
 
--- src/lib.rt:220:27
-sub-row-at : tie.Need-sub-row-at
-sub-row-at c = search needs
-
--- src/lib.rt:220:27
-part-row-at-start : tie.Need-part-row-at-start
-part-row-at-start c = search needs
-
--- src/lib.rt:220:27
-part-row-at-end : tie.Need-part-row-at-end
-part-row-at-end c = search needs
-
--- src/lib.rt:220:9
-row-at-requires : tie.Need-row-at-requires
-row-at-requires c κs = search needs
-
--- src/lib.rt:223:9
-has-unit-requires : tie.Need-has-unit-requires
-has-unit-requires c κs = search needs
-
--- src/lib.rt:224:9
-unit-field-requires : tie.Need-unit-field-requires
-unit-field-requires c κs = search needs
-
--- src/lib.rt:225:9
-text-outer-trimmed-requires : tie.Need-text-outer-trimmed-requires
-text-outer-trimmed-requires c κs = search needs
-
--- src/lib.rt:226:9
-unit-code-requires : tie.Need-unit-code-requires
-unit-code-requires c κs = search needs
-
--- src/lib.rt:227:9
-unit-against-requires : tie.Need-unit-against-requires
-unit-against-requires c κs = (c .before .before .before .before .before .before .before .before .before .before .before .before .before .before .before .pre .0, c .before .before .before .before .before .before .before .before .before .before .before .before .before .before .before .pre .1, c .before .before .before .before .before .before .before .before .before .before .before .before .before .before .before .pre .2, unit-known (c .before .before .before .before .before .before .before .before .before .before .before .before .before .before .before .pre .2) (c .before .before .before .before .has-unit .ensures) (c .before .before .before .unit-field .ensures) (c .before .before .text-outer-trimmed .ensures) (c .before .unit-code .ensures), c .before .before .before .before .before .before .before .before .before .before .before .before .before .before .before .pre .3, c .before .before .before .before .before .before .before .before .before .before .before .before .before .before .before .pre .4, omega (arith, c .before .before .before .before .before .before .before .before .before .before .before .before .before .before .before .pre .6))
-
--- src/lib.rt:233:13
 enum-told : tie.Need-enum-told
 enum-told c = search needs
 
--- src/lib.rt:229:33
-referrer-check-requires : tie.Need-referrer-check-requires
-referrer-check-requires c κs = (c .before .before .before .before .before .before .before .before .before .before .before .before .before .before .before .before .before .before .before .before .before .pre .0, c .before .before .before .before .before .before .before .before .before .before .before .before .before .before .before .before .before .before .before .before .before .pre .1, c .before .before .before .before .before .before .before .before .before .before .before .before .before .before .before .before .before .before .before .before .before .pre .2, unit-known (c .before .before .before .before .before .before .before .before .before .before .before .before .before .before .before .before .before .before .before .before .before .pre .2) (c .before .before .before .before .before .before .before .before .before .before .has-unit .ensures) (c .before .before .before .before .before .before .before .before .before .unit-field .ensures) (c .before .before .before .before .before .before .before .before .text-outer-trimmed .ensures) (c .before .before .before .before .before .before .before .unit-code .ensures), row-sound (c .before .before .before .before .before .unit-against .ensures) (c .before .before .before .before .before .before .before .before .before .before .before .before .before .before .before .before .before .before .before .before .before .pre .3), row-fit (c .before .before .before .before .before .unit-against .ensures) (c .before .before .before .before .before .before .before .before .before .before .before .before .before .before .before .before .before .before .before .before .before .pre .4), row-below (c .before .before .before .before .before .unit-against .ensures) (c .before .before .before .before .before .before .before .before .before .before .before .before .before .before .before .before .before .before .before .before .before .pre .5), row-left (c .before .before .before .before .before .unit-against .ensures) (c .before .before .before .before .before .before .before .before .before .before .before .before .before .before .before .before .before .before .before .before .before .pre .6))
+-- src/lib.rt:221:9
+enum-told-2 : tie.Need-enum-told-2
+enum-told-2 c = search needs
 
--- src/lib.rt:244:29
+-- src/lib.rt:221:9
+returns : tie.Need-returns
+returns c = check-none (c .enum-told2 .given .1)
+
+-- src/lib.rt:223:27
+sub-row-at : tie.Need-sub-row-at
+sub-row-at c = search needs
+
+-- src/lib.rt:223:27
+part-row-at-start : tie.Need-part-row-at-start
+part-row-at-start c = search needs
+
+-- src/lib.rt:223:27
+part-row-at-end : tie.Need-part-row-at-end
+part-row-at-end c = search needs
+
+-- src/lib.rt:223:9
+row-at-requires : tie.Need-row-at-requires
+row-at-requires c κs = search needs
+
+-- src/lib.rt:226:9
+has-unit-requires : tie.Need-has-unit-requires
+has-unit-requires c κs = search needs
+
+-- src/lib.rt:227:9
+unit-field-requires : tie.Need-unit-field-requires
+unit-field-requires c κs = search needs
+
+-- src/lib.rt:228:9
+text-outer-trimmed-requires : tie.Need-text-outer-trimmed-requires
+text-outer-trimmed-requires c κs = search needs
+
+-- src/lib.rt:229:9
+unit-code-requires : tie.Need-unit-code-requires
+unit-code-requires c κs = search needs
+
+-- src/lib.rt:230:9
+unit-against-requires : tie.Need-unit-against-requires
+unit-against-requires c κs = (c .before .before .before .before .before .before .before .before .before .before .before .before .before .before .before .before .before .pre .0, c .before .before .before .before .before .before .before .before .before .before .before .before .before .before .before .before .before .pre .1, c .before .before .before .before .before .before .before .before .before .before .before .before .before .before .before .before .before .pre .2, unit-known (c .before .before .before .before .before .before .before .before .before .before .before .before .before .before .before .before .before .pre .2) (c .before .before .before .before .has-unit .ensures) (c .before .before .before .unit-field .ensures) (c .before .before .text-outer-trimmed .ensures) (c .before .unit-code .ensures), c .before .before .before .before .before .before .before .before .before .before .before .before .before .before .before .before .before .pre .3, c .before .before .before .before .before .before .before .before .before .before .before .before .before .before .before .before .before .pre .4, omega (arith, c .before .before .before .before .before .before .before .before .before .before .before .before .before .before .before .before .before .pre .6))
+
+-- src/lib.rt:236:13
+enum-told-3 : tie.Need-enum-told-3
+enum-told-3 c = search needs
+
+-- src/lib.rt:232:33
+referrer-check-requires : tie.Need-referrer-check-requires
+referrer-check-requires c κs = (c .before .before .before .before .before .before .before .before .before .before .before .before .before .before .before .before .before .before .before .before .before .before .before .pre .0, c .before .before .before .before .before .before .before .before .before .before .before .before .before .before .before .before .before .before .before .before .before .before .before .pre .1, c .before .before .before .before .before .before .before .before .before .before .before .before .before .before .before .before .before .before .before .before .before .before .before .pre .2, unit-known (c .before .before .before .before .before .before .before .before .before .before .before .before .before .before .before .before .before .before .before .before .before .before .before .pre .2) (c .before .before .before .before .before .before .before .before .before .before .has-unit .ensures) (c .before .before .before .before .before .before .before .before .before .unit-field .ensures) (c .before .before .before .before .before .before .before .before .text-outer-trimmed .ensures) (c .before .before .before .before .before .before .before .unit-code .ensures), row-sound (c .before .before .before .before .before .unit-against .ensures) (c .before .before .before .before .before .before .before .before .before .before .before .before .before .before .before .before .before .before .before .before .before .before .before .pre .3), row-fit (c .before .before .before .before .before .unit-against .ensures) (c .before .before .before .before .before .before .before .before .before .before .before .before .before .before .before .before .before .before .before .before .before .before .before .pre .4), row-below (c .before .before .before .before .before .unit-against .ensures) (c .before .before .before .before .before .before .before .before .before .before .before .before .before .before .before .before .before .before .before .before .before .before .before .pre .5), row-left (c .before .before .before .before .before .unit-against .ensures) (c .before .before .before .before .before .before .before .before .before .before .before .before .before .before .before .before .before .before .before .before .before .before .before .pre .6))
+
+-- src/lib.rt:247:29
 enum-known-e : tie.Need-enum-known-e
 enum-known-e c = search needs
 
@@ -67,21 +78,24 @@ same-length : tie.Need-same-length
 same-length c = search needs
 
 -- src/lib.rt:206:1
-returns : tie.Need-returns
-returns c = check-definition (c .before .before .before .before .before .before .before .before .before .before .before .before .before .before .before .row-at .ensures) (c .before .before .before .before .before .before .before .before .unit-against .ensures) (c .before .before .before .before .enum-told .given .1) (c .before .before .referrer-check .ensures)
+returns-2 : tie.Need-returns-2
+returns-2 c = check-definition (c .before .before .before .before .before .before .before .before .before .before .before .before .before .before .before .row-at .ensures) (c .before .before .before .before .before .before .before .before .unit-against .ensures) (c .before .before .before .before .enum-told3 .given .1) (c .before .before .referrer-check .ensures)
 
 -- src/lib.rt:206:1
 same-length-2 : tie.Need-same-length-2
 same-length-2 c = search needs
 
 -- src/lib.rt:206:1
-returns-2 : tie.Need-returns-2
-returns-2 c = check-reference (c .before .before .before .before .before .before .before .before .before .before .before .before .row-at .ensures) (c .before .before .before .before .before .unit-against .ensures) _ (c .before .e .given .1)
+returns-3 : tie.Need-returns-3
+returns-3 c = check-reference (c .before .before .before .before .before .before .before .before .before .before .before .before .row-at .ensures) (c .before .before .before .before .before .unit-against .ensures) _ (c .before .e .given .1)
 
 pub unit-check-spec : {M : Type 1} → statement M
 unit-check-spec =
     tie.close
     (tie.spec
+    enum-told
+    enum-told-2
+    returns
     sub-row-at
     part-row-at-start
     part-row-at-end
@@ -91,10 +105,10 @@ unit-check-spec =
     text-outer-trimmed-requires
     unit-code-requires
     unit-against-requires
-    enum-told
+    enum-told-3
     referrer-check-requires
     enum-known-e
     same-length
-    returns
+    returns-2
     same-length-2
-    returns-2)
+    returns-3)
