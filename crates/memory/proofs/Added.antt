@@ -1,5 +1,5 @@
 -- A component and its referrer: first its row, then the pair.
-use Prim.Native.Nat.{ℕ, _+_, _*_, _≤_, _<_}
+use Prim.Native.Nat.{ℕ, _+_, _*_, _<_}
 use mathlib.Core.Path.{_≡_, refl, sym, ap, _∙_}
 use mathlib.Core.List.{List, [], _∷_}
 use native.Mathlib.Omega.{arith}
@@ -9,7 +9,7 @@ use Rattle.rules.specs.Model.{Kind, ingredient, cookware, Entry}
 use Rattle.rules.specs.Reference.{setReferencedFrom}
 use Rattle.rules.specs.State.{State, tableOf, setTable}
 use Rattle.model.specs.Rows.{entryAs}
-use Rattle.model.specs.Memory.{windowsOf, stateOf, stateIn, Sound}
+use Rattle.model.specs.Memory.{windowsOf, stateIn, Sound}
 use Rattle.model.specs.declared.Found.{Found}
 use Rattle.model.specs.declared.Found.the-variants.{At, Nothing}
 use Rattle.model.specs.declared.Row.{Row}
@@ -17,12 +17,12 @@ use Rattle.model.specs.declared.Held.{Held}
 use Rattle.model.proofs.Tables.{entries-length}
 use Rattle.model.proofs.Entries.{referred-later, table-set, set-table-twice}
 use Rattle.memory.specs.Pushes.{pairsFrom, countOf, pairsOf, withCount, withPairs, RowPushed, PairPushed, FoundBelow, ComponentAdded}
+use Rattle.memory.proofs.Windows.{rowsIn, pairsIn}
+use Rattle.memory.proofs.Whole.{room-pairs, table-in}
 
 -- a table has as many entries as are counted
 pub table-count : (k : Kind) (sheet w : List ℕ) (h : Held) → length (tableOf k (stateIn sheet w h)) ≡ countOf k h
-unfolding tableOf stateIn stateOf
-table-count ingredient sheet w h = entries-length ingredient sheet (windowsOf w .ingredients) (windowsOf w .ingredientPairs) (h .counts .«ingredient_pairs») (h .counts .ingredients)
-table-count cookware sheet w h = entries-length cookware sheet (windowsOf w .cookware) (windowsOf w .cookwarePairs) (h .counts .«cookware_pairs») (h .counts .cookware)
+table-count k sheet w h = rw (table-in k sheet w h) (entries-length k sheet (rowsIn k (windowsOf w)) (pairsIn k (windowsOf w)) (pairsOf k h) (countOf k h))
 
 pairs-same : (k : Kind) (n : ℕ) (h : Held) → pairsOf k (withCount k n h) ≡ pairsOf k h
 pairs-same ingredient n h = refl
@@ -66,10 +66,6 @@ count-more : (k : Kind) (n : ℕ) (h : Held) → countOf k (withCount k n h) ≡
 count-more ingredient n h = refl
 count-more cookware n h = refl
 
-pairs-few : (k : Kind) {w : List ℕ} {h : Held} → Sound w h → pairsOf k h ≤ countOf k h
-pairs-few ingredient z = z .room .ingredientPairs
-pairs-few cookware z = z .room .cookwarePairs
-
 below-at : {to : Found} (n d : ℕ) → FoundBelow to n → to ≡ At d → d < n
 below-at {to} n d f e = rw e at f
 
@@ -79,7 +75,7 @@ module _ (k : Kind) {w₀ w₁ : List ℕ} {h₀ h₁ : Held} {r : Row} (a : Row
       let n : countOf k h₁ ≡ countOf k h₀ + 1 = ap (countOf k) (a .held) ∙ count-more k (countOf k h₀ + 1) h₀ in
       let p : pairsOf k h₁ ≡ pairsOf k h₀ = ap (pairsOf k) (a .held) ∙ pairs-same k (countOf k h₀ + 1) h₀ in
       let l : d < countOf k h₀ = below-at (countOf k h₀) d f e in
-      (a .sound, omega (arith, pairs-few k z), omega arith)
+      (a .sound, omega (arith, room-pairs k (z .room)), omega arith)
 
   pub added-none : to ≡ Nothing → ComponentAdded k w₀ h₀ r to w₁ h₁
   added-none e = rw e (added-alone k a)

@@ -123,32 +123,24 @@ sound-next : {w : List ℕ} {h : Held} (named : Bool) (n : ℕ) → n ≤ 100000
 sound-next named n l z = record { long = z .long; room = record { ingredients = z .room .ingredients; cookware = z .room .cookware; ingredientPairs = z .room .ingredientPairs; cookwarePairs = z .room .cookwarePairs; findings = z .room .findings; here = omega arith; counter = omega arith; sections = omega arith; blocks = z .room .blocks; items = z .room .items; timers = z .room .timers; inline = z .room .inline; old = z .room .old }; ingredients = z .ingredients; cookware = z .cookware }
 
 module _ {h r : Held} (named : Bool) (l : h .counts .sections < 100000) where
-  pub section-named : h .named ≡ true → r ≡ next named (withSections (h .counts .sections + 1) h) → SectionBegun h named r
-  section-named t e =
+  -- n sections are closed
+  section-by : (n : ℕ) → n ≤ 100000 → ((sheet w : List ℕ) → blank (closeSection (stateIn sheet w h)) ≡ stateIn sheet w (withSections n h)) → r ≡ next named (withSections n h) → SectionBegun h named r
+  section-by n m c e =
       rw e
       record {
-        is = λ sheet w name q. begun sheet w (withSections (h .counts .sections + 1) h) named name q (stateIn sheet w h) (close-named sheet w h t);
+        is = λ sheet w name q. begun sheet w (withSections n h) named name q (stateIn sheet w h) (c sheet w);
         fit = λ sheet w f. record { ingredients = f .ingredients; cookware = f .cookware };
-        sound = λ w z. sound-next named (h .counts .sections + 1) (omega arith) z;
+        sound = λ w z. sound-next named n m z;
       }
+
+  pub section-named : h .named ≡ true → r ≡ next named (withSections (h .counts .sections + 1) h) → SectionBegun h named r
+  section-named t e = section-by (h .counts .sections + 1) (omega arith) (λ sheet w. close-named sheet w h t) e
 
   pub section-filled : h .named ≡ false → (h .counts .here ≡ 0 → ⊥) → r ≡ next named (withSections (h .counts .sections + 1) h) → SectionBegun h named r
-  section-filled t q e =
-      rw e
-      record {
-        is = λ sheet w name q₁. begun sheet w (withSections (h .counts .sections + 1) h) named name q₁ (stateIn sheet w h) (close-filled sheet w h t q);
-        fit = λ sheet w f. record { ingredients = f .ingredients; cookware = f .cookware };
-        sound = λ w z. sound-next named (h .counts .sections + 1) (omega arith) z;
-      }
+  section-filled t q e = section-by (h .counts .sections + 1) (omega arith) (λ sheet w. close-filled sheet w h t q) e
 
   pub section-empty : h .named ≡ false → h .counts .here ≡ 0 → r ≡ next named h → SectionBegun h named r
-  section-empty t q e =
-      rw e
-      record {
-        is = λ sheet w name q₁. begun sheet w h named name q₁ (stateIn sheet w h) (close-empty sheet w h t q);
-        fit = λ sheet w f. record { ingredients = f .ingredients; cookware = f .cookware };
-        sound = λ w z. sound-next named (h .counts .sections) (omega arith) z;
-      }
+  section-empty t q e = section-by (h .counts .sections) (omega arith) (λ sheet w. close-empty sheet w h t q) e
 
 -- ---- limits
 

@@ -7,28 +7,26 @@ use native.Mathlib.Numerals.{add-one}
 use lib.ListN.{length, set, drop, length-drop}
 use lib.Seq.{sets, length-sets, length-take-le}
 use borrow.Rule.Slice.PartMut.{midOf, putMid}
-use Rattle.rules.specs.Model.{ingredient, cookware}
-use Rattle.rules.specs.Reference.{setReferencedFrom}
+use Rattle.rules.specs.Model.{Kind, ingredient, cookware}
 use Rattle.rules.specs.State.{tableOf, setTable, setTables, setPlace, setKept, report}
 use Rattle.rules.specs.Pass.{keepBlock}
-use Rattle.model.specs.Rows.{rowWords, entryAs, notedWords, findingOf, blockOf}
+use Rattle.model.specs.Rows.{rowWords, entriesIn, notedWords}
 use Rattle.model.specs.Memory.{windowsOf, openOf, stateOf, stateIn, Room, Below, Sound}
-use Rattle.model.specs.Fits.{Fits, AllFit}
-use Rattle.model.specs.Small.{withBlock, withCounter, withHere, withBlocks, withIngredients, withCookware, withIngredientPairs, withCookwarePairs, withFindings}
+use Rattle.model.specs.Fits.{Fits, EachRow, AllFit}
+use Rattle.model.specs.Small.{withBlock, withCounter, withHere, withBlocks, withFindings}
 use Rattle.model.specs.declared.Open.the-variants.{Nothing}
 use Rattle.model.specs.declared.Row.{Row}
 use Rattle.model.specs.declared.Noted.{Noted}
 use Rattle.model.specs.declared.Held.{Held}
 use Rattle.model.proofs.Stores.{put-sets}
 use Rattle.model.proofs.Tables.{row-length, each-more, noted-length, entries-more, referrers-none, entries-referred, below-more, findings-more, blocks-more}
-use Rattle.memory.specs.Pushes.{RowPushed, PairPushed, FindingPushed, BlockKept}
-use Rattle.memory.proofs.Windows.{in-ingredients, in-cookware, in-ingredientPairs, in-cookwarePairs, in-findings, in-kinds}
+use Rattle.memory.specs.Pushes.{rowsFrom, pairsFrom, countOf, pairsOf, withCount, withPairs, RowPushed, PairPushed, FindingPushed, BlockKept}
+use Rattle.memory.proofs.Windows.{most, rowsIn, pairsIn, setKind, in-rows, in-pairs, in-findings, in-kinds}
 
 -- ---- windows are as long as their table
 
-module _ (w : List ℕ) (a k : ℕ) where
-  mid-length : a + k ≤ length w → length (midOf a k w) ≡ k
-  mid-length h = length-take-le k (drop a w) (omega (arith, length-drop a w))
+mid-length : (w : List ℕ) (a k : ℕ) → a + k ≤ length w → length (midOf a k w) ≡ k
+mid-length w a k h = length-take-le k (drop a w) (omega (arith, length-drop a w))
 
 module _ {w : List ℕ} {h : Held} (z : Sound w h) where
   pub long-ingredients : length (windowsOf w .ingredients) ≡ 6156
@@ -55,265 +53,176 @@ module _ {w : List ℕ} {h : Held} (z : Sound w h) where
   unfolding windowsOf
   long-kinds = mid-length w 23132 1025 (omega (arith, z .long))
 
--- ---- bounds
+  long-rows : (k : Kind) → length (rowsIn k (windowsOf w)) ≡ most k * 12
+  long-rows ingredient = long-ingredients
+  long-rows cookware = long-cookware
+
+  long-pairs : (k : Kind) → length (pairsIn k (windowsOf w)) ≡ most k * 2
+  long-pairs ingredient = long-ingredientPairs
+  long-pairs cookware = long-cookwarePairs
+
+  still-long : (a j : ℕ) (vs : List ℕ) → 24157 ≤ length (sets w (a + j) vs)
+  still-long a j vs = omega (arith, z .long, length-sets w (a + j) vs)
+
+-- stores in a window that was lent
+lent : (a n : ℕ) (w : List ℕ) (j : ℕ) (vs : List ℕ) → j + length vs ≤ n → {p : List ℕ} → p ≡ sets (midOf a n w) j vs → putMid a n w p ≡ sets w (a + j) vs
+lent a n w j vs l e = ap (putMid a n w) e ∙ put-sets a n w j vs l
+
+-- ---- bounds of a kind
+
+room-count : (k : Kind) {h : Held} → Room h → countOf k h ≤ most k
+room-count ingredient z = z .ingredients
+room-count cookware z = z .cookware
+
+pub room-pairs : (k : Kind) {h : Held} → Room h → pairsOf k h ≤ countOf k h
+room-pairs ingredient z = z .ingredientPairs
+room-pairs cookware z = z .cookwarePairs
+
+below : (k : Kind) {w : List ℕ} {h : Held} → Sound w h → Below (pairsIn k (windowsOf w)) (pairsOf k h) (countOf k h)
+below ingredient z = z .ingredients
+below cookware z = z .cookware
+
+fitting : (k : Kind) {sheet w : List ℕ} {h : Held} → AllFit sheet w h → EachRow (Fits k sheet) (rowsIn k (windowsOf w)) (countOf k h)
+fitting ingredient f = f .ingredients
+fitting cookware f = f .cookware
 
 below-suc : {pairs : List ℕ} {m n : ℕ} → Below pairs m n → Below pairs m (n + 1)
 below-suc {pairs} {m} {n} b = record { at = λ j h. omega (arith, b .at j h) }
 
-module _ {h : Held} (z : Room h) where
-  room-ingredients : h .counts .ingredients < 513 → Room (withIngredients (h .counts .ingredients + 1) h)
-  room-ingredients l = record { ingredients = omega (arith, z .ingredients, z .cookware, z .ingredientPairs, z .cookwarePairs); cookware = z .cookware; ingredientPairs = omega (arith, z .ingredients, z .cookware, z .ingredientPairs, z .cookwarePairs); cookwarePairs = z .cookwarePairs; findings = z .findings; here = z .here; counter = z .counter; sections = z .sections; blocks = z .blocks; items = z .items; timers = z .timers; inline = z .inline; old = z .old }
+-- ---- the table of a kind, and another in its place
 
-  room-cookware : h .counts .cookware < 257 → Room (withCookware (h .counts .cookware + 1) h)
-  room-cookware l = record { ingredients = z .ingredients; cookware = omega (arith, z .ingredients, z .cookware, z .ingredientPairs, z .cookwarePairs); ingredientPairs = z .ingredientPairs; cookwarePairs = omega (arith, z .ingredients, z .cookware, z .ingredientPairs, z .cookwarePairs); findings = z .findings; here = z .here; counter = z .counter; sections = z .sections; blocks = z .blocks; items = z .items; timers = z .timers; inline = z .inline; old = z .old }
+pub table-in : (k : Kind) (sheet w : List ℕ) (h : Held) → tableOf k (stateIn sheet w h) ≡ entriesIn k sheet (rowsIn k (windowsOf w)) (pairsIn k (windowsOf w)) (pairsOf k h) (countOf k h)
+unfolding stateIn stateOf tableOf
+table-in ingredient sheet w h = refl
+table-in cookware sheet w h = refl
 
-  room-ingredientPairs : h .counts .«ingredient_pairs» < h .counts .ingredients → Room (withIngredientPairs (h .counts .«ingredient_pairs» + 1) h)
-  room-ingredientPairs l = record { ingredients = z .ingredients; cookware = z .cookware; ingredientPairs = omega (arith, z .ingredients, z .cookware, z .ingredientPairs, z .cookwarePairs); cookwarePairs = z .cookwarePairs; findings = z .findings; here = z .here; counter = z .counter; sections = z .sections; blocks = z .blocks; items = z .items; timers = z .timers; inline = z .inline; old = z .old }
+abbrev withTable : Kind → ℕ → ℕ → Held → Held
+withTable k n m h = withPairs k m (withCount k n h)
 
-  room-cookwarePairs : h .counts .«cookware_pairs» < h .counts .cookware → Room (withCookwarePairs (h .counts .«cookware_pairs» + 1) h)
-  room-cookwarePairs l = record { ingredients = z .ingredients; cookware = z .cookware; ingredientPairs = z .ingredientPairs; cookwarePairs = omega (arith, z .ingredients, z .cookware, z .ingredientPairs, z .cookwarePairs); findings = z .findings; here = z .here; counter = z .counter; sections = z .sections; blocks = z .blocks; items = z .items; timers = z .timers; inline = z .inline; old = z .old }
+-- v and g are w and h, but for the table of k: n rows and m pairs, in these windows
+record Tabled (k : Kind) (w : List ℕ) (h : Held) (rows : List ℕ) (n : ℕ) (pairs : List ℕ) (m : ℕ) (v : List ℕ) (g : Held) : Type 0 where
+  windows : windowsOf v ≡ setKind k rows pairs (windowsOf w)
+  held : g ≡ withTable k n m h
+  long : 24157 ≤ length v
 
-  room-findings : h .counts .findings < 1544 → Room (withFindings (h .counts .findings + 1) h)
-  room-findings l = record { ingredients = z .ingredients; cookware = z .cookware; ingredientPairs = z .ingredientPairs; cookwarePairs = z .cookwarePairs; findings = omega (arith, z .ingredients, z .cookware, z .ingredientPairs, z .cookwarePairs); here = z .here; counter = z .counter; sections = z .sections; blocks = z .blocks; items = z .items; timers = z .timers; inline = z .inline; old = z .old }
+-- after stores in its rows, or in its pairs
+module _ {w v : List ℕ} {h : Held} (z : Sound w h) (j : ℕ) (vs : List ℕ) where
+  tabled-rows : (k : Kind) (n : ℕ) → j + length vs ≤ most k * 12 → v ≡ sets w (rowsFrom k + j) vs → Tabled k w h (sets (rowsIn k (windowsOf w)) j vs) n (pairsIn k (windowsOf w)) (pairsOf k h) v (withCount k n h)
+  tabled-rows ingredient n l q = record { windows = rw q (in-rows w j vs ingredient l); held = refl; long = rw q (still-long z 0 j vs) }
+  tabled-rows cookware n l q = record { windows = rw q (in-rows w j vs cookware l); held = refl; long = rw q (still-long z 6156 j vs) }
 
-  room-block : (c : ℕ) → h .counts .here < 1025 → h .counts .blocks < 100000 → c ≤ 100000
-      → Room (withBlock Nothing (withCounter c (withBlocks (h .counts .blocks + 1) (withHere (h .counts .here + 1) h))))
-  room-block c l m n = record { ingredients = z .ingredients; cookware = z .cookware; ingredientPairs = z .ingredientPairs; cookwarePairs = z .cookwarePairs; findings = z .findings; here = omega (arith, z .ingredients, z .cookware, z .ingredientPairs, z .cookwarePairs); counter = omega (arith, z .ingredients, z .cookware, z .ingredientPairs, z .cookwarePairs); sections = z .sections; blocks = omega (arith, z .ingredients, z .cookware, z .ingredientPairs, z .cookwarePairs); items = z .items; timers = z .timers; inline = z .inline; old = z .old }
+  tabled-pairs : (k : Kind) (m : ℕ) → j + length vs ≤ most k * 2 → v ≡ sets w (pairsFrom k + j) vs → Tabled k w h (rowsIn k (windowsOf w)) (countOf k h) (sets (pairsIn k (windowsOf w)) j vs) m v (withPairs k m h)
+  tabled-pairs ingredient m l q = record { windows = rw q (in-pairs w j vs ingredient l); held = refl; long = rw q (still-long z 9240 j vs) }
+  tabled-pairs cookware m l q = record { windows = rw q (in-pairs w j vs cookware l); held = refl; long = rw q (still-long z 10266 j vs) }
 
--- ---- a component more
+room-with : (k : Kind) {h : Held} (n m : ℕ) → Room h → n ≤ most k → m ≤ n → Room (withTable k n m h)
+room-with ingredient n m z a b = record { ingredients = a; cookware = z .cookware; ingredientPairs = b; cookwarePairs = z .cookwarePairs; findings = z .findings; here = z .here; counter = z .counter; sections = z .sections; blocks = z .blocks; items = z .items; timers = z .timers; inline = z .inline; old = z .old }
+room-with cookware n m z a b = record { ingredients = z .ingredients; cookware = a; ingredientPairs = z .ingredientPairs; cookwarePairs = b; findings = z .findings; here = z .here; counter = z .counter; sections = z .sections; blocks = z .blocks; items = z .items; timers = z .timers; inline = z .inline; old = z .old }
 
-module _ {w : List ℕ} {h : Held} (z : Sound w h) (r : Row) (l : h .counts .ingredients < 513) where
-  ingredient-fits : h .counts .ingredients * 12 + length (rowWords r) ≤ 6156
-  ingredient-fits = omega (arith, row-length r)
+module _ {w rows pairs v : List ℕ} {n m : ℕ} {h g : Held} where
+  tabled-is : (k : Kind) → Tabled k w h rows n pairs m v g → (sheet : List ℕ) → stateIn sheet v g ≡ setTable k (entriesIn k sheet rows pairs m n) (stateIn sheet w h)
+  unfolding stateIn stateOf setTable setTables
+  tabled-is ingredient t sheet = rw (t .windows, t .held)
+  tabled-is cookware t sheet = rw (t .windows, t .held)
 
-  ingredient-is : (sheet : List ℕ) → stateIn sheet (sets w (0 + h .counts .ingredients * 12) (rowWords r)) (withIngredients (h .counts .ingredients + 1) h)
-      ≡ setTable ingredient (entryAs ingredient sheet r [] ∷ tableOf ingredient (stateIn sheet w h)) (stateIn sheet w h)
-  unfolding stateIn stateOf setTable setTables tableOf
-  ingredient-is sheet =
-      rw (
-        in-ingredients w (h .counts .ingredients * 12) (rowWords r) ingredient-fits,
-        add-one (h .counts .ingredients),
-        entries-more ingredient sheet (windowsOf w .ingredients) (windowsOf w .ingredientPairs) (h .counts .«ingredient_pairs») (h .counts .ingredients) r (omega (arith, long-ingredients z)),
-        referrers-none (windowsOf w .ingredientPairs) (h .counts .«ingredient_pairs») (h .counts .ingredients) (z .ingredients),
-      )
+  tabled-fit : (k : Kind) → Tabled k w h rows n pairs m v g → {sheet : List ℕ} → AllFit sheet w h → EachRow (Fits k sheet) rows n → AllFit sheet v g
+  tabled-fit ingredient t f x = rw (t .held) record { ingredients = rw (t .windows) x; cookware = rw (t .windows) (f .cookware) }
+  tabled-fit cookware t f x = rw (t .held) record { ingredients = rw (t .windows) (f .ingredients); cookware = rw (t .windows) x }
 
-  ingredient-sound : Sound (sets w (0 + h .counts .ingredients * 12) (rowWords r)) (withIngredients (h .counts .ingredients + 1) h)
-  ingredient-sound =
-      record {
-        long = omega (arith, z .long, length-sets w (0 + h .counts .ingredients * 12) (rowWords r));
-        room = room-ingredients (z .room) l;
-        ingredients = rw (in-ingredients w (h .counts .ingredients * 12) (rowWords r) ingredient-fits) (below-suc (z .ingredients));
-        cookware = rw (in-ingredients w (h .counts .ingredients * 12) (rowWords r) ingredient-fits) (z .cookware);
-      }
+  tabled-sound : (k : Kind) → Tabled k w h rows n pairs m v g → Sound w h → n ≤ most k → m ≤ n → Below pairs m n → Sound v g
+  tabled-sound ingredient t z a b x = rw (t .held) record { long = t .long; room = room-with ingredient n m (z .room) a b; ingredients = rw (t .windows) x; cookware = rw (t .windows) (z .cookware) }
+  tabled-sound cookware t z a b x = rw (t .held) record { long = t .long; room = room-with cookware n m (z .room) a b; ingredients = rw (t .windows) (z .ingredients); cookware = rw (t .windows) x }
 
-  ingredient-fit : (sheet : List ℕ) → AllFit sheet w h → Fits ingredient sheet r → AllFit sheet (sets w (0 + h .counts .ingredients * 12) (rowWords r)) (withIngredients (h .counts .ingredients + 1) h)
-  ingredient-fit sheet f x =
-      rw (add-one (h .counts .ingredients))
-      record {
-        ingredients = rw (in-ingredients w (h .counts .ingredients * 12) (rowWords r) ingredient-fits) (each-more (Fits ingredient sheet) (windowsOf w .ingredients) (h .counts .ingredients) r (f .ingredients) x (omega (arith, long-ingredients z)));
-        cookware = rw (in-ingredients w (h .counts .ingredients * 12) (rowWords r) ingredient-fits) (f .cookware);
-      }
+-- ---- a component more: its row, stored in the window that was lent
 
-  -- a row stored in the window that was lent
-  pub ingredient-pushed : (p : List ℕ) → p ≡ sets (midOf 0 6156 w) (h .counts .ingredients * 12) (rowWords r)
-      → RowPushed ingredient w h r (putMid 0 6156 w p) (withIngredients (h .counts .ingredients + 1) h)
-  ingredient-pushed p e =
-      let q : putMid 0 6156 w p ≡ sets w (0 + h .counts .ingredients * 12) (rowWords r) = ap (putMid 0 6156 w) e ∙ put-sets 0 6156 w (h .counts .ingredients * 12) (rowWords r) ingredient-fits in
-      record { words = q; held = refl; is = λ sheet. rw q (ingredient-is sheet); fit = λ sheet f x. rw q (ingredient-fit sheet f x); sound = rw q ingredient-sound }
+pub row-pushed : (k : Kind) {w : List ℕ} {h : Held} → Sound w h → (r : Row) → countOf k h < most k → (p : List ℕ) → p ≡ sets (midOf (rowsFrom k) (most k * 12) w) (countOf k h * 12) (rowWords r)
+    → RowPushed k w h r (putMid (rowsFrom k) (most k * 12) w p) (withCount k (countOf k h + 1) h)
+row-pushed k {w} {h} z r l p e =
+    let room : countOf k h * 12 + length (rowWords r) ≤ most k * 12 = omega (arith, row-length r) in
+    let long : countOf k h * 12 + 12 ≤ length (rowsIn k (windowsOf w)) = omega (arith, long-rows z k) in
+    let q = lent (rowsFrom k) (most k * 12) w (countOf k h * 12) (rowWords r) room e in
+    let t = tabled-rows z (countOf k h * 12) (rowWords r) k (countOf k h + 1) room q in
+    record {
+      words = q;
+      held = refl;
+      is =
+          λ sheet.
+          rw (
+            tabled-is k t sheet,
+            add-one (countOf k h),
+            entries-more k sheet (rowsIn k (windowsOf w)) (pairsIn k (windowsOf w)) (pairsOf k h) (countOf k h) r long,
+            referrers-none (pairsIn k (windowsOf w)) (pairsOf k h) (countOf k h) (below k z),
+            table-in k sheet w h,
+          );
+      fit = λ sheet f x. tabled-fit k t f (rw (add-one (countOf k h)) (each-more (Fits k sheet) (rowsIn k (windowsOf w)) (countOf k h) r (fitting k f) x long));
+      sound = tabled-sound k t z (omega arith) (omega (arith, room-pairs k (z .room))) (below-suc (below k z));
+    }
 
-module _ {w : List ℕ} {h : Held} (z : Sound w h) (r : Row) (l : h .counts .cookware < 257) where
-  cookware-fits : h .counts .cookware * 12 + length (rowWords r) ≤ 3084
-  cookware-fits = omega (arith, row-length r)
+-- ---- a referrer more: its pair
 
-  cookware-is : (sheet : List ℕ) → stateIn sheet (sets w (6156 + h .counts .cookware * 12) (rowWords r)) (withCookware (h .counts .cookware + 1) h)
-      ≡ setTable cookware (entryAs cookware sheet r [] ∷ tableOf cookware (stateIn sheet w h)) (stateIn sheet w h)
-  unfolding stateIn stateOf setTable setTables tableOf
-  cookware-is sheet =
-      rw (
-        in-cookware w (h .counts .cookware * 12) (rowWords r) cookware-fits,
-        add-one (h .counts .cookware),
-        entries-more cookware sheet (windowsOf w .cookware) (windowsOf w .cookwarePairs) (h .counts .«cookware_pairs») (h .counts .cookware) r (omega (arith, long-cookware z)),
-        referrers-none (windowsOf w .cookwarePairs) (h .counts .«cookware_pairs») (h .counts .cookware) (z .cookware),
-      )
-
-  cookware-sound : Sound (sets w (6156 + h .counts .cookware * 12) (rowWords r)) (withCookware (h .counts .cookware + 1) h)
-  cookware-sound =
-      record {
-        long = omega (arith, z .long, length-sets w (6156 + h .counts .cookware * 12) (rowWords r));
-        room = room-cookware (z .room) l;
-        ingredients = rw (in-cookware w (h .counts .cookware * 12) (rowWords r) cookware-fits) (z .ingredients);
-        cookware = rw (in-cookware w (h .counts .cookware * 12) (rowWords r) cookware-fits) (below-suc (z .cookware));
-      }
-
-  cookware-fit : (sheet : List ℕ) → AllFit sheet w h → Fits cookware sheet r → AllFit sheet (sets w (6156 + h .counts .cookware * 12) (rowWords r)) (withCookware (h .counts .cookware + 1) h)
-  cookware-fit sheet f x =
-      rw (add-one (h .counts .cookware))
-      record {
-        ingredients = rw (in-cookware w (h .counts .cookware * 12) (rowWords r) cookware-fits) (f .ingredients);
-        cookware = rw (in-cookware w (h .counts .cookware * 12) (rowWords r) cookware-fits) (each-more (Fits cookware sheet) (windowsOf w .cookware) (h .counts .cookware) r (f .cookware) x (omega (arith, long-cookware z)));
-      }
-
-  -- a row stored in the window that was lent
-  pub cookware-pushed : (p : List ℕ) → p ≡ sets (midOf 6156 3084 w) (h .counts .cookware * 12) (rowWords r)
-      → RowPushed cookware w h r (putMid 6156 3084 w p) (withCookware (h .counts .cookware + 1) h)
-  cookware-pushed p e =
-      let q : putMid 6156 3084 w p ≡ sets w (6156 + h .counts .cookware * 12) (rowWords r) = ap (putMid 6156 3084 w) e ∙ put-sets 6156 3084 w (h .counts .cookware * 12) (rowWords r) cookware-fits in
-      record { words = q; held = refl; is = λ sheet. rw q (cookware-is sheet); fit = λ sheet f x. rw q (cookware-fit sheet f x); sound = rw q cookware-sound }
-
--- ---- a referrer more
-
-module _ {w : List ℕ} {h : Held} (z : Sound w h) (d r : ℕ) (l : h .counts .«ingredient_pairs» < h .counts .ingredients) (g : d < h .counts .ingredients) where
-  ingredient-pair-fits : h .counts .«ingredient_pairs» * 2 + length (d ∷ r ∷ []) ≤ 1026
-  ingredient-pair-fits = omega (arith, z .room .ingredients)
-
-  ingredient-pair-long : h .counts .«ingredient_pairs» * 2 + 2 ≤ length (windowsOf w .ingredientPairs)
-  ingredient-pair-long = omega (arith, z .room .ingredients, long-ingredientPairs z)
-
-  ingredient-pair-is : (sheet : List ℕ) → stateIn sheet (sets w (9240 + h .counts .«ingredient_pairs» * 2) (d ∷ r ∷ [])) (withIngredientPairs (h .counts .«ingredient_pairs» + 1) h)
-      ≡ setTable ingredient (setReferencedFrom d r (tableOf ingredient (stateIn sheet w h))) (stateIn sheet w h)
-  unfolding stateIn stateOf setTable setTables tableOf
-  ingredient-pair-is sheet =
-      rw (
-        in-ingredientPairs w (h .counts .«ingredient_pairs» * 2) (d ∷ r ∷ []) ingredient-pair-fits,
-        add-one (h .counts .«ingredient_pairs»),
-        entries-referred (windowsOf w .ingredientPairs) (h .counts .«ingredient_pairs») d r ingredient-pair-long ingredient sheet (windowsOf w .ingredients) (h .counts .ingredients),
-      )
-
-  ingredient-pair-sound : Sound (sets w (9240 + h .counts .«ingredient_pairs» * 2) (d ∷ r ∷ [])) (withIngredientPairs (h .counts .«ingredient_pairs» + 1) h)
-  ingredient-pair-sound =
-      record {
-        long = omega (arith, z .long, length-sets w (9240 + h .counts .«ingredient_pairs» * 2) (d ∷ r ∷ []));
-        room = room-ingredientPairs (z .room) l;
-        ingredients = rw (in-ingredientPairs w (h .counts .«ingredient_pairs» * 2) (d ∷ r ∷ []) ingredient-pair-fits, add-one (h .counts .«ingredient_pairs»)) (below-more (windowsOf w .ingredientPairs) (h .counts .«ingredient_pairs») d r ingredient-pair-long (h .counts .ingredients) (z .ingredients) g);
-        cookware = rw (in-ingredientPairs w (h .counts .«ingredient_pairs» * 2) (d ∷ r ∷ []) ingredient-pair-fits) (z .cookware);
-      }
-
-  ingredient-pair-fit : (sheet : List ℕ) → AllFit sheet w h → AllFit sheet (sets w (9240 + h .counts .«ingredient_pairs» * 2) (d ∷ r ∷ [])) (withIngredientPairs (h .counts .«ingredient_pairs» + 1) h)
-  ingredient-pair-fit sheet f =
-      record {
-        ingredients = rw (in-ingredientPairs w (h .counts .«ingredient_pairs» * 2) (d ∷ r ∷ []) ingredient-pair-fits) (f .ingredients);
-        cookware = rw (in-ingredientPairs w (h .counts .«ingredient_pairs» * 2) (d ∷ r ∷ []) ingredient-pair-fits) (f .cookware);
-      }
-
-  pub ingredient-referred : (p : List ℕ) → p ≡ sets (midOf 9240 1026 w) (h .counts .«ingredient_pairs» * 2) (d ∷ r ∷ [])
-      → PairPushed ingredient w h d r (putMid 9240 1026 w p) (withIngredientPairs (h .counts .«ingredient_pairs» + 1) h)
-  ingredient-referred p e =
-      let q : putMid 9240 1026 w p ≡ sets w (9240 + h .counts .«ingredient_pairs» * 2) (d ∷ r ∷ []) = ap (putMid 9240 1026 w) e ∙ put-sets 9240 1026 w (h .counts .«ingredient_pairs» * 2) (d ∷ r ∷ []) ingredient-pair-fits in
-      record { words = q; held = refl; is = λ sheet. rw q (ingredient-pair-is sheet); fit = λ sheet f. rw q (ingredient-pair-fit sheet f); sound = rw q ingredient-pair-sound }
-
-module _ {w : List ℕ} {h : Held} (z : Sound w h) (d r : ℕ) (l : h .counts .«cookware_pairs» < h .counts .cookware) (g : d < h .counts .cookware) where
-  cookware-pair-fits : h .counts .«cookware_pairs» * 2 + length (d ∷ r ∷ []) ≤ 514
-  cookware-pair-fits = omega (arith, z .room .cookware)
-
-  cookware-pair-long : h .counts .«cookware_pairs» * 2 + 2 ≤ length (windowsOf w .cookwarePairs)
-  cookware-pair-long = omega (arith, z .room .cookware, long-cookwarePairs z)
-
-  cookware-pair-is : (sheet : List ℕ) → stateIn sheet (sets w (10266 + h .counts .«cookware_pairs» * 2) (d ∷ r ∷ [])) (withCookwarePairs (h .counts .«cookware_pairs» + 1) h)
-      ≡ setTable cookware (setReferencedFrom d r (tableOf cookware (stateIn sheet w h))) (stateIn sheet w h)
-  unfolding stateIn stateOf setTable setTables tableOf
-  cookware-pair-is sheet =
-      rw (
-        in-cookwarePairs w (h .counts .«cookware_pairs» * 2) (d ∷ r ∷ []) cookware-pair-fits,
-        add-one (h .counts .«cookware_pairs»),
-        entries-referred (windowsOf w .cookwarePairs) (h .counts .«cookware_pairs») d r cookware-pair-long cookware sheet (windowsOf w .cookware) (h .counts .cookware),
-      )
-
-  cookware-pair-sound : Sound (sets w (10266 + h .counts .«cookware_pairs» * 2) (d ∷ r ∷ [])) (withCookwarePairs (h .counts .«cookware_pairs» + 1) h)
-  cookware-pair-sound =
-      record {
-        long = omega (arith, z .long, length-sets w (10266 + h .counts .«cookware_pairs» * 2) (d ∷ r ∷ []));
-        room = room-cookwarePairs (z .room) l;
-        cookware = rw (in-cookwarePairs w (h .counts .«cookware_pairs» * 2) (d ∷ r ∷ []) cookware-pair-fits, add-one (h .counts .«cookware_pairs»)) (below-more (windowsOf w .cookwarePairs) (h .counts .«cookware_pairs») d r cookware-pair-long (h .counts .cookware) (z .cookware) g);
-        ingredients = rw (in-cookwarePairs w (h .counts .«cookware_pairs» * 2) (d ∷ r ∷ []) cookware-pair-fits) (z .ingredients);
-      }
-
-  cookware-pair-fit : (sheet : List ℕ) → AllFit sheet w h → AllFit sheet (sets w (10266 + h .counts .«cookware_pairs» * 2) (d ∷ r ∷ [])) (withCookwarePairs (h .counts .«cookware_pairs» + 1) h)
-  cookware-pair-fit sheet f =
-      record {
-        ingredients = rw (in-cookwarePairs w (h .counts .«cookware_pairs» * 2) (d ∷ r ∷ []) cookware-pair-fits) (f .ingredients);
-        cookware = rw (in-cookwarePairs w (h .counts .«cookware_pairs» * 2) (d ∷ r ∷ []) cookware-pair-fits) (f .cookware);
-      }
-
-  pub cookware-referred : (p : List ℕ) → p ≡ sets (midOf 10266 514 w) (h .counts .«cookware_pairs» * 2) (d ∷ r ∷ [])
-      → PairPushed cookware w h d r (putMid 10266 514 w p) (withCookwarePairs (h .counts .«cookware_pairs» + 1) h)
-  cookware-referred p e =
-      let q : putMid 10266 514 w p ≡ sets w (10266 + h .counts .«cookware_pairs» * 2) (d ∷ r ∷ []) = ap (putMid 10266 514 w) e ∙ put-sets 10266 514 w (h .counts .«cookware_pairs» * 2) (d ∷ r ∷ []) cookware-pair-fits in
-      record { words = q; held = refl; is = λ sheet. rw q (cookware-pair-is sheet); fit = λ sheet f. rw q (cookware-pair-fit sheet f); sound = rw q cookware-pair-sound }
+pub pair-pushed : (k : Kind) {w : List ℕ} {h : Held} → Sound w h → (d r : ℕ) → pairsOf k h < countOf k h → d < countOf k h → (p : List ℕ) → p ≡ sets (midOf (pairsFrom k) (most k * 2) w) (pairsOf k h * 2) (d ∷ r ∷ [])
+    → PairPushed k w h d r (putMid (pairsFrom k) (most k * 2) w p) (withPairs k (pairsOf k h + 1) h)
+pair-pushed k {w} {h} z d r l g p e =
+    let room : pairsOf k h * 2 + length (d ∷ r ∷ []) ≤ most k * 2 = omega (arith, room-count k (z .room)) in
+    let long : pairsOf k h * 2 + 2 ≤ length (pairsIn k (windowsOf w)) = omega (arith, room-count k (z .room), long-pairs z k) in
+    let q = lent (pairsFrom k) (most k * 2) w (pairsOf k h * 2) (d ∷ r ∷ []) room e in
+    let t = tabled-pairs z (pairsOf k h * 2) (d ∷ r ∷ []) k (pairsOf k h + 1) room q in
+    record {
+      words = q;
+      held = refl;
+      is =
+          λ sheet.
+          rw (
+            tabled-is k t sheet,
+            add-one (pairsOf k h),
+            entries-referred (pairsIn k (windowsOf w)) (pairsOf k h) d r long k sheet (rowsIn k (windowsOf w)) (countOf k h),
+            table-in k sheet w h,
+          );
+      fit = λ sheet f. tabled-fit k t f (fitting k f);
+      sound = tabled-sound k t z (room-count k (z .room)) (omega arith) (rw (add-one (pairsOf k h)) (below-more (pairsIn k (windowsOf w)) (pairsOf k h) d r long (countOf k h) (below k z) g));
+    }
 
 -- ---- a finding more
 
+room-findings : {h : Held} → Room h → h .counts .findings < 1544 → Room (withFindings (h .counts .findings + 1) h)
+room-findings z l = record { ingredients = z .ingredients; cookware = z .cookware; ingredientPairs = z .ingredientPairs; cookwarePairs = z .cookwarePairs; findings = omega arith; here = z .here; counter = z .counter; sections = z .sections; blocks = z .blocks; items = z .items; timers = z .timers; inline = z .inline; old = z .old }
+
 module _ {w : List ℕ} {h : Held} (z : Sound w h) (x : Noted) (l : h .counts .findings < 1544) where
-  finding-fits : h .counts .findings * 8 + length (notedWords x) ≤ 12352
-  finding-fits = omega (arith, noted-length x)
-
-  finding-is : (sheet : List ℕ) → stateIn sheet (sets w (10780 + h .counts .findings * 8) (notedWords x)) (withFindings (h .counts .findings + 1) h)
-      ≡ report (findingOf x ∷ []) (stateIn sheet w h)
-  unfolding stateIn stateOf report
-  finding-is sheet =
-      rw (
-        in-findings w (h .counts .findings * 8) (notedWords x) finding-fits,
-        add-one (h .counts .findings),
-        findings-more (windowsOf w .findings) (h .counts .findings) x (omega (arith, long-findings z)),
-      )
-
-  finding-sound : Sound (sets w (10780 + h .counts .findings * 8) (notedWords x)) (withFindings (h .counts .findings + 1) h)
-  finding-sound =
-      record {
-        long = omega (arith, z .long, length-sets w (10780 + h .counts .findings * 8) (notedWords x));
-        room = room-findings (z .room) l;
-        ingredients = rw (in-findings w (h .counts .findings * 8) (notedWords x) finding-fits) (z .ingredients);
-        cookware = rw (in-findings w (h .counts .findings * 8) (notedWords x) finding-fits) (z .cookware);
-      }
-
-  finding-fit : (sheet : List ℕ) → AllFit sheet w h → AllFit sheet (sets w (10780 + h .counts .findings * 8) (notedWords x)) (withFindings (h .counts .findings + 1) h)
-  finding-fit sheet f =
-      record {
-        ingredients = rw (in-findings w (h .counts .findings * 8) (notedWords x) finding-fits) (f .ingredients);
-        cookware = rw (in-findings w (h .counts .findings * 8) (notedWords x) finding-fits) (f .cookware);
-      }
-
   pub finding-pushed : (p : List ℕ) → p ≡ sets (midOf 10780 12352 w) (h .counts .findings * 8) (notedWords x)
       → FindingPushed w h x (putMid 10780 12352 w p) (withFindings (h .counts .findings + 1) h)
+  unfolding stateIn stateOf report
   finding-pushed p e =
-      let q : putMid 10780 12352 w p ≡ sets w (10780 + h .counts .findings * 8) (notedWords x) = ap (putMid 10780 12352 w) e ∙ put-sets 10780 12352 w (h .counts .findings * 8) (notedWords x) finding-fits in
-      record { words = q; held = refl; is = λ sheet. rw q (finding-is sheet); fit = λ sheet f. rw q (finding-fit sheet f); sound = rw q finding-sound }
+      let room : h .counts .findings * 8 + length (notedWords x) ≤ 12352 = omega (arith, noted-length x) in
+      let q = lent 10780 12352 w (h .counts .findings * 8) (notedWords x) room e in
+      let i = in-findings w (h .counts .findings * 8) (notedWords x) room in
+      record {
+        words = q;
+        held = refl;
+        is = λ sheet. rw (q, i, add-one (h .counts .findings), findings-more (windowsOf w .findings) (h .counts .findings) x (omega (arith, long-findings z)));
+        fit = λ sheet f. record { ingredients = rw (q, i) (f .ingredients); cookware = rw (q, i) (f .cookware) };
+        sound = record { long = rw q (still-long z 10780 (h .counts .findings * 8) (notedWords x)); room = room-findings (z .room) l; ingredients = rw (q, i) (z .ingredients); cookware = rw (q, i) (z .cookware) };
+      }
 
 -- ---- a block more
 
 abbrev kept : ℕ → Held → Held
 kept c h = withBlock Nothing (withCounter c (withBlocks (h .counts .blocks + 1) (withHere (h .counts .here + 1) h)))
 
+room-kept : {h : Held} → Room h → (c : ℕ) → h .counts .here < 1025 → h .counts .blocks < 100000 → c ≤ 100000 → Room (kept c h)
+room-kept z c l m n = record { ingredients = z .ingredients; cookware = z .cookware; ingredientPairs = z .ingredientPairs; cookwarePairs = z .cookwarePairs; findings = z .findings; here = omega arith; counter = n; sections = z .sections; blocks = omega arith; items = z .items; timers = z .timers; inline = z .inline; old = z .old }
+
 module _ {w : List ℕ} {h : Held} (z : Sound w h) (v c : ℕ) (l : h .counts .here < 1025) (m : h .counts .blocks < 100000) (n : c ≤ 100000) where
-  block-fits : h .counts .here + length (v ∷ []) ≤ 1025
-  block-fits = omega arith
-
-  block-is : (sheet : List ℕ) → stateIn sheet (sets w (23132 + h .counts .here) (v ∷ [])) (kept c h) ≡ keepBlock (blockOf v) c (stateIn sheet w h)
-  unfolding stateIn stateOf keepBlock setKept setPlace openOf
-  block-is sheet =
-      rw (
-        in-kinds w (h .counts .here) (v ∷ []) block-fits,
-        add-one (h .counts .here),
-        add-one (h .counts .blocks),
-        blocks-more (windowsOf w .kinds) (h .counts .here) v (omega (arith, long-kinds z)),
-      )
-
-  block-sound : Sound (sets w (23132 + h .counts .here) (v ∷ [])) (kept c h)
-  block-sound =
-      record {
-        long = omega (arith, z .long, length-sets w (23132 + h .counts .here) (v ∷ []));
-        room = room-block (z .room) c l m n;
-        ingredients = rw (in-kinds w (h .counts .here) (v ∷ []) block-fits) (z .ingredients);
-        cookware = rw (in-kinds w (h .counts .here) (v ∷ []) block-fits) (z .cookware);
-      }
-
-  block-fit : (sheet : List ℕ) → AllFit sheet w h → AllFit sheet (sets w (23132 + h .counts .here) (v ∷ [])) (kept c h)
-  block-fit sheet f =
-      record {
-        ingredients = rw (in-kinds w (h .counts .here) (v ∷ []) block-fits) (f .ingredients);
-        cookware = rw (in-kinds w (h .counts .here) (v ∷ []) block-fits) (f .cookware);
-      }
-
   pub block-kept : (p : List ℕ) → p ≡ set (midOf 23132 1025 w) (h .counts .here) v → {r : Held} → r ≡ kept c h → BlockKept w h v c (putMid 23132 1025 w p) r
+  unfolding stateIn stateOf keepBlock setKept setPlace openOf
   block-kept p e {r} f =
-      let q : putMid 23132 1025 w p ≡ sets w (23132 + h .counts .here) (v ∷ []) = ap (putMid 23132 1025 w) e ∙ put-sets 23132 1025 w (h .counts .here) (v ∷ []) block-fits in
-      record { words = q; held = f; is = λ sheet. rw (q, f) (block-is sheet); fit = λ sheet g. rw (q, f) (block-fit sheet g); sound = rw (q, f) block-sound }
+      let room : h .counts .here + length (v ∷ []) ≤ 1025 = omega arith in
+      let q = lent 23132 1025 w (h .counts .here) (v ∷ []) room e in
+      let i = in-kinds w (h .counts .here) (v ∷ []) room in
+      rw f
+      record {
+        words = q;
+        held = refl;
+        is = λ sheet. rw (q, i, add-one (h .counts .here), add-one (h .counts .blocks), blocks-more (windowsOf w .kinds) (h .counts .here) v (omega (arith, long-kinds z)));
+        fit = λ sheet g. record { ingredients = rw (q, i) (g .ingredients); cookware = rw (q, i) (g .cookware) };
+        sound = record { long = rw q (still-long z 23132 (h .counts .here) (v ∷ [])); room = room-kept (z .room) c l m n; ingredients = rw (q, i) (z .ingredients); cookware = rw (q, i) (z .cookware) };
+      }

@@ -1,6 +1,7 @@
 use borrow.Author.Needs.{needs}
 use native.Mathlib.Omega.{arith}
-use Rattle.memory.proofs.Whole.{cookware-pushed}
+use Rattle.rules.specs.Model.{cookware}
+use Rattle.memory.proofs.Whole.{row-pushed}
 use Rattle.memory.proofs.push_cookware.Statement.{statement}
 use Rattle.memory.proofs.push_cookware.Tie as tie
 use Rattle.memory.proofs.push_cookware.Reads as reads
@@ -33,7 +34,7 @@ same-length c = search needs
 
 -- src/lib.rt:47:1
 returns : tie.Need-returns
-returns c = cookware-pushed (c .before .before .before .before .before .before .pre .0) (c .before .before .before .before .before .before .args .row) (c .before .before .before .before .before .before .pre .1) _ (c .before .before .before .put-row .ensures)
+returns c = row-pushed cookware (c .before .before .before .before .before .before .pre .0) (c .before .before .before .before .before .before .args .row) (c .before .before .before .before .before .before .pre .1) _ (c .before .before .before .put-row .ensures)
 
 pub push-cookware-spec : {M : Type 1} → statement M
 push-cookware-spec =

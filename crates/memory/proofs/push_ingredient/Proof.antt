@@ -1,6 +1,7 @@
 use borrow.Author.Needs.{needs}
 use native.Mathlib.Omega.{arith}
-use Rattle.memory.proofs.Whole.{ingredient-pushed}
+use Rattle.rules.specs.Model.{ingredient}
+use Rattle.memory.proofs.Whole.{row-pushed}
 use Rattle.memory.proofs.push_ingredient.Statement.{statement}
 use Rattle.memory.proofs.push_ingredient.Tie as tie
 use Rattle.memory.proofs.push_ingredient.Reads as reads
@@ -33,7 +34,7 @@ same-length c = search needs
 
 -- src/lib.rt:36:1
 returns : tie.Need-returns
-returns c = ingredient-pushed (c .before .before .before .before .before .before .pre .0) (c .before .before .before .before .before .before .args .row) (c .before .before .before .before .before .before .pre .1) _ (c .before .before .before .put-row .ensures)
+returns c = row-pushed ingredient (c .before .before .before .before .before .before .pre .0) (c .before .before .before .before .before .before .args .row) (c .before .before .before .before .before .before .pre .1) _ (c .before .before .before .put-row .ensures)
 
 pub push-ingredient-spec : {M : Type 1} → statement M
 push-ingredient-spec =
