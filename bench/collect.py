@@ -10,13 +10,12 @@ The Rust: the sheet and unit list read by harness/src/sheet.rs, `parse_events` o
 "the pass" is what `parse_events` takes of it. Neither the reader nor the writer of the harness was made to be fast.
 
 Run by hand, with valgrind, after `rt staticlib recipe` (or with RECIPE_LIB_DIR): bench/collect.py [--times TIMES] [--rust-only] [WORD ...]
-(a word chooses the inputs whose names hold it). Inputs on which a call takes too long to be counted are measured in seconds."""
+(a word chooses the inputs whose names hold it)."""
 import argparse
 import os
 import re
 import subprocess
 import tempfile
-import time
 
 import inputs
 
@@ -74,20 +73,6 @@ def row(name, directory, sheet, times, library):
     print("| " + " | ".join(cells) + " |", flush=True)
 
 
-def seconds(directory, side, room):
-    """Seconds of one call, the least of three."""
-    def once(times):
-        start = time.perf_counter()
-        subprocess.run(command(side, times, room), cwd=directory, check=True, stdout=subprocess.DEVNULL)
-        return time.perf_counter() - start
-    return min(once(2) for _ in range(3)) - min(once(1) for _ in range(3))
-
-
-def slow(name, directory, library):
-    sides = ["rust", "library"] if library else ["rust"]
-    print("%s, seconds a call: %s" % (name, ", ".join("%s %.3f" % (s, seconds(directory, s, 1 << 20)) for s in sides)))
-
-
 def main():
     p = argparse.ArgumentParser()
     p.add_argument("--times", type=int, default=11)
@@ -100,13 +85,9 @@ def main():
         heads += ["the library", "library / Rust", "library a byte of sheet and page"]
     print("| " + " | ".join(heads) + " |\n|" + "---|" * len(heads))
     with tempfile.TemporaryDirectory() as work:
-        for name, directory, sheet in inputs.write(os.path.join(work, "a"), inputs.inputs()):
+        for name, directory, sheet in inputs.write(work, inputs.inputs()):
             if all(w in name for w in a.words):
                 row(name, directory, sheet, a.times, not a.rust_only)
-        print()
-        for name, directory, sheet in inputs.write(os.path.join(work, "b"), inputs.slow_inputs()):
-            if all(w in name for w in a.words):
-                slow(name, directory, not a.rust_only)
 
 
 if __name__ == "__main__":

@@ -265,6 +265,32 @@ def many_pairs():
     return in_step(amounts(512, names[-3::2])), b"@", units
 
 
+def many_mentions():
+    """One ingredient, mentioned again and again without an amount."""
+    line = "ingredient\t0\t1\t0\t1\t%s\t-\t-\t-\t%s\t0\t0\t-"
+    return in_step([line % ("salt", ".")] + [line % ("Salt", "&")] * 511), b"@", ""
+
+
+def many_pieces():
+    """Cookware that nothing refers to, in the mode in which the Rust begins."""
+    return in_step("cookware\t0\t1\t0\t1\tbowl%03d\t-\t-\t-\t.\t0\t0" % i for i in range(256)), b"@", ""
+
+
+def many_texts():
+    return in_step(["text\t0\t0\tabc"] * 4000), b"@", ""
+
+
+def long_text():
+    """A text without a number."""
+    return in_step(["text\t0\t0\t" + "abc def ghi. " * 4600]), b"@", "g\tmass\n"
+
+
+def long_names():
+    """A name and a reference to it in the other case."""
+    line = "ingredient\t0\t1\t0\t1\t%s\t-\t-\t-\t%s\t0\t0\t-"
+    return in_step([line % ("ab" * 15000, "."), line % ("AB" * 15000, "&")]), b"@", ""
+
+
 def inputs():
     """Name, sheet, text, units; the flags are 7."""
     yield "empty sheet", "", b"", ""
@@ -278,11 +304,12 @@ def inputs():
     yield ("text mode, 15 times the text",) + text_mode()
     yield ("1,024 units, 800 looked up",) + many_units()
     yield ("1,024 units, 4,000 numbers without one",) + no_units()
-
-
-def slow_inputs():
-    """Too slow to be counted: measured in seconds."""
     yield ("1,024 units, 512 amounts of one ingredient",) + many_pairs()
+    yield ("512 mentions of one ingredient",) + many_mentions()
+    yield ("256 pieces of cookware",) + many_pieces()
+    yield ("4,000 texts",) + many_texts()
+    yield ("a text of 60 KB",) + long_text()
+    yield ("two names of 30 KB",) + long_names()
 
 
 def write(directory, which):
@@ -300,5 +327,5 @@ def write(directory, which):
 
 
 if __name__ == "__main__":
-    for row in write(sys.argv[1], list(inputs()) + list(slow_inputs())):
+    for row in write(sys.argv[1], list(inputs())):
         print(*row, sep="\t")
