@@ -11,6 +11,7 @@ use Rattle.model.specs.Memory.{stateOf, stateIn, Sound}
 use Rattle.model.specs.Fits.{AllFit}
 use Rattle.model.specs.declared.Held.{Held}
 use Rattle.model.proofs.Tables.{entries-length}
+use Rattle.memory.proofs.Bounds.{fit-counts}
 use Rattle.blocks.specs.Lined.{Told, ItemsPushed}
 
 ingredients-count : (sheet w : List ℕ) (h : Held) → length (stateIn sheet w h .tables .ingredients) ≡ h .counts .ingredients
@@ -43,7 +44,7 @@ module _ {f : State → State} {h₀ h : Held} (t : Told f h₀ h) (i : (st : St
       ∙ (ap length (blank-cookware (f (stateIn sheet w h₀)) ∙ c (stateIn sheet w h₀)) ∙ cookware-count sheet w h₀))
 
   pub told-fit : AllFit sheet w h₀ → AllFit sheet w h
-  told-fit a = record { ingredients = rw ingredients-kept (a .ingredients); cookware = rw cookware-kept (a .cookware) }
+  told-fit a = fit-counts ingredients-kept cookware-kept a
 
 -- ---- items
 

@@ -13,7 +13,7 @@ use Rattle.rules.specs.Finding.{Finding, parsed, found}
 use Rattle.rules.specs.Model.{Item, Block, stepBlock, textBlock}
 use Rattle.rules.specs.Modes.{isComponents, isText}
 use Rattle.rules.specs.State as state
-use Rattle.rules.specs.State.{State, setPlace, setBlock, setKept, report, noBlock, stepOpen, Step, next, stop}
+use Rattle.rules.specs.State.{State, setPlace, setBlock, setKept, report, noBlock, stepOpen, next, stop}
 use Rattle.rules.specs.Pass.{isOpen, opened, keepBlock, closeText, closeStep, pushItems, inStepBlock, inTextBlock, componentInText, inTextMode}
 use Rattle.parts.specs.Views.{spanIn, optTextIn}
 use Rattle.parts.specs.declared.Span.{Span}
@@ -47,17 +47,11 @@ use Rattle.model.specs.declared.Held.{Held}
 use Rattle.model.proofs.Blanks.{blank-report}
 use Rattle.memory.specs.Pushes.{FindingPushed, BlockKept, SectionBegun}
 use Rattle.memory.proofs.Smalls.{state-blank, with-block}
-use Rattle.memory.proofs.Bounds.{fit-block}
+use Rattle.memory.proofs.Bounds.{sound-block, sound-items, fit-block}
 use Rattle.blocks.specs.declared.Passed.the-variants.{Next, Stop}
 use Rattle.blocks.specs.Lined.{Told, Went, stepIn, SoundStep, FitStep, Stepped, startBlock, OpenNow, SectionDone, ItemsPushed, SpanOf, InTextBlock, InTextMode, kindOpen, StepEnded, ComponentInText}
 
--- ---- another open block, and other items
-
-pub sound-items : {w : List ℕ} {h : Held} (b : Open) (n : ℕ) → n ≤ 100000 → Sound w h → Sound w (withItems n (withBlock b h))
-sound-items b n l z = record { long = z .long; room = record { ingredients = z .room .ingredients; cookware = z .room .cookware; ingredientPairs = z .room .ingredientPairs; cookwarePairs = z .room .cookwarePairs; findings = z .room .findings; here = z .room .here; counter = z .room .counter; sections = z .room .sections; blocks = z .room .blocks; items = l; timers = z .room .timers; inline = z .room .inline; old = z .room .old }; ingredients = z .ingredients; cookware = z .cookware }
-
-pub sound-block : {w : List ℕ} {h : Held} (b : Open) → Sound w h → Sound w (withBlock b h)
-sound-block {w} {h} b z = sound-items b (h .counts .items) (z .room .items) z
+-- ---- another open block
 
 blank-block : (b : state.Open) (st : State) → blank (setBlock b st) ≡ setBlock (blankOpen b) (blank st)
 unfolding setBlock setPlace blank blankPlace
@@ -89,7 +83,7 @@ module _ {h r : Held} (k : BlockKind) {b : Bool} (e : b ≡ isText (defineOf (h 
       rw q
       record {
         is = λ sheet w. block-is sheet w h TextMode _ (rw (define-of sheet w h) (opened-text _ (blockIn k) (sym e ∙ t)));
-        sound = λ w z. sound-block TextMode z;
+        sound = λ w z. sound-block z TextMode;
       }
 
   pub start-plain : b ≡ false → {o : Open} → o ≡ kindOpen k → r ≡ withBlock o h → Told (startBlock k) h r
@@ -98,7 +92,7 @@ module _ {h r : Held} (k : BlockKind) {b : Bool} (e : b ≡ isText (defineOf (h 
       rw (q, p)
       record {
         is = λ sheet w. block-is sheet w h (kindOpen k) _ (rw (define-of sheet w h) (opened-plain _ k (sym e ∙ t)));
-        sound = λ w z. sound-block (kindOpen k) z;
+        sound = λ w z. sound-block z (kindOpen k);
       }
 
 pub kind-step : {k : BlockKind} → k ≡ block.Step → StepBlock ≡ kindOpen k
@@ -259,7 +253,7 @@ items-pushed {h} {r} {n} {x} l e q =
     record {
       by = λ new j. record {
         is = λ sheet w. items-is sheet w h new x (ap (pick (isComponents (defineOf (h .define))) (h .counts .items)) (omega (arith, j)) ∙ sym e);
-        sound = λ w z. sound-items StepBlock x (rw e (most-items (isComponents (defineOf (h .define))) (h .counts .items) (h .counts .items + n) 100000 (omega (arith, l)) l)) z;
+        sound = λ w z. sound-items (sound-block z StepBlock) x (rw e (most-items (isComponents (defineOf (h .define))) (h .counts .items) (h .counts .items + n) 100000 (omega (arith, l)) l));
       };
     }
 
@@ -319,7 +313,7 @@ module _ {w : List ℕ} {h₀ h : Held} {b : Bool} (e : b ≡ isComponents (defi
       rw q
       record {
         is = λ sheet. block-is sheet w h₀ Nothing noBlock refl ∙ ap blank (sym (close-dropped (stateIn sheet w h₀) (components-of sheet w h₀ e t)));
-        sound = sound-block Nothing z;
+        sound = sound-block z Nothing;
         fit = λ sheet a. fit-block a Nothing;
       }
 
@@ -366,11 +360,11 @@ module _ {w₀ w : List ℕ} {h₀ : Held} {e : Inside} where
 module _ {w : List ℕ} {h₀ h : Held} {e : Inside} (z : Sound w h₀) (t : TextView) (p : e ≡ inside.Text t) where
   pub text-more : h ≡ withBlock TextBlock h₀ → InTextBlock e w h₀ w (Next h)
   unfolding inTextBlock insideIn blankOpen openOf
-  text-more q = rw (p, q) record { at = λ line. stepped (record { is = λ sheet. block-is sheet w h₀ TextBlock _ refl; sound = sound-block TextBlock z; fit = λ sheet a. fit-block a TextBlock }) }
+  text-more q = rw (p, q) record { at = λ line. stepped (record { is = λ sheet. block-is sheet w h₀ TextBlock _ refl; sound = sound-block z TextBlock; fit = λ sheet a. fit-block a TextBlock }) }
 
   pub mode-more : h ≡ withBlock TextMode h₀ → InTextMode e w h₀ w (Next h)
   unfolding inTextMode insideIn blankOpen openOf
-  mode-more q = rw (p, q) record { at = λ text line. stepped (record { is = λ sheet. block-is sheet w h₀ TextMode _ refl; sound = sound-block TextMode z; fit = λ sheet a. fit-block a TextMode }) }
+  mode-more q = rw (p, q) record { at = λ text line. stepped (record { is = λ sheet. block-is sheet w h₀ TextMode _ refl; sound = sound-block z TextMode; fit = λ sheet a. fit-block a TextMode }) }
 
 -- ---- the span of a component
 
@@ -392,12 +386,12 @@ unfolding spanIn
 found-at x s e = e
 
 pub room-pushed : {w : List ℕ} {h₀ h : Held} (b : Open) → Sound w h₀ → h₀ .counts .findings < 1544 → h ≡ withBlock b h₀ → Sound w h × (h .counts .findings < 1544)
-room-pushed b z l q = rw q (sound-block b z, l)
+room-pushed b z l q = rw q (sound-block z b, l)
 
 -- 5
 pub mode-found : {w₀ w : List ℕ} {h₀ h₁ h : Held} {x : Noted} {s : Span} {c : ComponentEvent} → Sound w₀ h₀ → SpanOf c s → h₁ ≡ withBlock TextMode h₀ → FindingPushed w₀ h₁ x w h → findingOf x ≡ found 5 (spanIn s) → ComponentInText c w₀ h₀ w h
 unfolding componentInText blankOpen openOf
 mode-found {w₀} {h₀ = h₀} {x = x} z s q p e =
     record {
-      at = λ text line. went-found (record { is = λ sheet. block-is sheet w₀ h₀ TextMode _ refl; sound = sound-block TextMode z; fit = λ sheet a. fit-block a TextMode }) (rw q at p) (rw (s .is line) at e);
+      at = λ text line. went-found (record { is = λ sheet. block-is sheet w₀ h₀ TextMode _ refl; sound = sound-block z TextMode; fit = λ sheet a. fit-block a TextMode }) (rw q at p) (rw (s .is line) at e);
     }

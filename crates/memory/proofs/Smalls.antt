@@ -11,14 +11,14 @@ use lib.ListN.{getD, replicate, length-replicate}
 use borrow.Author.Tests.{lt-ltb, le-ltb}
 use Rattle.rules.specs.Basic.{pick, each, isEmpty, isSome, onSome}
 use Rattle.rules.specs.Event.{Text}
-use Rattle.rules.specs.Model.{cookware, trimmedText, stepBlock, textBlock}
+use Rattle.rules.specs.Model.{trimmedText, stepBlock, textBlock}
 use Rattle.rules.specs.Modes.{firstModes}
 use Rattle.rules.specs.State.{State, firstState, noBlock, setModes, setMetadata, setPlace, setBlock, setKept, setTables, setTimers, setInline, overLimits}
 use Rattle.rules.specs.Pass.{isEmptySection, closeSection, onSection}
-use Rattle.model.specs.Blank.{blankSpan, blankSection, blankTimer, blankInline, blankBlock, blankOpen, blankName, blankPlace, blankMetadata, blankKept, blankTables, blank}
+use Rattle.model.specs.Blank.{blankSpan, blankTimer, blankInline, blankBlock, blankOpen, blankName, blankPlace, blankMetadata, blankKept, blankTables, blank}
 use Rattle.model.specs.Rows.{blockOf, blocksIn, entriesIn, findingsIn}
 use Rattle.model.specs.Memory.{windowsOf, defineOf, duplicateOf, openOf, stateOf, stateIn, firstHeld, Sound}
-use Rattle.model.specs.Small.{withDefine, withDuplicate, withBlock, withNamed, withCounter, withHere, withSections, withItems, withTimers, withInline, withOld}
+use Rattle.model.specs.Small.{withDefine, withDuplicate, withBlock, withNamed, withCounter, withHere, withSections, withTimers, withInline, withOld}
 use Rattle.model.specs.declared.Define.{Define}
 use Rattle.model.specs.declared.Duplicate.{Duplicate}
 use Rattle.model.specs.declared.Open.{Open}
@@ -27,6 +27,7 @@ use Rattle.model.specs.declared.Held.{Held}
 use Rattle.model.proofs.Blanks.{blank-place}
 use Rattle.model.proofs.Tables.{entries-length, findings-length}
 use Rattle.memory.specs.Pushes.{SectionBegun, OverLimits}
+use Rattle.memory.proofs.Bounds.{fit-counts}
 
 -- ---- nothing is left to take away
 
@@ -129,7 +130,7 @@ module _ {h r : Held} (named : Bool) (l : h .counts .sections < 100000) where
       rw e
       record {
         is = λ sheet w name q. begun sheet w (withSections n h) named name q (stateIn sheet w h) (c sheet w);
-        fit = λ sheet w f. record { ingredients = f .ingredients; cookware = f .cookware };
+        fit = λ sheet w f. fit-counts refl refl f;
         sound = λ w z. sound-next named n m z;
       }
 
@@ -208,10 +209,6 @@ module _ (sheet w : List ℕ) (h : Held) where
   pub with-inline : (n : ℕ) → stateIn sheet w (withInline n h) ≡ setInline (replicate n blankInline) (stateIn sheet w h)
   unfolding stateIn stateOf setInline setTables
   with-inline n = refl
-
-  pub with-items : (n : ℕ) → stateIn sheet w (withItems n h) ≡ setKept (record { sections = replicate (h .counts .sections) blankSection; blocks = h .counts .blocks; items = n }) (stateIn sheet w h)
-  unfolding stateIn stateOf setKept
-  with-items n = refl
 
   pub with-old : (n : ℕ) → stateIn sheet w (withOld n h) ≡ setMetadata (record { map = []; old = replicate n blankSpan }) (stateIn sheet w h)
   unfolding stateIn stateOf setMetadata

@@ -1,5 +1,5 @@
 -- From modes, findings and counts in work memory to the rules' `meta` lines.
-use Prim.Native.Nat.{ℕ, suc, _+_, _≤_, _<_}
+use Prim.Native.Nat.{ℕ, suc, _+_, _<_}
 use mathlib.Core.Path.{_≡_, refl, sym, ap, _∙_}
 use mathlib.Core.List.{List, [], _∷_}
 use mathlib.Core.Bool.{false}
@@ -32,14 +32,11 @@ use Rattle.model.specs.declared.Noted.{Noted}
 use Rattle.model.specs.declared.Held.{Held}
 use Rattle.memory.specs.Pushes.{FindingPushed}
 use Rattle.memory.proofs.Smalls.{state-blank, with-define, with-duplicate, with-old}
-use Rattle.memory.proofs.Bounds.{fit-define, fit-duplicate, fit-old}
+use Rattle.memory.proofs.Bounds.{sound-define, sound-duplicate, sound-old, fit-define, fit-duplicate, fit-old}
 use Rattle.blocks.proofs.Lines.{found-one, went-found}
 use Rattle.metadata.specs.Metas.{DefineSet, DuplicateSet, UnknownNoted, OrdinaryCounted}
 
 -- ---- modes
-
-sound-modes : {w : List ℕ} {h : Held} (d : Define) (e : Duplicate) → Sound w h → Sound w (withDefine d (withDuplicate e h))
-sound-modes d e z = record { long = z .long; room = record { ingredients = z .room .ingredients; cookware = z .room .cookware; ingredientPairs = z .room .ingredientPairs; cookwarePairs = z .room .cookwarePairs; findings = z .room .findings; here = z .room .here; counter = z .room .counter; sections = z .room .sections; blocks = z .room .blocks; items = z .room .items; timers = z .room .timers; inline = z .room .inline; old = z .room .old }; ingredients = z .ingredients; cookware = z .cookware }
 
 blank-modes : (m : Modes) (st : State) → blank (setModes m st) ≡ setModes m (blank st)
 unfolding setModes blank
@@ -123,7 +120,7 @@ duplicate-none (some words.duplicateReference) e = let z : _≡_ {A = ℕ} 0 1 =
 
 module _ {w : List ℕ} {h r : Held} {key value : Span} (z : Sound w h) where
   define-set : {m : DefineWord} (d : Define) → ((o : Option words.DefineMode) → m ≡ defineAs o → o ≡ some (defineOf d)) → r ≡ withDefine d h → DefineSet key value m w h w r
-  define-set d g q = rw q record { by = λ k v o a b e. rw (g o e) record { is = λ sheet. define-is sheet w h d k v (defineOf d) refl; sound = sound-modes d (h .duplicate) z; fit = λ sheet a. fit-define a d } }
+  define-set d g q = rw q record { by = λ k v o a b e. rw (g o e) record { is = λ sheet. define-is sheet w h d k v (defineOf d) refl; sound = sound-define z d; fit = λ sheet a. fit-define a d } }
 
   pub set-all : {m : DefineWord} → m ≡ define.All → r ≡ withDefine All h → DefineSet key value m w h w r
   set-all p q = rw p (define-set All define-all q)
@@ -138,7 +135,7 @@ module _ {w : List ℕ} {h r : Held} {key value : Span} (z : Sound w h) where
   set-text p q = rw p (define-set Text define-text q)
 
   duplicate-set : {m : DuplicateWord} (d : Duplicate) → ((o : Option words.DuplicateMode) → m ≡ duplicateAs o → o ≡ some (duplicateOf d)) → r ≡ withDuplicate d h → DuplicateSet key value m w h w r
-  duplicate-set d g q = rw q record { by = λ k v o a b e. rw (g o e) record { is = λ sheet. duplicate-is sheet w h d k v (duplicateOf d) refl; sound = sound-modes (h .define) d z; fit = λ sheet a. fit-duplicate a d } }
+  duplicate-set d g q = rw q record { by = λ k v o a b e. rw (g o e) record { is = λ sheet. duplicate-is sheet w h d k v (duplicateOf d) refl; sound = sound-duplicate z d; fit = λ sheet a. fit-duplicate a d } }
 
   pub set-new : {m : DuplicateWord} → m ≡ duplicate.New → r ≡ withDuplicate New h → DuplicateSet key value m w h w r
   set-new p q = rw p (duplicate-set New duplicate-new q)
@@ -185,9 +182,6 @@ unknown-noted {w₀} {h = h} z p f =
       by = λ k v a. went-found (record { is = λ sheet. sym (old-same (keyText k) (valueText v) (stateIn sheet w₀ h) ∙ state-blank sheet w₀ h); sound = z; fit = λ sheet a. a }) p (f ∙ ap (found 2) (sym a));
     }
 
-sound-old : {w : List ℕ} {h : Held} (n : ℕ) → n ≤ 100000 → Sound w h → Sound w (withOld n h)
-sound-old n l z = record { long = z .long; room = record { ingredients = z .room .ingredients; cookware = z .room .cookware; ingredientPairs = z .room .ingredientPairs; cookwarePairs = z .room .cookwarePairs; findings = z .room .findings; here = z .room .here; counter = z .room .counter; sections = z .room .sections; blocks = z .room .blocks; items = z .room .items; timers = z .room .timers; inline = z .room .inline; old = l }; ingredients = z .ingredients; cookware = z .cookware }
-
 ordinary-is : (sheet w : List ℕ) (h : Held) (k v : rules.Text) → stateIn sheet w (withOld (h .counts .old + 1) h) ≡ blank (onKey ordinary k v (stateIn sheet w h))
 unfolding onKey
 ordinary-is sheet w h k v =
@@ -197,4 +191,4 @@ ordinary-is sheet w h k v =
     ∙ sym (old-more (keyText k) (valueText v) _ (stateIn sheet w h) ∙ ap (setMetadata (record { map = []; old = replicate (suc (length (stateIn sheet w h .metadata .old))) blankSpan })) (state-blank sheet w h)))
 
 pub ordinary-counted : {h : Held} → h .counts .old < 100000 → OrdinaryCounted h (withOld (h .counts .old + 1) h)
-ordinary-counted {h} l = record { by = λ k v. record { is = λ sheet w. ordinary-is sheet w h k v; sound = λ w z. sound-old (h .counts .old + 1) (omega arith) z }; fit = λ sheet w a. fit-old a (h .counts .old + 1) }
+ordinary-counted {h} l = record { by = λ k v. record { is = λ sheet w. ordinary-is sheet w h k v; sound = λ w z. sound-old z (h .counts .old + 1) (omega arith) }; fit = λ sheet w a. fit-old a (h .counts .old + 1) }

@@ -33,6 +33,7 @@ use Rattle.model.specs.declared.Noted.{Noted}
 use Rattle.model.specs.declared.Held.{Held}
 use Rattle.memory.specs.Pushes.{FindingPushed}
 use Rattle.memory.proofs.Smalls.{with-inline}
+use Rattle.memory.proofs.Bounds.{sound-inline, fit-inline}
 use Rattle.blocks.specs.Lined.{ItemsPushed}
 use Rattle.blocks.proofs.Lines.{components-of, found-one, found-at, went-none}
 use Rattle.blocks.proofs.Fitting.{items-fit, items-sound}
@@ -51,9 +52,6 @@ unfolding quantitiesOf
 quantities-few [] = omega arith
 quantities-few (textPiece t ∷ ps) = let i = quantities-few ps in omega arith
 quantities-few (quantityPiece a u ∷ ps) = let i = quantities-few ps in omega arith
-
-sound-inline : {w : List ℕ} {h : Held} (n : ℕ) → n ≤ 100000 → Sound w h → Sound w (withInline n h)
-sound-inline n l z = record { long = z .long; room = record { ingredients = z .room .ingredients; cookware = z .room .cookware; ingredientPairs = z .room .ingredientPairs; cookwarePairs = z .room .cookwarePairs; findings = z .room .findings; here = z .room .here; counter = z .room .counter; sections = z .room .sections; blocks = z .room .blocks; items = z .room .items; timers = z .room .timers; inline = l; old = z .room .old }; ingredients = z .ingredients; cookware = z .cookware }
 
 inline-same : (x : List Item) (a b : List InlineQuantity) (st : State) → length a ≡ length b → blank (pushItems x [] (setInline a st)) ≡ blank (pushItems x [] (setInline b st))
 unfolding pushItems setBlock setPlace setKept setInline setTables blank blankPlace blankKept blankTables
@@ -80,8 +78,8 @@ module _ {n m : ℕ} (h : Held) {r : Held} (l : h .counts .inline + m ≤ 100000
   pieces-pushed : PiecesPushed n m h r
   pieces-pushed =
       record {
-        told = λ ps e f. record { is = pushed-is ps e f; sound = λ w z. items-sound p w (sound-inline (h .counts .inline + m) l z) };
-        fit = λ sheet w a. items-fit p sheet w (record { ingredients = a .ingredients; cookware = a .cookware });
+        told = λ ps e f. record { is = pushed-is ps e f; sound = λ w z. items-sound p w (sound-inline z (h .counts .inline + m) l) };
+        fit = λ sheet w a. items-fit p sheet w (fit-inline a (h .counts .inline + m));
       }
 
 pub pieces-pushed-at : {n m : ℕ} {h k r : Held} → h .counts .inline + m ≤ 100000 → k ≡ withInline (h .counts .inline + m) h → ItemsPushed n k r → PiecesPushed n m h r

@@ -39,6 +39,7 @@ use Rattle.model.specs.Memory.{stateOf, stateIn, Sound}
 use Rattle.model.specs.Small.{withTimers}
 use Rattle.model.specs.declared.Held.{Held}
 use Rattle.memory.proofs.Smalls.{with-timers}
+use Rattle.memory.proofs.Bounds.{sound-timers, fit-timers}
 use Rattle.checks.specs.Reports.{Reported, nothing, more}
 use Rattle.checks.proofs.Reports.{reported-seq, reported-is, reported-fit, reported-sound, reported-count}
 use Rattle.checks.proofs.Laws.{none-found, said}
@@ -148,9 +149,6 @@ module _ {us : List NamedUnit} {line : List ℕ} {q : OptQuantity} {w₀ : List 
 
 -- ---- the timer and its item
 
-sound-timers : {w : List ℕ} {h : Held} (n : ℕ) → n ≤ 100000 → Sound w h → Sound w (withTimers n h)
-sound-timers n l z = record { long = z .long; room = record { ingredients = z .room .ingredients; cookware = z .room .cookware; ingredientPairs = z .room .ingredientPairs; cookwarePairs = z .room .cookwarePairs; findings = z .room .findings; here = z .room .here; counter = z .room .counter; sections = z .room .sections; blocks = z .room .blocks; items = z .room .items; timers = l; inline = z .room .inline; old = z .room .old }; ingredients = z .ingredients; cookware = z .cookware }
-
 timers-same : (x : List Item) (a b : List Timer) (st : State) → length a ≡ length b → blank (pushItems x [] (setTimers a st)) ≡ blank (pushItems x [] (setTimers b st))
 unfolding pushItems setBlock setPlace setKept setTimers setTables blank blankPlace blankKept blankTables
 timers-same x a b st e = rw e
@@ -173,8 +171,8 @@ module _ {h r : Held} (l : h .counts .timers < 100000) (p : ItemsPushed 1 (withT
   pub timer-pushed : TimerPushed h r
   timer-pushed =
       record {
-        told = λ t. record { is = pushed-is t; sound = λ w z. items-sound p w (sound-timers (h .counts .timers + 1) (omega arith) z) };
-        fit = λ sheet w a. items-fit p sheet w (record { ingredients = a .ingredients; cookware = a .cookware });
+        told = λ t. record { is = pushed-is t; sound = λ w z. items-sound p w (sound-timers z (h .counts .timers + 1) (omega arith)) };
+        fit = λ sheet w a. items-fit p sheet w (fit-timers a (h .counts .timers + 1));
       }
 
 pub timer-pushed-at : {h k r : Held} → h .counts .timers < 100000 → k ≡ withTimers (h .counts .timers + 1) h → ItemsPushed 1 k r → TimerPushed h r
