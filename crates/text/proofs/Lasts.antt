@@ -6,7 +6,7 @@ use mathlib.Core.List.{List, [], _∷_, _++_}
 use native.Mathlib.Omega.{arith}
 use lib.ListN.{length, getD, take, drop-of-length-le}
 use lib.Seq.{split-at, drop-cons}
-use Rattle.rules.specs.Basic.{pick, within, eqList}
+use Rattle.rules.specs.Basic.{eqList}
 use Rattle.rules.specs.Unicode.{foldName, sameName}
 use Rattle.rules.proofs.Begins.{later-ascii}
 use Rattle.rules.proofs.Folds.{foldName-append}
@@ -15,7 +15,7 @@ use Rattle.content.specs.Contents.{keptIn}
 use Rattle.content.proofs.Kept.{kept-none}
 use Rattle.content.proofs.Seams.{Opens, kept-join}
 use Rattle.unicode.proofs.Ascii.{ascii-fold}
-use Rattle.text.specs.Plain.{isPlain}
+use Rattle.text.specs.Plain.{isPlain, lowered}
 use Rattle.text.proofs.Plain.{plain-stands, plain-solid, case-apart}
 
 -- the last of a list
@@ -51,7 +51,7 @@ closes s h n t =
     let k : Closes (take (length s - 2) s ++ (getD s (length s - 2) 0 ∷ getD s (suc (length s - 2)) 0 ∷ [])) (getD s (suc (length s - 2)) 0) = closes-two (take (length s - 2) s) (getD s (length s - 2) 0) (getD s (suc (length s - 2)) 0) n (rw z at t) in
     rw z (rw (sym e) at k)
 
-fold-closes : {s : List ℕ} {c : ℕ} (k : Closes s c) → foldName (keptIn s) ≡ foldName (k .front) ++ (pick (within 65 90 c) (c + 32) c ∷ [])
+fold-closes : {s : List ℕ} {c : ℕ} (k : Closes s c) → foldName (keptIn s) ≡ foldName (k .front) ++ (lowered c ∷ [])
 unfolding foldName
 fold-closes {s} {c} k = ap foldName (k .is) ∙ foldName-append (k .front) (c ∷ []) ∙ rw (← ascii-fold c (k .below))
 
@@ -59,7 +59,7 @@ pub parted-last : {a b : List ℕ} {x y : ℕ} → Closes a x → Closes b y →
 unfolding sameName
 parted-last {a} {b} {x} {y} p q n = go (eqList (foldName (keptIn a)) (foldName (keptIn b))) refl
   where
-    apart : foldName (keptIn a) ≡ foldName (keptIn b) → pick (within 65 90 x) (x + 32) x ≡ pick (within 65 90 y) (y + 32) y
+    apart : foldName (keptIn a) ≡ foldName (keptIn b) → lowered x ≡ lowered y
     apart e = sym (final-is 0 (foldName (p .front)) _) ∙ ap (final 0) (sym (fold-closes p) ∙ e ∙ fold-closes q) ∙ final-is 0 (foldName (q .front)) _
 
     go : (t : Bool) → eqList (foldName (keptIn a)) (foldName (keptIn b)) ≡ t → t ≡ false

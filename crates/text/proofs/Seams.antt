@@ -27,7 +27,9 @@ use Rattle.unicode.specs.Folded.{foldedOf}
 use Rattle.text.specs.declared.Meeting.{Meeting}
 use Rattle.text.specs.declared.Meeting.the-variants.{Answer, On, Unclear}
 use Rattle.text.specs.Seams.{sameAt, WordAt, Common, Seam, meetingOf, Met, answered, onward, unclear}
+use Rattle.text.specs.Plain.{SameLetter}
 use Rattle.text.proofs.Paths.{past-none}
+use Rattle.text.proofs.Plain.{letter-on}
 
 -- ---- the common front
 
@@ -131,6 +133,9 @@ module _ (a b : List ℕ) (m : ℕ) (v : Common a b (suc m)) where
 pub seam-at : (a b : List ℕ) (i : ℕ) → 0 < i → Common a b i → (getD a (i - 1) 0 ≡ 92 → ⊥) → Opens (drop i a) → Opens (drop i b) → Seam a b i
 seam-at a b zero h v n o q = absurd (omega arith)
 seam-at a b (suc m) h v n o q = let z : suc m - 1 ≡ m = omega arith in seam-after a b m v (rw z at n) o q
+
+pub seam-letter : {a b : List ℕ} {i : ℕ} → Seam a b i → i < length a → i < length b → SameLetter (getD a i 0) (getD b i 0) → Seam a b (i + 1)
+seam-letter {a} {b} {i} v h g e = record { left = omega arith; right = omega arith; is = letter-on a b i i h g e ∙ v .is }
 
 -- ---- the ways of `meet`
 
@@ -261,3 +266,10 @@ module _ {a b : List ℕ} {i j : ℕ} (v : Facing a b i j) where
   -- the rests as they are lent
   pub facing-rest : (r : Bool) → r ≡ sameName (keptIn (take (length a - i) (drop i a))) (keptIn (take (length b - j) (drop j b))) → r ≡ sameName (keptIn a) (keptIn b)
   facing-rest r e = unfold sameAt in ((rw (part-rest a i, part-rest b j) at e) ∙ v .is)
+
+-- a seam of the rests
+pub seam-on : {a b : List ℕ} {k n : ℕ} → Seam a b k → Seam (take (length a - k) (drop k a)) (take (length b - k) (drop k b)) n → Seam a b (k + n)
+seam-on {a} {b} {k} v s =
+    let f : Facing a b k k = record { left = v .left; right = v .right; is = v .is } in
+    let w = facing-seam f s in
+    record { left = w .left; right = w .right; is = w .is }

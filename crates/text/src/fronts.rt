@@ -1,12 +1,13 @@
 // The bytes at the fronts and the ends of names and fields; no table is asked.
 ghost use mathlib.Core.Path.{_≡_};
-ghost use mathlib.Core.Bool.{true, false};
+ghost use mathlib.Core.Bool.{true, false, _||_};
 ghost use Prim.Native.Nat.{ℕ, _+_, _≤_, _<_};
 ghost use lib.ListN.{length, drop};
+ghost use Rattle.rules.specs.Basic.{within};
 ghost use Rattle.rules.specs.Unicode.{sameName};
 ghost use Rattle.content.specs.Contents.{keptIn};
 ghost use Rattle.content.proofs.Seams.{Opens};
-ghost use Rattle.text.specs.Plain.{isPlain};
+ghost use Rattle.text.specs.Plain.{isPlain, SameLetter};
 ghost use Rattle.text.specs.Seams.{sameAt, WordAt, Common, Seam};
 ghost use Rattle.text.specs.Trims.{LastStart};
 
@@ -169,7 +170,7 @@ fn is_seam(a: &[u8], b: &[u8], i: usize) -> bool
 }
 
 // A length of the common front that leaves two names with the same answer.
-pub(crate) fn seam(a: &[u8], b: &[u8]) -> usize
+fn seam(a: &[u8], b: &[u8]) -> usize
     ensures { λ r. ⌜ Seam (now (a .entry)) (now (b .entry)) r ⌝ }
 {
     let mut i = common(a, b);
@@ -180,6 +181,56 @@ pub(crate) fn seam(a: &[u8], b: &[u8]) -> usize
         i -= 1;
     }
     0
+}
+
+fn is_letter(c: u8) -> bool
+    ensures { λ r. ⌜ r ≡ (within 65 90 c || within 97 122 c) ⌝ }
+{
+    ((65 <= c) & (c <= 90)) | ((97 <= c) & (c <= 122))
+}
+
+// Whether two bytes are one letter, in whatever case: 32 apart at most.
+fn is_same_letter(x: u8, y: u8) -> bool
+    ensures { λ r. ⌜ (r ≡ true → SameLetter x y) ⌝ }
+{
+    if x % 32 != y % 32 {
+        return false;
+    }
+    if x / 64 != y / 64 {
+        return false;
+    }
+    is_letter(x)
+}
+
+// The place after the letters of ASCII from a place on that are the same in two names, in whatever case.
+fn letters(a: &[u8], b: &[u8], at: usize) -> usize
+    requires { ⌜ Seam (now a) (now b) at ⌝ }
+    ensures { λ r. ⌜ Seam (now (a .entry)) (now (b .entry)) r ⌝ }
+{
+    let n = shorter(a.len(), b.len());
+    let mut i = at;
+    while i < n {
+        if !is_same_letter(a[i], b[i]) {
+            return i;
+        }
+        i += 1;
+    }
+    i
+}
+
+// A length of the front that leaves two names with the same answer: what they have in common, and the same letters in
+// another case.
+pub(crate) fn level(a: &[u8], b: &[u8]) -> usize
+    ensures { λ r. ⌜ Seam (now (a .entry)) (now (b .entry)) r ⌝ }
+{
+    let mut i = seam(a, b);
+    loop {
+        let k = letters(a, b, i);
+        if k <= i {
+            return i;
+        }
+        i = k + seam(&a[k..], &b[k..]);
+    }
 }
 
 // The last place where no byte stands that goes on with a character; without one 0.

@@ -408,7 +408,8 @@ fn meet(t: &[u32], a: &[u8], i: usize, b: &[u8], j: usize) -> Meeting
     meet_folded(f, g, i + x.size, j + y.size)
 }
 
-// Whether two fields have the same folding, their blanks collapsed. No table is asked where their bytes are the same.
+// Whether two fields have the same folding, their blanks collapsed. No table is asked where their bytes are the same
+// or the same letters of ASCII.
 pub fn same_name(t: &[u32], a: &[u8], b: &[u8]) -> bool
     requires { ⌜ now t ≡ unicodeTables ⌝ }
     ensures { λ r. ⌜ r ≡ sameName (keptIn (now (a .entry))) (keptIn (now (b .entry))) ⌝ }
@@ -422,7 +423,7 @@ pub fn same_name(t: &[u32], a: &[u8], b: &[u8]) -> bool
     let mut i = 0;
     let mut j = 0;
     loop {
-        let n = fronts::seam(&a[i..], &b[j..]);
+        let n = fronts::level(&a[i..], &b[j..]);
         i += n;
         j += n;
         let m = meet(t, a, i, b, j);
