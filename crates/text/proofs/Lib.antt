@@ -1,4 +1,5 @@
 pub mod Trims
+pub mod Blanks
 pub mod Writes
 pub mod Names
 pub mod Paths

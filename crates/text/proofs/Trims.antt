@@ -41,7 +41,7 @@ module _ (drops : ℕ → Bool) where
   onto-last x [] c = refl
   onto-last x (y ∷ xs) c = refl
 
-  end-dropped : (xs : List ℕ) (c : ℕ) → drops c ≡ true → trimEnd drops (xs ++ (c ∷ [])) ≡ trimEnd drops xs
+  pub end-dropped : (xs : List ℕ) (c : ℕ) → drops c ≡ true → trimEnd drops (xs ++ (c ∷ [])) ≡ trimEnd drops xs
   unfolding trimEnd trimOnto
   end-dropped [] c e = rw e
   end-dropped (x ∷ xs) c e = rw (end-dropped xs c e)

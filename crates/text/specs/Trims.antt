@@ -2,7 +2,7 @@
 use Prim.Native.Nat.{ℕ, _≤_, _<_}
 use mathlib.Core.Path.{_≡_}
 use mathlib.Core.Bool.{Bool, false}
-use mathlib.Core.List.{List, _++_}
+use mathlib.Core.List.{List, [], _∷_, _++_}
 use lib.ListN.{length, getD, take, drop}
 use Rattle.rules.specs.Text.{trimStart, trimEnd, textOuterTrimmed, retain, textTrimmed, unitTrimmed, isNotAlphabetic}
 use Rattle.rules.specs.Unicode.{isWhiteSpace}
@@ -33,6 +33,15 @@ pub record EndAt (drops : ℕ → Bool) (s : List ℕ) (r : ℕ) : Type 0 where
 pub record LastStart (s : List ℕ) (r : ℕ) : Type 0 where
   pub inside : r < length s
   pub starts : 0 < r → later (getD s r 0) ≡ false
+
+-- bytes that are blanks
+pub data Blanks : List ℕ → Type 0 where
+  noBlanks : Blanks []
+  moreBlanks : {q : List ℕ} → Blanks q → Blanks (32 ∷ q)
+
+pub record BlankFrom (s : List ℕ) (r : ℕ) : Type 0 where
+  pub most : r ≤ length s
+  pub rest : Blanks (drop r s)
 
 -- r is the part of the field s that a trimming of its content leaves
 pub record TrimmedBy (trim : List ℕ → List ℕ) (s r : List ℕ) : Type 0 where

@@ -9,7 +9,7 @@ ghost use Rattle.content.specs.Contents.{keptIn};
 ghost use Rattle.content.proofs.Seams.{Opens};
 ghost use Rattle.text.specs.Plain.{isPlain, SameLetter};
 ghost use Rattle.text.specs.Seams.{sameAt, WordAt, Common, Seam};
-ghost use Rattle.text.specs.Trims.{LastStart};
+ghost use Rattle.text.specs.Trims.{LastStart, BlankFrom};
 
 // Whether a byte stands for itself wherever it stands, is kept, and is below 128: printed, no blank, no backslash.
 fn is_plain(c: u8) -> bool
@@ -249,4 +249,18 @@ pub(crate) fn last_start(s: &[u8]) -> usize
         i -= 1;
     }
     0
+}
+
+// The place after the last byte that is no blank.
+pub(crate) fn blanks_end(s: &[u8]) -> usize
+    ensures { λ r. ⌜ BlankFrom (now (s .entry)) r ⌝ }
+{
+    let mut i = s.len();
+    while 0 < i {
+        if s[i - 1] != 32 {
+            return i;
+        }
+        i -= 1;
+    }
+    i
 }

@@ -71,13 +71,14 @@ fn stays_whole(t: &[u32], s: &[u8], d: Dropped) -> bool
     !is_dropped(t, d, c.code)
 }
 
-// The place after the last character that stays.
+// The place after the last character that stays. Mostly only blanks are dropped.
 pub fn end_of(t: &[u32], s: &[u8], d: Dropped) -> usize
     requires { ⌜ now t ≡ unicodeTables ⌝ }
     ensures { λ r. ⌜ EndAt (dropsOf d) (now (s .entry)) r ⌝ }
 {
-    if stays_whole(t, s, d) {
-        return s.len();
+    let e = fronts::blanks_end(s);
+    if stays_whole(t, &s[..e], d) {
+        return e;
     }
     let mut end = 0;
     let mut at = 0;

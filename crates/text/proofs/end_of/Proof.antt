@@ -1,9 +1,12 @@
 use borrow.Author.Needs.{needs}
 use native.Mathlib.Omega.{arith}
 use Prim.Native.Nat.{_-_}
+use mathlib.Core.Path.{sym}
 use lib.ListN.{length}
+use lib.Seq.{length-take-le}
 use Rattle.content.proofs.Chars.{content-step}
 use Rattle.text.specs.Trims.{dropsOf}
+use Rattle.text.proofs.Blanks.{drops-blank, stays-front}
 use Rattle.text.proofs.Trims.{Ending, ending, end-here, end-on, end-moves}
 use Rattle.text.proofs.end_of.Statement.{statement}
 use Rattle.text.proofs.end_of.Tie as tie
@@ -11,13 +14,22 @@ use Rattle.text.proofs.end_of.Reads as reads
 use Rattle.text.proofs.end_of.Lts as lts
 use Rattle.content.proofs.char_in.Reads as char-in-reads
 use Rattle.text.proofs.is_dropped.Reads as is-dropped-reads
+use Rattle.text.proofs.fronts.blanks_end.Reads as blanks-end-reads
 use Rattle.text.proofs.stays_whole.Reads as stays-whole-reads
 
 abbrev Inv-loop : tie.InvT-loop
-Inv-loop t s d end₀ at₀ end at = Ending (dropsOf d) s end at
+Inv-loop t s d e end₀ at₀ end at = Ending (dropsOf d) s end at
 
 abbrev μ-loop : tie.MeasureT-loop
-μ-loop t s d end₀ at₀ end at = length s - at
+μ-loop t s d e end₀ at₀ end at = length s - at
+
+-- src/lib.rt:84:13
+blanks-end-requires : tie.Need-blanks-end-requires Inv-loop μ-loop
+blanks-end-requires c κs = search needs
+
+-- src/lib.rt:85:24
+slice-aggregate-stays-whole : tie.Need-slice-aggregate-stays-whole Inv-loop μ-loop
+slice-aggregate-stays-whole c = sym (length-take-le _ _ (c .before .blanks-end .ensures .most))
 
 -- src/lib.rt:98:8
 stays-whole-requires : tie.Need-stays-whole-requires Inv-loop μ-loop
@@ -25,7 +37,7 @@ stays-whole-requires c κs = search needs
 
 -- src/lib.rt:99:9
 returns : tie.Need-returns Inv-loop μ-loop
-returns c = c .before .stays-whole .ensures (c .if1 .taken)
+returns c = stays-front _ (drops-blank _) (c .before .before .before .blanks-end .ensures) (c .before .stays-whole .ensures (c .if1 .taken))
 
 -- src/lib.rt:103:5
 loop-holds : tie.Need-loop-holds Inv-loop μ-loop
@@ -73,6 +85,8 @@ end-of-spec =
     (tie.spec
     Inv-loop
     μ-loop
+    blanks-end-requires
+    slice-aggregate-stays-whole
     stays-whole-requires
     returns
     loop-holds
