@@ -135,11 +135,31 @@ fn goes(b: u8, prev: u8) -> bool
     false
 }
 
+// Whether no two blanks follow one another.
+fn is_single(w: &[u8]) -> bool
+    ensures { λ r. ⌜ (r ≡ true → retain 0 (now (w .entry)) ≡ now (w .entry)) ⌝ }
+{
+    let mut i = 0;
+    let mut prev = 0;
+    while i < w.len() {
+        let b = w[i];
+        if goes(b, prev) {
+            return false;
+        }
+        prev = b;
+        i += 1;
+    }
+    true
+}
+
 // The bytes w, and of blanks that follow one another only the first: what spells the content of a field with its blanks
 // collapsed.
 pub fn put_kept(out: &mut [u8], at: usize, w: &[u8]) -> usize
     ensures { λ r. ⌜ Put (retain 0 (now (w .entry))) (now (out .entry)) at (now (out .exit)) r ⌝ }
 {
+    if is_single(w) {
+        return output::put_bytes(out, at, w);
+    }
     let mut n = at;
     let mut i = 0;
     let mut prev = 0;
