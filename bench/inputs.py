@@ -265,6 +265,12 @@ def many_pairs():
     return in_step(amounts(512, names[-3::2])), b"@", units
 
 
+def different_pairs():
+    """512 amounts of one ingredient, each in a unit of its own: 130,816 pairs of different units."""
+    names, units = full_list()
+    return in_step(amounts(512, names[1::2])), b"@", units
+
+
 def many_mentions():
     """One ingredient, mentioned again and again without an amount."""
     line = "ingredient\t0\t1\t0\t1\t%s\t-\t-\t-\t%s\t0\t0\t-"
@@ -305,6 +311,7 @@ def inputs():
     yield ("1,024 units, 800 looked up",) + many_units()
     yield ("1,024 units, 4,000 numbers without one",) + no_units()
     yield ("1,024 units, 512 amounts of one ingredient",) + many_pairs()
+    yield ("1,024 units, 512 amounts in as many of them",) + different_pairs()
     yield ("512 mentions of one ingredient",) + many_mentions()
     yield ("256 pieces of cookware",) + many_pieces()
     yield ("4,000 texts",) + many_texts()

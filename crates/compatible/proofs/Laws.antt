@@ -1,5 +1,5 @@
 -- Searching a unit by its content, and comparing two.
-use Prim.Native.Nat.{ℕ}
+use Prim.Native.Nat.{ℕ, _≤_}
 use mathlib.Core.Path.{_≡_, refl, ap, sym, _∙_}
 use mathlib.Core.Bool.{Bool, true, false}
 use mathlib.Core.Option.{Option, none, some}
@@ -19,6 +19,7 @@ use Rattle.content.proofs.Plains as plains
 use Rattle.content.proofs.Retains.{kept-trimmed}
 use Rattle.text.specs.Trims.{TrimmedTo}
 use Rattle.units.specs.declared.Physical.{Physical}
+use Rattle.units.specs.declared.Physical.the-variants.{Volume, Mass, Length, Temperature, Time, Unknown}
 use Rattle.units.specs.Quantities.{physicalAs}
 use Rattle.units.specs.Lists.{unitsFrom}
 use Rattle.units.proofs.Walks.{units-start}
@@ -114,39 +115,39 @@ module _ (us : List NamedUnit) (a b : List ℕ) {m n : ℕ} (x : m ≡ unitCode 
 
 -- ---- whether they fit
 
-trimmed-is : {f r : List ℕ} → TrimmedTo f r → keptIn r ≡ trimmedIn f
+pub code-small : (us : List NamedUnit) (a : List ℕ) → unitCode us a ≤ 5
+unfolding unitCode codeOf
+code-small us a = small (physicalAs (findUnit a us))
+  where
+    small : (p : Physical) → codeOf p ≤ 5
+    small Volume = omega arith
+    small Mass = omega arith
+    small Length = omega arith
+    small Temperature = omega arith
+    small Time = omega arith
+    small Unknown = omega arith
+
+module _ (us : List NamedUnit) (a b : List ℕ) {n : ℕ} (p : n ≡ unitCode us a) where
+  -- one that is not in the list fits itself alone
+  pub names-fit : n ≡ 5 → (r : Bool) → r ≡ eqList a b → r ≡ eqb (knownOf us a b) 0
+  names-fit e true s = rw (sym (units-same us a b s refl))
+  names-fit e false s = rw (sym (units-first us a b s p refl e))
+
+  -- else those fit that have the same physical quantity
+  module _ {m : ℕ} (q : m ≡ unitCode us b) (h : n ≡ 5 → m ≡ 5 → ⊥) where
+    others : (t u v : Bool) → t ≡ eqList a b → u ≡ eqb m 5 → v ≡ eqb n 5 → (n ≡ m → ⊥) → false ≡ eqb (knownOf us a b) 0
+    others true u v s k j e = absurd (e (p ∙ ap (unitCode us) (eq-true a b (sym s)) ∙ sym q))
+    others false true v s k j e = rw (sym (units-second us a b s q refl (eqb-true m 5 (sym k))))
+    others false false true s k j e = rw (sym (units-first us a b s p refl (eqb-true n 5 (sym j))))
+    others false false false s k j e = rw (sym (units-differ us a b p q (λ z. no-truth (j ∙ eq-eqb n 5 z)) (λ z. no-truth (k ∙ eq-eqb m 5 z)) e))
+
+    pub codes-fit : (r : Bool) → r ≡ eqb n m → r ≡ eqb (knownOf us a b) 0
+    codes-fit true e = rw (sym (units-fit us a b p q (λ k. h k (sym (eqb-true n m (sym e)) ∙ k)) (eqb-true n m (sym e))))
+    codes-fit false e = others (eqList a b) (eqb m 5) (eqb n 5) refl refl refl (λ k. no-truth (e ∙ eq-eqb n m k))
+
+pub trimmed-is : {f r : List ℕ} → TrimmedTo f r → keptIn r ≡ trimmedIn f
 unfolding trimmedIn
 trimmed-is {f} {r} t = kept-trimmed f r (t .is)
-
-pub fits-same : (us : List NamedUnit) (f g : List ℕ) {t : Bool} → t ≡ eqList f g → t ≡ true → true ≡ eqb (knownOf us (trimmedIn f) (trimmedIn g)) 0
-unfolding knownOf
-fits-same us f g s h = rw (eq-true f g (sym s ∙ h), twice us (trimmedIn g) (findUnit (trimmedIn g) us))
-
-module _ (us : List NamedUnit) {f g y x : List ℕ} (j : TrimmedTo f y) (i : TrimmedTo g x) {n : ℕ} (p : n ≡ unitCode us (keptIn y)) where
-  on-trimmed : {r : Bool} → r ≡ eqb (knownOf us (keptIn y) (keptIn x)) 0 → r ≡ eqb (knownOf us (trimmedIn f) (trimmedIn g)) 0
-  on-trimmed e = rw (trimmed-is j, trimmed-is i) at e
-
-  unknown : (r : Bool) → r ≡ eqList (keptIn y) (keptIn x) → n ≡ 5 → r ≡ eqb (knownOf us (keptIn y) (keptIn x)) 0
-  unknown true s e = rw (sym (units-same us (keptIn y) (keptIn x) s refl))
-  unknown false s e = rw (sym (units-first us (keptIn y) (keptIn x) s p refl e))
-
-  -- one that is not in the list fits itself alone
-  pub fits-unknown : {r : Bool} → r ≡ eqList (keptIn y) (keptIn x) → n ≡ 5 → r ≡ eqb (knownOf us (trimmedIn f) (trimmedIn g)) 0
-  fits-unknown {r} s e = on-trimmed (unknown r s e)
-
-  module _ {m : ℕ} (q : m ≡ unitCode us (keptIn x)) (h : n ≡ 5 → ⊥) where
-    others : (t u : Bool) → t ≡ eqList (keptIn y) (keptIn x) → u ≡ eqb m 5 → (n ≡ m → ⊥) → false ≡ eqb (knownOf us (keptIn y) (keptIn x)) 0
-    others true u s k e = absurd (e (p ∙ ap (unitCode us) (eq-true (keptIn y) (keptIn x) (sym s)) ∙ sym q))
-    others false true s k e = rw (sym (units-second us (keptIn y) (keptIn x) s q refl (eqb-true m 5 (sym k))))
-    others false false s k e = rw (sym (units-differ us (keptIn y) (keptIn x) p q h (λ z. no-truth (k ∙ eq-eqb m 5 z)) e))
-
-    known : (r : Bool) → r ≡ eqb n m → r ≡ eqb (knownOf us (keptIn y) (keptIn x)) 0
-    known true e = rw (sym (units-fit us (keptIn y) (keptIn x) p q h (eqb-true n m (sym e))))
-    known false e = others (eqList (keptIn y) (keptIn x)) (eqb m 5) refl refl (λ k. no-truth (e ∙ eq-eqb n m k))
-
-    -- one that is in the list fits those of its physical quantity
-    pub fits-known : {r : Bool} → r ≡ eqb n m → r ≡ eqb (knownOf us (trimmedIn f) (trimmedIn g)) 0
-    fits-known {r} e = on-trimmed (known r e)
 
 -- ---- the units of two quantities
 

@@ -3,7 +3,6 @@ use parts::OptText;
 use parts::TextView;
 use units::Physical;
 ghost use mathlib.Core.Path.{_≡_};
-ghost use lib.Dec.{eqb};
 ghost use Rattle.rules.specs.Units.{readUnits};
 ghost use Rattle.rules.specs.Answer.{unitsOr};
 ghost use Rattle.rules.specs.Checks.{compatibleUnit};
@@ -13,7 +12,7 @@ ghost use Rattle.text.specs.Trims.{TrimmedTo};
 ghost use Rattle.unit_index.specs.Index.{Indexed};
 ghost use Rattle.units.specs.Lists.{unitsFrom};
 ghost use Rattle.parts.specs.Views.{partOf, OptTextWithin};
-ghost use Rattle.compatible.specs.Fitting.{codeOf, unitCode, knownOf, trimmedIn, unitIn};
+ghost use Rattle.compatible.specs.Fitting.{codeOf, unitCode, knownOf, unitIn};
 
 fn physical_code(p: Physical) -> u32
     ensures { λ r. ⌜ r ≡ codeOf p ⌝ }
@@ -95,29 +94,4 @@ pub fn compatible_unit(
             }
         },
     }
-}
-
-// Whether a unit `a`, still untrimmed, fits a unit `b` that many are compared with: `x` is `b` trimmed, and m the number of its
-// physical quantity. Equal bytes are the same unit.
-pub fn fits_unit(
-    t: &[u32],
-    units: &[u8],
-    index: &[u32],
-    a: &[u8],
-    b: &[u8],
-    x: &[u8],
-    m: u32,
-) -> bool
-    requires { ⌜ (now t ≡ unicodeTables) × Indexed (now units) (now index) × TrimmedTo (now b) (now x) × (m ≡ unitCode (unitsFrom (now units) 0) (keptIn (now x))) ⌝ }
-    ensures { λ r. ⌜ r ≡ eqb (knownOf (unitsFrom (now (units .entry)) 0) (trimmedIn (now (a .entry))) (trimmedIn (now (b .entry)))) 0 ⌝ }
-{
-    if sheet::same_bytes(a, b) {
-        return true;
-    }
-    let y = text::text_outer_trimmed(t, a);
-    let n = unit_code(units, index, y);
-    if n == 5 {
-        return content::same_parts(y, x);
-    }
-    n == m
 }

@@ -24,6 +24,7 @@ ghost use Rattle.component_lines.specs.Lines.{LineHere, Kept, ComponentD
 ghost use Rattle.component_lines.specs.Steps.{ComponentHere, NamePlaced, asksSame, SameAsked, Roomy, SameSmall, FoundAs, OldRead, NamedReported, heirOf, RelatedTo, RowNamed, ReferredBelow, RowPut, IntermediateReported, IntermediateDone, NamedDone};
 ghost use Rattle.new_rows.specs.Rows.{RowMade};
 ghost use Rattle.unit_checks.specs.Checked.{SameBelow};
+ghost use Rattle.unit_checks.specs.Codes.{CodesKept};
 use blocks::Passed;
 use components::ComponentView;
 use components::Intermediate;
@@ -287,11 +288,12 @@ fn named_reports(
     old: Old,
     to: Same,
     is_ingredient: bool,
+    codes: &mut [u32],
     words: &mut [u32],
     h: Held,
 ) -> Held
-    requires { ⌜ (now t ≡ unicodeTables) × Indexed (now units) (now index) × ComponentHere (kindOf «is_ingredient») (now sheet) at end v × SameBelow (kindOf «is_ingredient») h to × Sound (now words) h × AllFit (now sheet) (now words) h × Roomy h × (h .counts .findings ≤ 1024) ⌝ }
-    ensures { λ r. ⌜ NamedReported (unitsOr (readUnits (now (units .entry)))) flags (kindOf «is_ingredient») (now (sheet .entry)) (slice at end (now (sheet .entry))) v old to (now (words .entry)) h (now (words .exit)) r ⌝ }
+    requires { ⌜ (now t ≡ unicodeTables) × Indexed (now units) (now index) × ComponentHere (kindOf «is_ingredient») (now sheet) at end v × SameBelow (kindOf «is_ingredient») h to × Sound (now words) h × AllFit (now sheet) (now words) h × Roomy h × (h .counts .findings ≤ 1024) × CodesKept (now units) (now sheet) (now codes) ⌝ }
+    ensures { λ r. ⌜ NamedReported (unitsOr (readUnits (now (units .entry)))) flags (kindOf «is_ingredient») (now (sheet .entry)) (slice at end (now (sheet .entry))) v old to (now (words .entry)) h (now (words .exit)) r × CodesKept (now (units .entry)) (now (sheet .entry)) (now (codes .exit)) ⌝ }
 {
     let m = v.modifiers;
     let quantity = v.quantity;
@@ -310,6 +312,7 @@ fn named_reports(
         units,
         index,
         flags,
+        codes,
         words,
         k2,
         sheet,
@@ -331,11 +334,12 @@ fn named_line(
     end: usize,
     v: ComponentView,
     is_ingredient: bool,
+    codes: &mut [u32],
     words: &mut [u32],
     h: Held,
 ) -> Held
-    requires { ⌜ (now t ≡ unicodeTables) × Indexed (now units) (now index) × ComponentHere (kindOf «is_ingredient») (now sheet) at end v × Sound (now words) h × AllFit (now sheet) (now words) h × Roomy h × (h .counts .findings ≤ 1024) ⌝ }
-    ensures { λ r. ⌜ NamedDone (unitsOr (readUnits (now (units .entry)))) flags (kindOf «is_ingredient») (now (sheet .entry)) (slice at end (now (sheet .entry))) v (now (words .entry)) h (now (words .exit)) r ⌝ }
+    requires { ⌜ (now t ≡ unicodeTables) × Indexed (now units) (now index) × ComponentHere (kindOf «is_ingredient») (now sheet) at end v × Sound (now words) h × AllFit (now sheet) (now words) h × Roomy h × (h .counts .findings ≤ 1024) × CodesKept (now units) (now sheet) (now codes) ⌝ }
+    ensures { λ r. ⌜ NamedDone (unitsOr (readUnits (now (units .entry)))) flags (kindOf «is_ingredient») (now (sheet .entry)) (slice at end (now (sheet .entry))) v (now (words .entry)) h (now (words .exit)) r × CodesKept (now (units .entry)) (now (sheet .entry)) (now (codes .exit)) ⌝ }
 {
     let m = v.modifiers;
     let define = h.define;
@@ -359,6 +363,7 @@ fn named_line(
         old,
         to,
         is_ingredient,
+        codes,
         words,
         h,
     );
@@ -377,11 +382,12 @@ pub fn on_ingredient(
     end: usize,
     v: ComponentView,
     i: OptIntermediate,
+    codes: &mut [u32],
     words: &mut [u32],
     h: Held,
 ) -> Passed
-    requires { ⌜ (now t ≡ unicodeTables) × Indexed (now units) (now index) × LineHere (now sheet) at end (inside (componentEvent (componentEventIn (slice at end (now sheet)) (event.Ingredient v i)))) × ComponentEventWithin (slice at end (now sheet)) (event.Ingredient v i) × ComponentEventFields (slice at end (now sheet)) (event.Ingredient v i) × Kept (now sheet) (now words) h ⌝ }
-    ensures { λ r. ⌜ ComponentDone (unitsOr (readUnits (now (units .entry)))) flags (now (sheet .entry)) (slice at end (now (sheet .entry))) (event.Ingredient v i) (now (words .entry)) h (now (words .exit)) r ⌝ }
+    requires { ⌜ (now t ≡ unicodeTables) × Indexed (now units) (now index) × LineHere (now sheet) at end (inside (componentEvent (componentEventIn (slice at end (now sheet)) (event.Ingredient v i)))) × ComponentEventWithin (slice at end (now sheet)) (event.Ingredient v i) × ComponentEventFields (slice at end (now sheet)) (event.Ingredient v i) × Kept (now sheet) (now words) h × CodesKept (now units) (now sheet) (now codes) ⌝ }
+    ensures { λ r. ⌜ ComponentDone (unitsOr (readUnits (now (units .entry)))) flags (now (sheet .entry)) (slice at end (now (sheet .entry))) (event.Ingredient v i) (now (words .entry)) h (now (words .exit)) r × CodesKept (now (units .entry)) (now (sheet .entry)) (now (codes .exit)) ⌝ }
 {
     let m = v.modifiers;
     let fault = intermediate::intermediate_fault(m.reference, i);
@@ -390,7 +396,20 @@ pub fn on_ingredient(
     }
     match i {
         OptIntermediate::Absent => {
-            let k = named_line(t, units, index, flags, sheet, at, end, v, true, words, h);
+            let k = named_line(
+                t,
+                units,
+                index,
+                flags,
+                sheet,
+                at,
+                end,
+                v,
+                true,
+                codes,
+                words,
+                h,
+            );
             Passed::Next(k)
         }
         OptIntermediate::Present(x) => {
@@ -409,12 +428,26 @@ pub fn on_cookware(
     at: usize,
     end: usize,
     v: ComponentView,
+    codes: &mut [u32],
     words: &mut [u32],
     h: Held,
 ) -> Passed
-    requires { ⌜ (now t ≡ unicodeTables) × Indexed (now units) (now index) × LineHere (now sheet) at end (inside (componentEvent (componentEventIn (slice at end (now sheet)) (event.Cookware v)))) × ComponentEventWithin (slice at end (now sheet)) (event.Cookware v) × ComponentEventFields (slice at end (now sheet)) (event.Cookware v) × Kept (now sheet) (now words) h ⌝ }
-    ensures { λ r. ⌜ ComponentDone (unitsOr (readUnits (now (units .entry)))) flags (now (sheet .entry)) (slice at end (now (sheet .entry))) (event.Cookware v) (now (words .entry)) h (now (words .exit)) r ⌝ }
+    requires { ⌜ (now t ≡ unicodeTables) × Indexed (now units) (now index) × LineHere (now sheet) at end (inside (componentEvent (componentEventIn (slice at end (now sheet)) (event.Cookware v)))) × ComponentEventWithin (slice at end (now sheet)) (event.Cookware v) × ComponentEventFields (slice at end (now sheet)) (event.Cookware v) × Kept (now sheet) (now words) h × CodesKept (now units) (now sheet) (now codes) ⌝ }
+    ensures { λ r. ⌜ ComponentDone (unitsOr (readUnits (now (units .entry)))) flags (now (sheet .entry)) (slice at end (now (sheet .entry))) (event.Cookware v) (now (words .entry)) h (now (words .exit)) r × CodesKept (now (units .entry)) (now (sheet .entry)) (now (codes .exit)) ⌝ }
 {
-    let k = named_line(t, units, index, flags, sheet, at, end, v, false, words, h);
+    let k = named_line(
+        t,
+        units,
+        index,
+        flags,
+        sheet,
+        at,
+        end,
+        v,
+        false,
+        codes,
+        words,
+        h,
+    );
     Passed::Next(k)
 }

@@ -9,6 +9,7 @@ ghost use Rattle.events.specs.Views.{BetweenWithin};
 ghost use Rattle.events.specs.declared.EventView.the-variants as event;
 ghost use Rattle.events.specs.declared.Inside.the-variants as inside;
 ghost use Rattle.model.specs.Memory.{Sound};
+ghost use Rattle.unit_checks.specs.Codes.{CodesKept};
 ghost use Rattle.component_lines.specs.Lines.{ComponentDone};
 ghost use Rattle.pass.specs.Walks.{Lent, EventHere, Running, InStep, InsideDone, BetweenDone, EventDone, ErrorView, StepDone, Finished, RanAs};
 use blocks::Passed;
@@ -30,11 +31,12 @@ fn on_component(
     at: usize,
     end: usize,
     c: ComponentEvent,
+    codes: &mut [u32],
     words: &mut [u32],
     h: Held,
 ) -> Passed
-    requires { ⌜ Lent (now t) (now units) (now index) × EventHere (now sheet) (now line) at end (event.Inside (inside.Component c)) × Running (now sheet) (now words) h at ⌝ }
-    ensures { λ r. ⌜ ComponentDone (unitsOr (readUnits (now (units .entry)))) flags (now (sheet .entry)) (now (line .entry)) c (now (words .entry)) h (now (words .exit)) r ⌝ }
+    requires { ⌜ Lent (now t) (now units) (now index) × EventHere (now sheet) (now line) at end (event.Inside (inside.Component c)) × Running (now sheet) (now words) h at × CodesKept (now units) (now sheet) (now codes) ⌝ }
+    ensures { λ r. ⌜ ComponentDone (unitsOr (readUnits (now (units .entry)))) flags (now (sheet .entry)) (now (line .entry)) c (now (words .entry)) h (now (words .exit)) r × CodesKept (now (units .entry)) (now (sheet .entry)) (now (codes .exit)) ⌝ }
 {
     match c {
         ComponentEvent::Ingredient(v, i) => component_lines::on_ingredient(
@@ -47,6 +49,7 @@ fn on_component(
             end,
             v,
             i,
+            codes,
             words,
             h,
         ),
@@ -59,6 +62,7 @@ fn on_component(
             at,
             end,
             v,
+            codes,
             words,
             h,
         ),
@@ -80,11 +84,12 @@ fn in_step_block(
     at: usize,
     end: usize,
     e: Inside,
+    codes: &mut [u32],
     words: &mut [u32],
     h: Held,
 ) -> Passed
-    requires { ⌜ Lent (now t) (now units) (now index) × EventHere (now sheet) (now line) at end (event.Inside e) × Running (now sheet) (now words) h at ⌝ }
-    ensures { λ r. ⌜ InStep (unitsOr (readUnits (now (units .entry)))) flags (now (sheet .entry)) (now (line .entry)) e (now (words .entry)) h (now (words .exit)) r ⌝ }
+    requires { ⌜ Lent (now t) (now units) (now index) × EventHere (now sheet) (now line) at end (event.Inside e) × Running (now sheet) (now words) h at × CodesKept (now units) (now sheet) (now codes) ⌝ }
+    ensures { λ r. ⌜ InStep (unitsOr (readUnits (now (units .entry)))) flags (now (sheet .entry)) (now (line .entry)) e (now (words .entry)) h (now (words .exit)) r × CodesKept (now (units .entry)) (now (sheet .entry)) (now (codes .exit)) ⌝ }
 {
     match e {
         Inside::End(kind) => blocks::end_step(words, h, kind),
@@ -102,6 +107,7 @@ fn in_step_block(
             at,
             end,
             c,
+            codes,
             words,
             h,
         ),
@@ -119,16 +125,30 @@ fn on_inside(
     at: usize,
     end: usize,
     e: Inside,
+    codes: &mut [u32],
     words: &mut [u32],
     h: Held,
 ) -> Passed
-    requires { ⌜ Lent (now t) (now units) (now index) × EventHere (now sheet) (now line) at end (event.Inside e) × Running (now sheet) (now words) h at ⌝ }
-    ensures { λ r. ⌜ InsideDone (unitsOr (readUnits (now (units .entry)))) flags (now (sheet .entry)) (now (line .entry)) e (now (words .entry)) h (now (words .exit)) r ⌝ }
+    requires { ⌜ Lent (now t) (now units) (now index) × EventHere (now sheet) (now line) at end (event.Inside e) × Running (now sheet) (now words) h at × CodesKept (now units) (now sheet) (now codes) ⌝ }
+    ensures { λ r. ⌜ InsideDone (unitsOr (readUnits (now (units .entry)))) flags (now (sheet .entry)) (now (line .entry)) e (now (words .entry)) h (now (words .exit)) r × CodesKept (now (units .entry)) (now (sheet .entry)) (now (codes .exit)) ⌝ }
 {
     let block = h.block;
     match block {
         Open::Nothing => Passed::Stop(12),
-        Open::Step => in_step_block(t, units, index, flags, sheet, line, at, end, e, words, h),
+        Open::Step => in_step_block(
+            t,
+            units,
+            index,
+            flags,
+            sheet,
+            line,
+            at,
+            end,
+            e,
+            codes,
+            words,
+            h,
+        ),
         Open::Text => blocks::in_text_block(words, h, e),
         Open::TextMode => blocks::in_text_mode(words, h, e),
     }
@@ -156,11 +176,12 @@ fn on_event(
     at: usize,
     end: usize,
     v: EventView,
+    codes: &mut [u32],
     words: &mut [u32],
     h: Held,
 ) -> Passed
-    requires { ⌜ Lent (now t) (now units) (now index) × EventHere (now sheet) (now line) at end v × Running (now sheet) (now words) h at ⌝ }
-    ensures { λ r. ⌜ EventDone (unitsOr (readUnits (now (units .entry)))) flags (now (sheet .entry)) (now (line .entry)) v (now (words .entry)) h (now (words .exit)) r ⌝ }
+    requires { ⌜ Lent (now t) (now units) (now index) × EventHere (now sheet) (now line) at end v × Running (now sheet) (now words) h at × CodesKept (now units) (now sheet) (now codes) ⌝ }
+    ensures { λ r. ⌜ EventDone (unitsOr (readUnits (now (units .entry)))) flags (now (sheet .entry)) (now (line .entry)) v (now (words .entry)) h (now (words .exit)) r × CodesKept (now (units .entry)) (now (sheet .entry)) (now (codes .exit)) ⌝ }
 {
     match v {
         EventView::Between(b) => {
@@ -180,6 +201,7 @@ fn on_event(
             at,
             end,
             e,
+            codes,
             words,
             h,
         ),
@@ -222,16 +244,30 @@ fn step(
     at: usize,
     end: usize,
     v: EventView,
+    codes: &mut [u32],
     words: &mut [u32],
     h: Held,
 ) -> Walked
-    requires { ⌜ Lent (now t) (now units) (now index) × EventHere (now sheet) (now line) at end v × Running (now sheet) (now words) h at ⌝ }
-    ensures { λ r. ⌜ StepDone (unitsOr (readUnits (now (units .entry)))) flags (now (sheet .entry)) (now (line .entry)) end v (now (words .entry)) h (now (words .exit)) r ⌝ }
+    requires { ⌜ Lent (now t) (now units) (now index) × EventHere (now sheet) (now line) at end v × Running (now sheet) (now words) h at × CodesKept (now units) (now sheet) (now codes) ⌝ }
+    ensures { λ r. ⌜ StepDone (unitsOr (readUnits (now (units .entry)))) flags (now (sheet .entry)) (now (line .entry)) end v (now (words .entry)) h (now (words .exit)) r × CodesKept (now (units .entry)) (now (sheet .entry)) (now (codes .exit)) ⌝ }
 {
     if is_error(v) {
         return Walked::Failed;
     }
-    match on_event(t, units, index, flags, sheet, line, at, end, v, words, h) {
+    match on_event(
+        t,
+        units,
+        index,
+        flags,
+        sheet,
+        line,
+        at,
+        end,
+        v,
+        codes,
+        words,
+        h,
+    ) {
         Passed::Stop(n) => Walked::Refused(n),
         Passed::Next(k) => {
             if memory::over_limits(k) {
@@ -274,6 +310,8 @@ pub fn run(
     requires { ⌜ Lent (now t) (now units) (now index) × (length (now sheet) ≤ 65536) × (24157 ≤ length (now words)) × (readSheet (now text) (now sheet) ≡ events (eventsOr (readSheet (now text) (now sheet)))) ⌝ }
     ensures { λ r. ⌜ RanAs (unitsOr (readUnits (now (units .entry)))) flags (now (sheet .entry)) (now (text .entry)) (eventsOr (readSheet (now (text .entry)) (now (sheet .entry)))) (now (words .entry)) (now (words .exit)) r ⌝ }
 {
+    // `codes` keeps what an earlier line's unit is, so that each is looked up once.
+    let mut codes = [0u32; 1539];
     let mut h = memory::first_held();
     let mut at = 0;
     let mut number: u32 = 1;
@@ -283,7 +321,20 @@ pub fn run(
         };
         let line = &sheet[at..end];
         let v = known_events::event_of(line);
-        match step(t, units, index, flags, sheet, line, at, end, v, words, h) {
+        match step(
+            t,
+            units,
+            index,
+            flags,
+            sheet,
+            line,
+            at,
+            end,
+            v,
+            &mut codes,
+            words,
+            h,
+        ) {
             Walked::Failed => {
                 return Ran::Failed;
             }

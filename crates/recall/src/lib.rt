@@ -184,7 +184,7 @@ fn unit_at(line: &[u8], at: usize) -> UnitPlace
         Dash::Absent(next) => UnitPlace::NoUnit,
         Dash::Ill => UnitPlace::NoUnit,
         Dash::Present => {
-            let from = after_tabs(line, at, 2);
+            let from = after_near_tabs(line, at, 2);
             if line.len() < from {
                 return UnitPlace::NoUnit;
             }

@@ -1,6 +1,7 @@
 pub mod Trims
 pub mod Blanks
 pub mod Writes
+pub mod Singles
 pub mod Names
 pub mod Paths
 pub mod Plain

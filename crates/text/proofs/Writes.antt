@@ -1,13 +1,13 @@
 -- Fields written with single blanks.
 use Prim.Native.Nat.{ℕ, _<_, _≤_, _+_}
-use mathlib.Core.Path.{_≡_, refl, sym, ap, _∙_}
+use mathlib.Core.Path.{_≡_, ap, _∙_}
 use mathlib.Core.Bool.{Bool, true, false, _&&_, not}
-use mathlib.Core.List.{List, [], _∷_, _++_, append-assoc, append-nil}
+use mathlib.Core.List.{List, [], _∷_, _++_}
 use native.Mathlib.Numerals.{add-one}
 use borrow.Author.Tests.{eq-eqb, ne-eqb, not-true, not-false}
 use lib.Dec.{eqb}
-use lib.ListN.{length, getD, take, drop, drop-of-length-le}
-use lib.Seq.{take-all, take-suc, drop-cons}
+use lib.ListN.{length, getD, drop, drop-of-length-le}
+use lib.Seq.{drop-cons}
 use Rattle.rules.specs.Basic.{pick, blank}
 use Rattle.rules.specs.Text.{retain, textTrimmed}
 use Rattle.output.specs.Put.{Put}
@@ -37,27 +37,6 @@ module _ (w : List ℕ) (i prev b : ℕ) (gone : Bool) (h : i < length w) (eb : 
 pub retain-none : (w : List ℕ) (i prev : ℕ) → length w ≤ i → retain prev (drop i w) ≡ []
 unfolding retain
 retain-none w i prev h = rw (drop-of-length-le w h)
-
--- ---- bytes that stay as they are
-
--- so far they do
-pub record Singles (w : List ℕ) (i prev : ℕ) : Type 0 where
-  pub is : take i w ++ retain prev (drop i w) ≡ retain 0 w
-
-pub singles-start : {w : List ℕ} → Singles w 0 0
-singles-start = record { is = refl }
-
-pub singles-turn : (w : List ℕ) (i prev b : ℕ) {gone : Bool} → i < length w → b ≡ getD w i 0 → gone ≡ (eqb b blank && eqb prev blank) → gone ≡ false → Singles w i prev → Singles w (i + 1) b
-singles-turn w i prev b {gone} h eb eg n s =
-    let t : take (i + 1) w ≡ take i w ++ (b ∷ []) = rw (add-one i, eb) (take-suc w i 0 h) in
-    let r : retain prev (drop i w) ≡ (b ∷ []) ++ retain b (drop (i + 1) w) = retain-stays w i prev b gone h eb eg (rw n refl) in
-    record { is = ap (λ (x : List ℕ). x ++ retain b (drop (i + 1) w)) t ∙ append-assoc (take i w) (b ∷ []) (retain b (drop (i + 1) w)) ∙ ap (λ (x : List ℕ). take i w ++ x) (sym r) ∙ s .is }
-
-pub singles-end : {w : List ℕ} {i prev : ℕ} → length w ≤ i → Singles w i prev → retain 0 w ≡ w
-singles-end {w} {i} {prev} h s = sym (s .is) ∙ ap (λ (x : List ℕ). take i w ++ x) (retain-none w i prev h) ∙ append-nil (take i w) ∙ take-all i w h
-
-pub put-single : {w o₀ o : List ℕ} {at r : ℕ} {b : Bool} → (b ≡ true → retain 0 w ≡ w) → b ≡ true → Put w o₀ at o r → Put (retain 0 w) o₀ at o r
-put-single h e p = rw (h e) p
 
 -- a field with single blanks spells its content with single blanks
 pub kept-spelled : {w : List ℕ} → Field w → retain 0 w ≡ spell (keptIn w)

@@ -1,4 +1,5 @@
 pub mod Trims
+pub mod Singles
 pub mod Names
 pub mod Paths
 pub mod Plain

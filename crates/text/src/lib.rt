@@ -5,6 +5,7 @@ mod fronts;
 use unicode::Folded;
 ghost use mathlib.Core.Path.{_≡_};
 ghost use mathlib.Core.Bool.{true, false, _&&_};
+ghost use Prim.Native.Nat.{_+_, _-_, _≤_};
 ghost use lib.Dec.{eqb};
 ghost use lib.ListN.{length};
 ghost use Rattle.rules.specs.Basic.{blank, any};
@@ -14,6 +15,7 @@ ghost use Rattle.content.specs.Contents.{contentIn, keptIn};
 ghost use Rattle.unicode.specs.Tables.{unicodeTables};
 ghost use Rattle.output.specs.Put.{Put};
 ghost use Rattle.text.specs.Trims.{dropsOf, StartAt, EndAt, TrimmedBy, TrimmedTo, UnitTrimmedTo, PutTrimmed};
+ghost use Rattle.text.specs.Singles.{stay};
 ghost use Rattle.text.specs.Paths.{isBack, pathBytes};
 ghost use Rattle.text.specs.Names.{startCursor, stepOf, foldFrom, rest, told};
 ghost use Rattle.text.specs.Seams.{meetingOf, Met};
@@ -135,19 +137,41 @@ fn goes(b: u8, prev: u8) -> bool
     false
 }
 
+// Whether after each of the sixteen bytes at a place the next one stays. All of them are looked at, which the compiler makes one
+// comparison.
+fn sixteen_stay(w: &[u8], at: usize) -> bool
+    requires { ⌜ at + 17 ≤ length (now w) ⌝ }
+    ensures { λ r. ⌜ r ≡ stay (now (w .entry)) at 16 ⌝ }
+{
+    let mut all = true;
+    let mut j = 0;
+    while j < 16 {
+        let i = at + j;
+        if (w[i + 1] == b' ') & (w[i] == b' ') {
+            all = false;
+        }
+        j += 1;
+    }
+    all
+}
+
 // Whether no two blanks follow one another.
 fn is_single(w: &[u8]) -> bool
-    ensures { λ r. ⌜ (r ≡ true → retain 0 (now (w .entry)) ≡ now (w .entry)) ⌝ }
+    ensures { λ r. ⌜ r ≡ stay (now (w .entry)) 0 (length (now (w .entry)) - 1) ⌝ }
 {
     let mut i = 0;
-    let mut prev = 0;
-    while i < w.len() {
-        let b = w[i];
-        if goes(b, prev) {
-            return false;
+    while i + 1 < w.len() {
+        if 17 <= w.len() - i {
+            if !sixteen_stay(w, i) {
+                return false;
+            }
+            i += 16;
+        } else {
+            if goes(w[i + 1], w[i]) {
+                return false;
+            }
+            i += 1;
         }
-        prev = b;
-        i += 1;
     }
     true
 }

@@ -1,13 +1,15 @@
 -- The unit check: one row, all referrers of a definition, the definition before them.
 use Prim.Native.Nat.{ℕ, zero, suc, _+_, _-_, _*_, _≤_, _<_}
 use mathlib.Core.Path.{_≡_, refl, ap, sym, _∙_}
-use mathlib.Core.Bool.{Bool, true}
+use mathlib.Core.Bool.{Bool, true, false}
 use mathlib.Core.Option.{Option, none, some}
 use mathlib.Core.List.{List, [], _∷_, _++_, append-nil}
 use native.Mathlib.Omega.{arith}
+use borrow.Author.Tests.{lt-ltb, le-ltb}
 use lib.ListN.{length, take, drop}
 use Rattle.rules.specs.Basic.{pick, onSome}
 use Rattle.rules.specs.Event as rules
+use Rattle.rules.proofs.Basics.{no-truth, by-order}
 use Rattle.rules.specs.Read.{noModifiers}
 use Rattle.rules.specs.Units.{NamedUnit}
 use Rattle.rules.specs.Model.{Kind, ingredient, isIngredient, Amount, amountOf, Entry, definition}
@@ -39,7 +41,7 @@ use Rattle.checks.proofs.Frames.{Framed, framed-none, framed-seq, framed-count,
 use Rattle.checks.proofs.Laws.{none-found, said}
 use Rattle.lookup.specs.Names.{rowsIn, pairsIn, earlierIn, earlierAt}
 use Rattle.recall.specs.Recalls.{QuantityRecalled}
-use Rattle.unit_checks.specs.Checked.{QuantityOf, UnitKnown, fitsUnit, RowChecked, ReferrersChecked, UnitChecked}
+use Rattle.unit_checks.specs.Checked.{QuantityOf, UnitKnown, fitsUnit, fitsRow, RowChecked, ReferrersChecked, UnitChecked}
 use Rattle.unit_checks.proofs.Rows.{entry-past, entry-there, earlier-row, row-fits, line-amount, quantity-source}
 use Rattle.unit_checks.proofs.Fitting.{finding-none}
 
@@ -95,6 +97,10 @@ module _ (i : ℕ) {sheet w₀ : List ℕ} {h₀ : Held} {r : Row} (f : AllFit s
         is = λ new n. none-found (row-pair us new n ∙ finding-none us new (optQuantityIn line a) _ _ (λ q o. ap (fitsUnit us _) (k .is q o) ∙ sym t ∙ z));
       }
 
+  pub fits-there : (us : List NamedUnit) (b : Option (List ℕ)) {t : Bool} → t ≡ fitsUnit us (componentOfLine ingredient (take (r .«line_end» - r .«line_at») (drop (r .«line_at») sheet)) .quantity) b → t ≡ fitsRow us sheet w₀ h₀ i b
+  unfolding fitsRow
+  fits-there us b t = rw (lt-ltb i (h₀ .counts .ingredients) l, ← row-window w₀ i e) t
+
   module _ {b : OptQuantity} (q : QuantityRecalled (take (r .«line_end» - r .«line_at») (drop (r .«line_at») sheet)) b) where
     same : (us : List NamedUnit) {line : List ℕ} {a : OptQuantity} (new : Entry) → QuantityOf new ingredient line a
         → unitAgainst us new (entryAt i (tableOf ingredient (stateIn sheet w₀ h₀)))
@@ -111,6 +117,25 @@ module _ (i : ℕ) {sheet w₀ : List ℕ} {h₀ : Held} {r : Row} (f : AllFit s
               said (same us new n)
               (u .is true true new (entryAs ingredient sheet r by) (n .isSource) (quantity-source (window-fits w₀ i f l e) q by));
         }
+
+module _ (us : List NamedUnit) (sheet w : List ℕ) (h : Held) (i : ℕ) (b : Option (List ℕ)) where
+  pub fits-past : h .counts .ingredients ≤ i → true ≡ fitsRow us sheet w h i b
+  unfolding fitsRow
+  fits-past l = rw (le-ltb i (h .counts .ingredients) l)
+
+  pub not-past : {t : Bool} → t ≡ fitsRow us sheet w h i b → t ≡ false → i < h .counts .ingredients
+  not-past e n = by-order (h .counts .ingredients) i (λ l. no-truth (sym n ∙ e ∙ sym (fits-past l))) (λ l. l)
+
+  pub unfit-row : {t : Bool} {r : Row} → AllFit sheet w h → t ≡ fitsRow us sheet w h i b → t ≡ false → r ≡ rowOf (rowAt 12 (take 6156 (drop 0 w)) i) → Fits ingredient sheet r
+  unfit-row f e n = window-fits w i f (not-past e n)
+
+-- a row that fits draws nothing
+pub row-skipped : {us vs : List NamedUnit} {sheet line : List ℕ} {a : OptQuantity} {has : Bool} {g x : List ℕ} {m i : ℕ} {w : List ℕ} {h : Held} {t : Bool} → AllFit sheet w h → us ≡ vs → UnitKnown us line a has g x m
+    → t ≡ fitsRow us sheet w h i (pick has (some (trimmedIn g)) none) → t ≡ true → RowChecked vs sheet line a i w h w h
+row-skipped {us} {vs} {sheet} {line} {a} {has} {g} {i = i} {w} {h} {t} f ev k e z = by-order (h .counts .ingredients) i row-none there
+  where
+    there : i < h .counts .ingredients → RowChecked vs sheet line a i w h w h
+    there l = row-fitting i f l refl ev k (e ∙ sym (fits-there i f l refl us (pick has (some (trimmedIn g)) none) refl)) z
 
 -- ---- what it leaves, whatever the entry is
 

@@ -1,10 +1,11 @@
 -- What the unit check, and all checks after a reference, leave in work memory.
-use Prim.Native.Nat.{ℕ, _<_}
+use Prim.Native.Nat.{ℕ, _-_, _<_}
 use mathlib.Core.Path.{_≡_}
 use mathlib.Core.List.{List, []}
 use mathlib.Core.Bool.{Bool, true, _&&_, not}
 use mathlib.Core.Option.{Option, none, some}
-use lib.Dec.{eqb}
+use lib.Dec.{eqb, ltb}
+use lib.ListN.{take, drop}
 use Rattle.rules.specs.Basic.{pick, isSome, onSome}
 use Rattle.rules.specs.Units.{NamedUnit}
 use Rattle.rules.specs.Modes.{hasAdvancedUnits}
@@ -21,15 +22,16 @@ use Rattle.parts.specs.declared.OptQuantity.{OptQuantity}
 use Rattle.parts.specs.Views.{optQuantityIn, OptQuantityWithin}
 use Rattle.components.specs.declared.ComponentView.{ComponentView}
 use Rattle.components.specs.Views.{componentIn}
-use Rattle.model.specs.Rows.{referrersFrom, relationIn}
+use Rattle.model.specs.Rows.{rowAt, rowOf, componentOfLine, referrersFrom, relationIn}
 use Rattle.model.specs.Memory.{windowsOf, stateIn}
 use Rattle.model.specs.declared.RelationRecord.{RelationRecord}
+use Rattle.model.specs.declared.Row.{Row}
 use Rattle.model.specs.declared.Held.{Held}
 use Rattle.memory.specs.Pushes.{countOf}
 use Rattle.checks.specs.Reports.{Reported}
 use Rattle.lookup.specs.declared.Same.{Same}
 use Rattle.lookup.specs.declared.Same.the-variants.{At}
-use Rattle.lookup.specs.Names.{sameOf, earlierAt}
+use Rattle.lookup.specs.Names.{rowsIn, sameOf, earlierAt}
 
 -- as many rows as the window of a kind holds
 abbrev pub roomOf : Kind → ℕ
@@ -62,10 +64,18 @@ pub record UnitKnown (us : List NamedUnit) (line : List ℕ) (a : OptQuantity) (
   pub trimmed : TrimmedTo f x
   pub code : m ≡ unitCode us (keptIn x)
 
+-- the line that a row points at
+abbrev rowLine : List ℕ → Row → List ℕ
+rowLine sheet r = take (r .«line_end» - r .«line_at») (drop (r .«line_at») sheet)
+
 -- whether a quantity, where there is one, draws nothing beside a unit, or none
 unfoldable pub fitsUnit : List NamedUnit → Option Quantity → Option (List ℕ) → Bool
 fitsUnit us none b = true
 fitsUnit us (some q) b = eqb (compatibleUnit us (onSome trimmedText (q .unit)) b) 0
+
+-- the same of the row i, where it is there: the quantity is that of its line
+unfoldable pub fitsRow : List NamedUnit → List ℕ → List ℕ → Held → ℕ → Option (List ℕ) → Bool
+fitsRow us sheet w h i b = pick (ltb i (h .counts .ingredients)) (fitsUnit us (componentOfLine ingredient (rowLine sheet (rowOf (rowAt 12 (rowsIn ingredient w) i))) .quantity) b) true
 
 -- whatever else the new entry is: its unit against that of the row i, where there is one
 pub record RowChecked (us : List NamedUnit) (sheet line : List ℕ) (a : OptQuantity) (i : ℕ) (w₀ : List ℕ) (h₀ : Held) (w : List ℕ) (h : Held) : Type 0 where

@@ -1,5 +1,7 @@
 // The checks after a reference: the unit check over a definition and its references (15 to 17), then those of notes and
 // quantities (18 to 20).
+mod kept;
+
 use components::ComponentView;
 use lookup::Same;
 use model::Held;
@@ -8,14 +10,12 @@ use model::RelationRecord;
 use model::Row;
 use parts::OptQuantity;
 use parts::OptText;
-use recall::UnitPlace;
 ghost use mathlib.Core.Path.{_≡_};
 ghost use mathlib.Core.Bool.{true};
 ghost use mathlib.Core.Option.{none, some};
-ghost use Prim.Native.Nat.{_+_, _<_, _≤_};
+ghost use Prim.Native.Nat.{_+_, _-_, _<_, _≤_};
 ghost use lib.ListN.{length};
 ghost use Rattle.rules.specs.Basic.{pick};
-ghost use Rattle.rules.specs.Read.{parseLine};
 ghost use Rattle.rules.specs.Model.{ingredient};
 ghost use Rattle.rules.specs.Units.{readUnits};
 ghost use Rattle.rules.specs.Answer.{unitsOr};
@@ -27,12 +27,13 @@ ghost use Rattle.units.specs.Lists.{unitsFrom};
 ghost use Rattle.compatible.specs.Fitting.{unitCode, trimmedIn};
 ghost use Rattle.parts.specs.Views.{OptQuantityWithin};
 ghost use Rattle.components.specs.Views.{ComponentWithin};
-ghost use Rattle.model.specs.Rows.{rowAt, rowOf, componentOfLine};
+ghost use Rattle.model.specs.Rows.{rowAt, rowOf};
 ghost use Rattle.model.specs.Memory.{Sound};
-ghost use Rattle.model.specs.Fits.{isOfKind, AllFit};
+ghost use Rattle.model.specs.Fits.{AllFit};
 ghost use Rattle.memory.specs.Pushes.{countOf};
 ghost use Rattle.lookup.specs.Names.{kindOf, rowsIn};
-ghost use Rattle.unit_checks.specs.Checked.{roomOf, InStep, SameBelow, HasUnit, UnitField, UnitKnown, fitsUnit, RowChecked, ReferrersChecked, UnitChecked, UnitsAfter, EntryChecked, ChecksDone};
+ghost use Rattle.unit_checks.specs.Codes.{CodesKept};
+ghost use Rattle.unit_checks.specs.Checked.{roomOf, InStep, SameBelow, HasUnit, UnitField, UnitKnown, fitsRow, RowChecked, ReferrersChecked, UnitChecked, UnitsAfter, EntryChecked, ChecksDone};
 
 // ---- rows
 
@@ -90,31 +91,36 @@ fn unit_field<'a>(line: &'a [u8], a: OptQuantity) -> &'a [u8]
     }
 }
 
-// Whether the quantity of an earlier ingredient's line draws nothing beside the unit of the field `f`, or beside none: `x` is
-// `f` trimmed, and m the number of its physical quantity.
-fn unit_fits(
+// Whether the row i draws nothing beside the unit of the field `f`, or beside none: `x` is `f` trimmed, and m the number of its
+// physical quantity. A row that is not there draws nothing.
+fn row_fits(
     t: &[u32],
     units: &[u8],
     index: &[u32],
-    old: &[u8],
+    codes: &mut [u32],
+    words: &[u32],
+    h: Held,
+    sheet: &[u8],
     has: bool,
     f: &[u8],
     x: &[u8],
     m: u32,
+    i: usize,
 ) -> bool
-    requires { ⌜ (now t ≡ unicodeTables) × Indexed (now units) (now index) × (isOfKind ingredient (parseLine (now old)) ≡ true) × TrimmedTo (now f) (now x) × (m ≡ unitCode (unitsFrom (now units) 0) (keptIn (now x))) ⌝ }
-    ensures { λ r. ⌜ r ≡ fitsUnit (unitsFrom (now (units .entry)) 0) (componentOfLine ingredient (now (old .entry)) .quantity) (pick has (some (trimmedIn (now (f .entry)))) none) ⌝ }
+    requires { ⌜ (now t ≡ unicodeTables) × Indexed (now units) (now index) × CodesKept (now units) (now sheet) (now codes) × Sound (now words) h × AllFit (now sheet) (now words) h × TrimmedTo (now f) (now x) × (m ≡ unitCode (unitsFrom (now units) 0) (keptIn (now x))) ⌝ }
+    ensures { λ r. ⌜ (r ≡ fitsRow (unitsFrom (now (units .entry)) 0) (now (sheet .entry)) (now (words .entry)) h i (pick has (some (trimmedIn (now (f .entry)))) none)) × CodesKept (now (units .entry)) (now (sheet .entry)) (now (codes .exit)) ⌝ }
 {
-    match recall::unit_in(old) {
-        UnitPlace::NoQuantity => true,
-        UnitPlace::NoUnit => !has,
-        UnitPlace::At(p) => {
-            if has {
-                return compatible::fits_unit(t, units, index, parts::part_of(old, p), f, x, m);
-            }
-            false
-        }
+    let n = h.counts.ingredients;
+    if n <= i {
+        return true;
     }
+    let r = model::row_at(&words[0..6156], i);
+    let at = r.line_at;
+    let end = r.line_end;
+    if kept::known_fits(codes, i, at, end, has, m) {
+        return true;
+    }
+    kept::line_fits(t, units, index, codes, sheet, at, end, i, has, f, x, m)
 }
 
 // The unit of a new ingredient's quantity `a`, of its line, against that of the row i; nothing where there is no such row.
@@ -122,6 +128,7 @@ fn unit_against(
     t: &[u32],
     units: &[u8],
     index: &[u32],
+    codes: &mut [u32],
     words: &mut [u32],
     h: Held,
     sheet: &[u8],
@@ -133,19 +140,15 @@ fn unit_against(
     m: u32,
     i: usize,
 ) -> Held
-    requires { ⌜ (now t ≡ unicodeTables) × Indexed (now units) (now index) × OptQuantityWithin (now line) a × UnitKnown (unitsFrom (now units) 0) (now line) a has (now f) (now x) m × Sound (now words) h × AllFit (now sheet) (now words) h × (h .counts .findings < 1544) ⌝ }
-    ensures { λ r. ⌜ RowChecked (unitsOr (readUnits (now (units .entry)))) (now (sheet .entry)) (now (line .entry)) a i (now (words .entry)) h (now (words .exit)) r ⌝ }
+    requires { ⌜ (now t ≡ unicodeTables) × Indexed (now units) (now index) × OptQuantityWithin (now line) a × UnitKnown (unitsFrom (now units) 0) (now line) a has (now f) (now x) m × Sound (now words) h × AllFit (now sheet) (now words) h × (h .counts .findings < 1544) × CodesKept (now units) (now sheet) (now codes) ⌝ }
+    ensures { λ r. ⌜ RowChecked (unitsOr (readUnits (now (units .entry)))) (now (sheet .entry)) (now (line .entry)) a i (now (words .entry)) h (now (words .exit)) r × CodesKept (now (units .entry)) (now (sheet .entry)) (now (codes .exit)) ⌝ }
 {
-    let n = h.counts.ingredients;
-    if n <= i {
+    if row_fits(t, units, index, codes, words, h, sheet, has, f, x, m, i) {
         return h;
     }
     let r = model::row_at(&words[0..6156], i);
     let at = r.line_at as usize;
     let end = r.line_end as usize;
-    if unit_fits(t, units, index, &sheet[at..end], has, f, x, m) {
-        return h;
-    }
     let b = recall::quantity_in(&sheet[at..end]);
     checks::unit_pair(t, units, index, words, h, line, a, &sheet[at..end], b)
 }
@@ -155,6 +158,7 @@ fn referrer_check(
     t: &[u32],
     units: &[u8],
     index: &[u32],
+    codes: &mut [u32],
     words: &mut [u32],
     h: Held,
     sheet: &[u8],
@@ -166,8 +170,8 @@ fn referrer_check(
     m: u32,
     d: usize,
 ) -> Held
-    requires { ⌜ (now t ≡ unicodeTables) × Indexed (now units) (now index) × OptQuantityWithin (now line) a × UnitKnown (unitsFrom (now units) 0) (now line) a has (now f) (now x) m × Sound (now words) h × AllFit (now sheet) (now words) h × (d < h .counts .ingredients) × (h .counts .findings + h .counts .«ingredient_pairs» ≤ 1544) ⌝ }
-    ensures { λ r. ⌜ ReferrersChecked (unitsOr (readUnits (now (units .entry)))) (now (sheet .entry)) (now (line .entry)) a d (now (words .entry)) h (now (words .exit)) r ⌝ }
+    requires { ⌜ (now t ≡ unicodeTables) × Indexed (now units) (now index) × OptQuantityWithin (now line) a × UnitKnown (unitsFrom (now units) 0) (now line) a has (now f) (now x) m × Sound (now words) h × AllFit (now sheet) (now words) h × (d < h .counts .ingredients) × (h .counts .findings + h .counts .«ingredient_pairs» ≤ 1544) × CodesKept (now units) (now sheet) (now codes) ⌝ }
+    ensures { λ r. ⌜ ReferrersChecked (unitsOr (readUnits (now (units .entry)))) (now (sheet .entry)) (now (line .entry)) a d (now (words .entry)) h (now (words .exit)) r × CodesKept (now (units .entry)) (now (sheet .entry)) (now (codes .exit)) ⌝ }
 {
     let n = h.counts.ingredient_pairs;
     let definition = d as u32;
@@ -182,21 +186,25 @@ fn referrer_check(
         ) else {
             return k;
         };
-        k = unit_against(
-            t,
-            units,
-            index,
-            words,
-            k,
-            sheet,
-            line,
-            a,
-            has,
-            f,
-            x,
-            m,
-            i as usize,
-        );
+        let j = i as usize;
+        if !row_fits(t, units, index, codes, words, k, sheet, has, f, x, m, j) {
+            k = unit_against(
+                t,
+                units,
+                index,
+                codes,
+                words,
+                k,
+                sheet,
+                line,
+                a,
+                has,
+                f,
+                x,
+                m,
+                j,
+            );
+        }
         from = next;
     }
     k
@@ -207,6 +215,7 @@ fn unit_check(
     t: &[u32],
     units: &[u8],
     index: &[u32],
+    codes: &mut [u32],
     words: &mut [u32],
     h: Held,
     sheet: &[u8],
@@ -214,8 +223,8 @@ fn unit_check(
     a: OptQuantity,
     d: usize,
 ) -> Held
-    requires { ⌜ (now t ≡ unicodeTables) × Indexed (now units) (now index) × OptQuantityWithin (now line) a × Sound (now words) h × AllFit (now sheet) (now words) h × (d < h .counts .ingredients) × (h .counts .findings + h .counts .«ingredient_pairs» < 1544) ⌝ }
-    ensures { λ r. ⌜ UnitChecked (unitsOr (readUnits (now (units .entry)))) (now (sheet .entry)) (now (line .entry)) a d (now (words .entry)) h (now (words .exit)) r ⌝ }
+    requires { ⌜ (now t ≡ unicodeTables) × Indexed (now units) (now index) × OptQuantityWithin (now line) a × Sound (now words) h × AllFit (now sheet) (now words) h × (d < h .counts .ingredients) × (h .counts .findings + h .counts .«ingredient_pairs» < 1544) × CodesKept (now units) (now sheet) (now codes) ⌝ }
+    ensures { λ r. ⌜ UnitChecked (unitsOr (readUnits (now (units .entry)))) (now (sheet .entry)) (now (line .entry)) a d (now (words .entry)) h (now (words .exit)) r × CodesKept (now (units .entry)) (now (sheet .entry)) (now (codes .exit)) ⌝ }
 {
     let OptQuantity::Present(_) = a else {
         return h;
@@ -227,12 +236,28 @@ fn unit_check(
     let f = unit_field(line, a);
     let x = text::text_outer_trimmed(t, f);
     let m = compatible::unit_code(units, index, x);
-    let k = unit_against(t, units, index, words, h, sheet, line, a, has, f, x, m, d);
+    let k = unit_against(
+        t,
+        units,
+        index,
+        codes,
+        words,
+        h,
+        sheet,
+        line,
+        a,
+        has,
+        f,
+        x,
+        m,
+        d,
+    );
     match e {
         Relation::Definition => referrer_check(
             t,
             units,
             index,
+            codes,
             words,
             k,
             sheet,
@@ -256,6 +281,7 @@ fn units_after(
     units: &[u8],
     index: &[u32],
     flags: u32,
+    codes: &mut [u32],
     words: &mut [u32],
     h: Held,
     sheet: &[u8],
@@ -264,15 +290,15 @@ fn units_after(
     a: OptQuantity,
     d: usize,
 ) -> Held
-    requires { ⌜ (now t ≡ unicodeTables) × Indexed (now units) (now index) × OptQuantityWithin (now line) a × Sound (now words) h × AllFit (now sheet) (now words) h × (d < countOf (kindOf «is_ingredient») h) × (h .counts .findings + h .counts .«ingredient_pairs» < 1544) ⌝ }
-    ensures { λ r. ⌜ UnitsAfter (unitsOr (readUnits (now (units .entry)))) flags (kindOf «is_ingredient») (now (sheet .entry)) (now (line .entry)) a d (now (words .entry)) h (now (words .exit)) r ⌝ }
+    requires { ⌜ (now t ≡ unicodeTables) × Indexed (now units) (now index) × OptQuantityWithin (now line) a × Sound (now words) h × AllFit (now sheet) (now words) h × (d < countOf (kindOf «is_ingredient») h) × (h .counts .findings + h .counts .«ingredient_pairs» < 1544) × CodesKept (now units) (now sheet) (now codes) ⌝ }
+    ensures { λ r. ⌜ UnitsAfter (unitsOr (readUnits (now (units .entry)))) flags (kindOf «is_ingredient») (now (sheet .entry)) (now (line .entry)) a d (now (words .entry)) h (now (words .exit)) r × CodesKept (now (units .entry)) (now (sheet .entry)) (now (codes .exit)) ⌝ }
 {
     if !is_ingredient {
         return h;
     }
     let bit = flags / 4 % 2;
     if bit == 1 {
-        return unit_check(t, units, index, words, h, sheet, line, a, d);
+        return unit_check(t, units, index, codes, words, h, sheet, line, a, d);
     }
     h
 }
@@ -310,6 +336,7 @@ pub fn checks_after(
     units: &[u8],
     index: &[u32],
     flags: u32,
+    codes: &mut [u32],
     words: &mut [u32],
     h: Held,
     sheet: &[u8],
@@ -318,8 +345,8 @@ pub fn checks_after(
     v: ComponentView,
     to: Same,
 ) -> Held
-    requires { ⌜ (now t ≡ unicodeTables) × Indexed (now units) (now index) × ComponentWithin (now line) v × Sound (now words) h × AllFit (now sheet) (now words) h × SameBelow (kindOf «is_ingredient») h to × (h .counts .findings + h .counts .«ingredient_pairs» + 3 < 1544) ⌝ }
-    ensures { λ r. ⌜ ChecksDone (unitsOr (readUnits (now (units .entry)))) flags (kindOf «is_ingredient») (now (sheet .entry)) (now (line .entry)) v to (now (words .entry)) h (now (words .exit)) r ⌝ }
+    requires { ⌜ (now t ≡ unicodeTables) × Indexed (now units) (now index) × ComponentWithin (now line) v × Sound (now words) h × AllFit (now sheet) (now words) h × SameBelow (kindOf «is_ingredient») h to × (h .counts .findings + h .counts .«ingredient_pairs» + 3 < 1544) × CodesKept (now units) (now sheet) (now codes) ⌝ }
+    ensures { λ r. ⌜ ChecksDone (unitsOr (readUnits (now (units .entry)))) flags (kindOf «is_ingredient») (now (sheet .entry)) (now (line .entry)) v to (now (words .entry)) h (now (words .exit)) r × CodesKept (now (units .entry)) (now (sheet .entry)) (now (codes .exit)) ⌝ }
 {
     match to {
         Same::Nothing => h,
@@ -330,6 +357,7 @@ pub fn checks_after(
                 units,
                 index,
                 flags,
+                codes,
                 words,
                 h,
                 sheet,

@@ -13,7 +13,7 @@ use Rattle.utf8.specs.declared.Decoded.{Decoded}
 use Rattle.utf8.specs.declared.Decoded.the-variants as decoded
 use Rattle.utf8.specs.declared.Char.{Char}
 use Rattle.utf8.specs.declared.Checked.the-variants.{Valid, Fault}
-use Rattle.utf8.specs.Decoding.{decodedAs, decodedOf}
+use Rattle.utf8.specs.Decoding.{decodedAs, decodedOf, decodedSize}
 use Rattle.utf8.specs.Reading.{charOf}
 use Rattle.utf8.specs.Checking.{checkedOf}
 
@@ -67,6 +67,25 @@ missed (a ∷ s) h e = go (firstOf a s) refl e
         record { here = λ at. unfold faultFrom faultOr in rw f; char = unfold charOf charOr followers in rw f }
     go (some d) f q = unfold decodedAs in absurd (let z : _≡_ {A = ℕ} 0 1 = cc in omega arith)
 
+-- the same by how many bytes it takes
+record FoundSize (t : List ℕ) (n : ℕ) : Type 0 where
+  code : ℕ
+  it : Found t code n
+
+found-size : (t : List ℕ) (n : ℕ) → n ≡ decodedSize (decodedOf t) → (n ≡ 0 → ⊥) → FoundSize t n
+found-size t n e m = go (decodedOf t) refl e
+  where
+    go : (d : Decoded) → decodedOf t ≡ d → n ≡ decodedSize d → FoundSize t n
+    go decoded.Fault f q = absurd (m (unfold decodedSize in q))
+    go (decoded.Char c k) f q = let z : n ≡ k = unfold decodedSize in q in record { code = c; it = rw z (found t c k f) }
+
+missed-size : (t : List ℕ) → 1 ≤ length t → 0 ≡ decodedSize (decodedOf t) → Missed t
+missed-size t h e = go (decodedOf t) refl e
+  where
+    go : (d : Decoded) → decodedOf t ≡ d → 0 ≡ decodedSize d → Missed t
+    go decoded.Fault f q = missed t h f
+    go (decoded.Char c k) f q = let z : 0 ≡ k = unfold decodedSize in q in absurd (omega (arith, found t c k f .least))
+
 -- ---- at a place of s
 
 module _ (s : List ℕ) (at : ℕ) (h : at < length s) where
@@ -86,24 +105,25 @@ module _ (s : List ℕ) (at : ℕ) (h : at < length s) where
     pub fault-char : d ≡ decoded.Fault → charWith 0xfffd 1 ≡ charOf (drop at s)
     fault-char b = missed (drop at s) rest (sym e ∙ b) .char
 
-    pub fault-at : faultFrom at 0 (drop at s) ≡ firstFault s → d ≡ decoded.Fault → Fault at ≡ checkedOf (firstFault s)
-    fault-at i b = unfold checkedOf in ap checkedOf (sym (missed (drop at s) rest (sym e ∙ b) .here at) ∙ i)
+    pub wide-char : (c n : ℕ) → d ≡ decoded.Char c n → charWith c n ≡ charOf (drop at s)
+    wide-char c n b = found (drop at s) c n (sym e ∙ b) .char
 
-    module _ (c n : ℕ) (b : d ≡ decoded.Char c n) where
-      it : Found (drop at s) c n
-      it = found (drop at s) c n (sym e ∙ b)
+  module _ (n : ℕ) (e : n ≡ decodedSize (decodedOf (drop at s))) where
+    pub fault-at : faultFrom at 0 (drop at s) ≡ firstFault s → n ≡ 0 → Fault at ≡ checkedOf (firstFault s)
+    fault-at i b = unfold checkedOf in ap checkedOf (sym (missed-size (drop at s) rest (sym b ∙ e) .here at) ∙ i)
 
-      pub wide-char : charWith c n ≡ charOf (drop at s)
-      wide-char = it .char
+    module _ (b : n ≡ 0 → ⊥) where
+      it : FoundSize (drop at s) n
+      it = found-size (drop at s) n e b
 
       pub char-least : 1 ≤ n
-      char-least = it .least
+      char-least = it .it .least
 
       pub char-most : at + n ≤ length s
-      char-most = omega (arith, it .most, length-drop at s)
+      char-most = omega (arith, it .it .most, length-drop at s)
 
       pub char-on : faultFrom at 0 (drop at s) ≡ firstFault s → faultFrom (at + n) 0 (drop (at + n) s) ≡ firstFault s
-      char-on i = rw (← drop-drop n at s) (sym (it .on at) ∙ i)
+      char-on i = rw (← drop-drop n at s) (sym (it .it .on at) ∙ i)
 
 pub checked-end : (s : List ℕ) (at : ℕ) → length s ≤ at → faultFrom at 0 (drop at s) ≡ firstFault s → Valid ≡ checkedOf (firstFault s)
 unfolding faultFrom checkedOf

@@ -14,3 +14,8 @@ decodedAs n (some c) = Char c n
 unfoldable pub decodedOf : List ℕ → Decoded
 decodedOf [] = Fault
 decodedOf (a ∷ s) = decodedAs (sizeOf a) (firstOf a s)
+
+-- how many bytes it takes; 0: there is none
+unfoldable pub decodedSize : Decoded → ℕ
+decodedSize Fault = 0
+decodedSize (Char c n) = n

@@ -3,7 +3,7 @@ ghost use mathlib.Core.List.{[], _∷_};
 ghost use Prim.Native.Nat.{_+_, _≤_, _<_};
 ghost use lib.ListN.{length, drop, getD};
 ghost use Rattle.rules.specs.Utf8.{lowest, highest, second, later, sized, firstFault, isInside};
-ghost use Rattle.utf8.specs.Decoding.{decodedAs, decodedOf};
+ghost use Rattle.utf8.specs.Decoding.{decodedAs, decodedOf, decodedSize};
 ghost use Rattle.utf8.specs.Reading.{charOf};
 ghost use Rattle.utf8.specs.Checking.{checkedOf, asciiFor, AsciiTo};
 
@@ -190,6 +190,39 @@ fn wide_at(s: &[u8], at: usize) -> Decoded
     decode(s, at)
 }
 
+// How many bytes the character takes that starts at a byte that is not ASCII; 0 where none does.
+fn wide_size(s: &[u8], at: usize) -> usize
+    requires { ⌜ (at < length (now s)) × (128 ≤ getD (now s) at 0) ⌝ }
+    ensures { λ r. ⌜ r ≡ decodedSize (decodedOf (drop at (now (s .entry)))) ⌝ }
+{
+    let a = s[at];
+    if a < 0xc2 {
+        return 0;
+    }
+    let b = byte(s, at + 1);
+    if a < 0xe0 {
+        if !is_later(b) {
+            return 0;
+        }
+        return 2;
+    }
+    if a < 0xf0 {
+        let c = byte(s, at + 2);
+        if !is_second(a, b) {
+            return 0;
+        }
+        if !is_later(c) {
+            return 0;
+        }
+        return 3;
+    }
+    let d = decode(s, at);
+    match d {
+        Decoded::Fault => 0,
+        Decoded::Char { code: _, size } => size,
+    }
+}
+
 // The code point at a place.
 pub fn char_at(s: &[u8], at: usize) -> Char
     requires { ⌜ at < length (now s) ⌝ }
@@ -243,6 +276,19 @@ fn past_ascii(s: &[u8], at: usize) -> usize
     i
 }
 
+// The same after a character beyond ASCII, where one more of them is likely: then one byte is looked at.
+fn past_wide(s: &[u8], at: usize) -> usize
+    requires { ⌜ at ≤ length (now s) ⌝ }
+    ensures { λ r. ⌜ AsciiTo (now (s .entry)) at r ⌝ }
+{
+    if at < s.len() {
+        if s[at] < 0x80 {
+            return past_ascii(s, at);
+        }
+    }
+    at
+}
+
 pub fn first_fault(s: &[u8]) -> Checked
     ensures { λ r. ⌜ r ≡ checkedOf (firstFault (now (s .entry))) ⌝ }
 {
@@ -267,16 +313,12 @@ pub fn first_fault(s: &[u8]) -> Checked
                 at = b;
             }
         } else {
-            let d = wide_at(s, at);
-            match d {
-                Decoded::Fault => {
-                    return Checked::Fault(at);
-                }
-                Decoded::Char { code: _, size } => {
-                    let next = at + size;
-                    at = past_ascii(s, next);
-                }
+            let n = wide_size(s, at);
+            if n == 0 {
+                return Checked::Fault(at);
             }
+            let next = at + n;
+            at = past_wide(s, next);
         }
     }
     Checked::Valid

@@ -18,49 +18,53 @@ use Rattle.component_lines.proofs.row_named.Reads as row-named-reads
 use Rattle.component_lines.proofs.same_of.Reads as same-of-reads
 use Rattle.lookup.proofs.refers_to.Reads as refers-to-reads
 
--- src/lib.rt:304:9
+-- src/lib.rt:347:9
 name-of-requires : tie.Need-name-of-requires
-name-of-requires c κs = let q = name-ready (c .before .before .before .before .before .before .pre .2) in (c .before .before .before .before .before .before .pre .0, q .0, q .1, q .2)
+name-of-requires c κs = let q = name-ready (c .before .before .before .before .before .before .before .pre .2) in (c .before .before .before .before .before .before .before .pre .0, q .0, q .1, q .2)
 
--- src/lib.rt:305:9
+-- src/lib.rt:348:9
 same-of-requires : tie.Need-same-of-requires
 same-of-requires c κs = search needs
 
--- src/lib.rt:306:9
+-- src/lib.rt:349:9
 old-of-requires : tie.Need-old-of-requires
-old-of-requires c κs = (c .before .before .before .before .before .before .before .before .before .before .pre .3, same-below (c .before .same-of .ensures))
+old-of-requires c κs = (c .before .before .before .before .before .before .before .before .before .before .before .pre .3, same-below (c .before .same-of .ensures))
 
--- src/lib.rt:307:9
+-- src/lib.rt:350:9
 refers-to-requires : tie.Need-refers-to-requires
 refers-to-requires c κs = search needs
 
--- src/lib.rt:308:20
+-- src/lib.rt:351:20
 is-components-requires : tie.Need-is-components-requires
 is-components-requires c κs = search needs
 
--- src/lib.rt:309:9
+-- src/lib.rt:352:9
 row-named-requires : tie.Need-row-named-requires
-row-named-requires c κs = let q = row-ready (c .before .before .before .before .before .before .before .before .before .before .before .before .before .pre .2) (c .before .before .before .before .before .before .name-of .ensures) in (q .0, q .1, q .2, q .3, to-small (c .before .before .before .before .before .before .before .before .before .before .before .before .before .pre .2) (c .before .before .before .before .before .before .name-of .ensures) (c .before .before .before .before .same-of .ensures) (c .before .before .old-of .ensures) (c .before .refers-to .ensures) (c .before .before .before .before .before .before .before .before .before .before .before .before .before .pre .3))
+row-named-requires c κs = let q = row-ready (c .before .before .before .before .before .before .before .before .before .before .before .before .before .before .pre .2) (c .before .before .before .before .before .before .name-of .ensures) in (q .0, q .1, q .2, q .3, to-small (c .before .before .before .before .before .before .before .before .before .before .before .before .before .before .pre .2) (c .before .before .before .before .before .before .name-of .ensures) (c .before .before .before .before .same-of .ensures) (c .before .before .old-of .ensures) (c .before .refers-to .ensures) (c .before .before .before .before .before .before .before .before .before .before .before .before .before .before .pre .3))
 
--- src/lib.rt:310:9
+-- src/lib.rt:353:9
 found-of-requires : tie.Need-found-of-requires
-found-of-requires c κs = to-small (c .before .before .before .before .before .before .before .before .before .before .before .before .before .before .pre .2) (c .before .before .before .before .before .before .before .name-of .ensures) (c .before .before .before .before .before .same-of .ensures) (c .before .before .before .old-of .ensures) (c .before .before .refers-to .ensures) (c .before .before .before .before .before .before .before .before .before .before .before .before .before .before .pre .3)
+found-of-requires c κs = to-small (c .before .before .before .before .before .before .before .before .before .before .before .before .before .before .before .pre .2) (c .before .before .before .before .before .before .before .name-of .ensures) (c .before .before .before .before .before .same-of .ensures) (c .before .before .before .old-of .ensures) (c .before .before .refers-to .ensures) (c .before .before .before .before .before .before .before .before .before .before .before .before .before .before .before .pre .3)
 
--- src/lib.rt:311:9
+-- src/lib.rt:354:9
 named-reports-requires : tie.Need-named-reports-requires
-named-reports-requires c κs = let p = c .before .before .before .before .before .before .before .before .before .before .before .before .before .before .before .before .pre in (p .0, p .1, p .2, to-there (p .2) (c .before .before .before .before .before .before .before .before .before .name-of .ensures) (c .before .before .before .before .before .before .before .same-of .ensures) (c .before .before .before .before .before .old-of .ensures) (c .before .before .before .before .refers-to .ensures), p .3, p .4, p .5, p .6)
+named-reports-requires c κs = let p = c .before .before .before .before .before .before .before .before .before .before .before .before .before .before .before .before .before .before .pre in (p .0, p .1, p .2, to-there (p .2) (c .before .before .before .before .before .before .before .before .before .before .name-of .ensures) (c .before .before .before .before .before .before .before .before .same-of .ensures) (c .before .before .before .before .before .before .old-of .ensures) (c .before .before .before .before .before .refers-to .ensures), p .3, p .4, p .5, p .6, p .7)
 
--- src/lib.rt:312:5
+-- src/lib.rt:370:5
 put-row-requires : tie.Need-put-row-requires
-put-row-requires c κs = put-ready (c .before .before .before .before .before .before .before .before .before .before .before .before .before .before .before .before .before .before .before .before .pre .2) (c .before .before .before .before .before .before .before .before .before .before .before .before .before .name-of .ensures) (c .before .before .before .before .before .before .before .before .before .before .before .same-of .ensures) (c .before .before .before .before .before .before .before .before .before .old-of .ensures) (c .before .before .before .before .before .before .before .before .refers-to .ensures) (c .before .before .before .named-reports .ensures) (c .before .before .before .before .before .found-of .ensures) (c .before .before .before .before .before .before .before .before .before .before .before .before .before .before .before .before .before .before .before .before .pre .3) (c .before .before .before .before .before .before .before .before .before .before .before .before .before .before .before .before .before .before .before .before .pre .5)
+put-row-requires c κs = put-ready (c .before .before .before .before .before .before .before .before .before .before .before .before .before .before .before .before .before .before .before .before .before .before .before .before .pre .2) (c .before .before .before .before .before .before .before .before .before .before .before .before .before .before .before .before .name-of .ensures) (c .before .before .before .before .before .before .before .before .before .before .before .before .before .before .same-of .ensures) (c .before .before .before .before .before .before .before .before .before .before .before .before .old-of .ensures) (c .before .before .before .before .before .before .before .before .before .before .before .refers-to .ensures) (c .before .before .before .before .before .named-reports .ensures .0) (c .before .before .before .before .before .before .before .before .found-of .ensures) (c .before .before .before .before .before .before .before .before .before .before .before .before .before .before .before .before .before .before .before .before .before .before .before .before .pre .3) (c .before .before .before .before .before .before .before .before .before .before .before .before .before .before .before .before .before .before .before .before .before .before .before .before .pre .5)
 
--- src/lib.rt:286:1
+-- src/lib.rt:327:1
 same-length : tie.Need-same-length
 same-length c = search needs
 
--- src/lib.rt:286:1
+-- src/lib.rt:327:1
+same-length-2 : tie.Need-same-length-2
+same-length-2 c = search needs
+
+-- src/lib.rt:327:1
 returns : tie.Need-returns
-returns c = named-done (c .before .before .before .before .before .before .before .before .before .before .before .before .before .before .before .before .before .before .before .before .before .before .before .pre .2) (c .before .before .before .before .before .before .before .before .before .before .before .before .before .before .before .before .name-of .ensures) (c .before .before .before .before .before .before .before .before .before .before .before .before .before .before .same-of .ensures) (c .before .before .before .before .before .before .before .before .before .before .before .before .old-of .ensures) (c .before .before .before .before .before .before .before .before .before .before .before .refers-to .ensures) (c .before .before .before .before .before .before .named-reports .ensures) (c .before .before .before .before .before .before .before .before .before .before .before .before .before .before .before .before .before .before .before .before .before .before .before .pre .4) (c .before .before .before .before .before .before .before .before .before .before .is-components .ensures) (c .before .before .before .before .before .before .before .before .before .row-named .ensures) (c .before .before .before .before .before .before .before .before .found-of .ensures) (c .before .before .put-row .ensures)
+returns c = (named-done (c .before .before .before .before .before .before .before .before .before .before .before .before .before .before .before .before .before .before .before .before .before .before .before .before .before .before .before .pre .2) (c .before .before .before .before .before .before .before .before .before .before .before .before .before .before .before .before .before .before .before .name-of .ensures) (c .before .before .before .before .before .before .before .before .before .before .before .before .before .before .before .before .before .same-of .ensures) (c .before .before .before .before .before .before .before .before .before .before .before .before .before .before .before .old-of .ensures) (c .before .before .before .before .before .before .before .before .before .before .before .before .before .before .refers-to .ensures) (c .before .before .before .before .before .before .before .before .named-reports .ensures .0) (c .before .before .before .before .before .before .before .before .before .before .before .before .before .before .before .before .before .before .before .before .before .before .before .before .before .before .before .pre .4) (c .before .before .before .before .before .before .before .before .before .before .before .before .before .is-components .ensures) (c .before .before .before .before .before .before .before .before .before .before .before .before .row-named .ensures) (c .before .before .before .before .before .before .before .before .before .before .before .found-of .ensures) (c .before .before .put-row .ensures), c .before .before .before .before .before .before .before .before .named-reports .ensures .1)
 
 pub named-line-spec : {M : Type 1} → statement M
 named-line-spec =
@@ -76,4 +80,5 @@ named-line-spec =
     named-reports-requires
     put-row-requires
     same-length
+    same-length-2
     returns)

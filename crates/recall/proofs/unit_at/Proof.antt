@@ -8,7 +8,7 @@ use Rattle.recall.proofs.unit_at.Tie as tie
 use Rattle.recall.proofs.unit_at.Reads as reads
 use Rattle.recall.proofs.unit_at.Lts as lts
 use Rattle.parts.proofs.opt_dash.Reads as opt-dash-reads
-use Rattle.recall.proofs.after_tabs.Reads as after-tabs-reads
+use Rattle.recall.proofs.after_near_tabs.Reads as after-near-tabs-reads
 use Rattle.sheet.proofs.field.Reads as field-reads
 
 -- src/lib.rt:146:11
@@ -28,13 +28,13 @@ enum-told-2 : tie.Need-enum-told-2
 enum-told-2 c = search needs
 
 -- src/lib.rt:150:17
-after-tabs-requires : tie.Need-after-tabs-requires
-after-tabs-requires c κs = search needs
+after-near-tabs-requires : tie.Need-after-near-tabs-requires
+after-near-tabs-requires c κs = search needs
 
 -- src/lib.rt:152:17
 returns : tie.Need-returns
 unfolding dashAs
-returns c = unit-past _ _ (told (dashAs _ _) (c .before .before .before .before .opt-dash .ensures) (c .before .before .enum-told2 .given .1)) (c .before .after-tabs .ensures) (c .if1 .taken)
+returns c = unit-past _ _ (told (dashAs _ _) (c .before .before .before .before .opt-dash .ensures) (c .before .before .enum-told2 .given .1)) (c .before .after-near-tabs .ensures) (c .if1 .taken)
 
 -- src/lib.rt:154:17
 field-requires : tie.Need-field-requires
@@ -57,7 +57,7 @@ returns-3 c = unit-ill _ _ (told (dashAs _ _) (c .before .before .opt-dash .ensu
 -- src/lib.rt:143:1
 returns-4 : tie.Need-returns-4
 unfolding dashAs
-returns-4 c = unit-there _ _ (told (dashAs _ _) (c .before .before .before .before .before .opt-dash .ensures) (c .before .before .before .enum-told2 .given .1)) (c .before .before .after-tabs .ensures) (c .before .if1 .left) (c .field .ensures)
+returns-4 c = unit-there _ _ (told (dashAs _ _) (c .before .before .before .before .before .opt-dash .ensures) (c .before .before .before .enum-told2 .given .1)) (c .before .before .after-near-tabs .ensures) (c .before .if1 .left) (c .field .ensures)
 
 pub unit-at-spec : {M : Type 1} → statement M
 unit-at-spec =
@@ -67,7 +67,7 @@ unit-at-spec =
     enum-known-next
     enum-told
     enum-told-2
-    after-tabs-requires
+    after-near-tabs-requires
     returns
     field-requires
     add-t10

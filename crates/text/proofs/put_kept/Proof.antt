@@ -5,7 +5,8 @@ use mathlib.Core.Path.{refl}
 use lib.ListN.{length, drop}
 use Rattle.rules.specs.Text.{retain}
 use Rattle.output.proofs.Puts.{Leads, starts, turn, step, ends-in, ends-out}
-use Rattle.text.proofs.Writes.{retain-goes, retain-stays, retain-none, put-single}
+use Rattle.text.proofs.Writes.{retain-goes, retain-stays, retain-none}
+use Rattle.text.proofs.Singles.{put-single}
 use Rattle.text.proofs.put_kept.Statement.{statement}
 use Rattle.text.proofs.put_kept.Tie as tie
 use Rattle.text.proofs.put_kept.Reads as reads

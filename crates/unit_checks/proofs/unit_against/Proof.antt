@@ -3,7 +3,7 @@ use native.Mathlib.Omega.{arith}
 use Rattle.rules.specs.Model.{ingredient}
 use Rattle.units.proofs.Walks.{units-start}
 use Rattle.unit_checks.proofs.Rows.{line-kind}
-use Rattle.unit_checks.proofs.Units.{window-fits, row-none, row-fitting, row-checked}
+use Rattle.unit_checks.proofs.Units.{not-past, unfit-row, row-skipped, row-checked}
 use Rattle.unit_checks.proofs.unit_against.Statement.{statement}
 use Rattle.unit_checks.proofs.unit_against.Tie as tie
 use Rattle.unit_checks.proofs.unit_against.Reads as reads
@@ -11,104 +11,99 @@ use Rattle.unit_checks.proofs.unit_against.Lts as lts
 use Rattle.checks.proofs.unit_pair.Reads as unit-pair-reads
 use Rattle.model.proofs.row_at.Reads as row-at-reads
 use Rattle.recall.proofs.quantity_in.Reads as quantity-in-reads
-use Rattle.unit_checks.proofs.unit_fits.Reads as unit-fits-reads
+use Rattle.unit_checks.proofs.row_fits.Reads as row-fits-reads
 
--- src/lib.rt:141:9
-returns : tie.Need-returns
-returns c = row-none (c .if1 .taken)
+-- src/lib.rt:244:8
+row-fits-requires : tie.Need-row-fits-requires
+row-fits-requires c κs = (c .before .before .before .before .before .before .before .before .before .before .before .pre .0, c .before .before .before .before .before .before .before .before .before .before .before .pre .1, c .before .before .before .before .before .before .before .before .before .before .before .pre .7, c .before .before .before .before .before .before .before .before .before .before .before .pre .4, c .before .before .before .before .before .before .before .before .before .before .before .pre .5, c .before .before .before .before .before .before .before .before .before .before .before .pre .3 .trimmed, c .before .before .before .before .before .before .before .before .before .before .before .pre .3 .code)
 
--- src/lib.rt:143:27
-sub-row-at : tie.Need-sub-row-at
-sub-row-at c = search needs
-
--- src/lib.rt:143:27
-part-row-at-start : tie.Need-part-row-at-start
-part-row-at-start c = search needs
-
--- src/lib.rt:143:27
-part-row-at-end : tie.Need-part-row-at-end
-part-row-at-end c = search needs
-
--- src/lib.rt:143:9
-row-at-requires : tie.Need-row-at-requires
-row-at-requires c κs = search needs
-
--- src/lib.rt:144:14
-cast-at : tie.Need-cast-at
-cast-at c = search needs
-
--- src/lib.rt:145:15
-cast-end : tie.Need-cast-end
-cast-end c = search needs
-
--- src/lib.rt:146:35
-sub-unit-fits : tie.Need-sub-unit-fits
-sub-unit-fits c = let f = window-fits _ (c .before .before .before .before .before .before .before .before .before .before .before .before .before .before .args .i) (c .before .before .before .before .before .before .before .before .before .before .before .before .before .before .pre .5) (c .before .before .before .before .before .if1 .left) (c .before .before .row-at .ensures) in omega (arith, f .line .order, f .line .most)
-
--- src/lib.rt:146:35
-part-unit-fits-start : tie.Need-part-unit-fits-start
-part-unit-fits-start c = let f = window-fits _ (c .before .before .before .before .before .before .before .before .before .before .before .before .before .before .args .i) (c .before .before .before .before .before .before .before .before .before .before .before .before .before .before .pre .5) (c .before .before .before .before .before .if1 .left) (c .before .before .row-at .ensures) in omega (arith, f .line .order, f .line .most)
-
--- src/lib.rt:146:35
-part-unit-fits-end : tie.Need-part-unit-fits-end
-part-unit-fits-end c = let f = window-fits _ (c .before .before .before .before .before .before .before .before .before .before .before .before .before .before .args .i) (c .before .before .before .before .before .before .before .before .before .before .before .before .before .before .pre .5) (c .before .before .before .before .before .if1 .left) (c .before .before .row-at .ensures) in omega (arith, f .line .order, f .line .most)
-
--- src/lib.rt:146:8
-unit-fits-requires : tie.Need-unit-fits-requires
-unit-fits-requires c κs = let f = window-fits _ (c .before .before .before .before .before .before .before .before .before .before .before .before .before .before .before .args .i) (c .before .before .before .before .before .before .before .before .before .before .before .before .before .before .before .pre .5) (c .before .before .before .before .before .before .if1 .left) (c .before .before .before .row-at .ensures) in (c .before .before .before .before .before .before .before .before .before .before .before .before .before .before .before .pre .0, c .before .before .before .before .before .before .before .before .before .before .before .before .before .before .before .pre .1, line-kind ingredient f, c .before .before .before .before .before .before .before .before .before .before .before .before .before .before .before .pre .3 .trimmed, c .before .before .before .before .before .before .before .before .before .before .before .before .before .before .before .pre .3 .code)
-
--- src/lib.rt:147:9
+-- src/lib.rt:245:9
 same-length : tie.Need-same-length
 same-length c = search needs
 
--- src/lib.rt:147:9
-returns-2 : tie.Need-returns-2
-returns-2 c = row-fitting (c .before .before .before .before .before .before .before .before .before .before .before .before .before .before .before .before .before .args .i) (c .before .before .before .before .before .before .before .before .before .before .before .before .before .before .before .before .before .pre .5) (c .before .before .before .before .before .before .before .before .if1 .left) (c .before .before .before .before .before .row-at .ensures) (units-start _ (c .before .before .before .before .before .before .before .before .before .before .before .before .before .before .before .before .before .pre .1 .list)) (c .before .before .before .before .before .before .before .before .before .before .before .before .before .before .before .before .before .pre .3) (c .before .unit-fits .ensures) (c .if2 .taken)
-
--- src/lib.rt:149:33
-sub-quantity-in : tie.Need-sub-quantity-in
-sub-quantity-in c = let f = window-fits _ (c .before .before .before .before .before .before .before .before .before .before .before .before .before .before .before .before .before .args .i) (c .before .before .before .before .before .before .before .before .before .before .before .before .before .before .before .before .before .pre .5) (c .before .before .before .before .before .before .before .before .if1 .left) (c .before .before .before .before .before .row-at .ensures) in omega (arith, f .line .order, f .line .most)
-
--- src/lib.rt:149:33
-part-quantity-in-start : tie.Need-part-quantity-in-start
-part-quantity-in-start c = let f = window-fits _ (c .before .before .before .before .before .before .before .before .before .before .before .before .before .before .before .before .before .args .i) (c .before .before .before .before .before .before .before .before .before .before .before .before .before .before .before .before .before .pre .5) (c .before .before .before .before .before .before .before .before .if1 .left) (c .before .before .before .before .before .row-at .ensures) in omega (arith, f .line .order, f .line .most)
-
--- src/lib.rt:149:33
-part-quantity-in-end : tie.Need-part-quantity-in-end
-part-quantity-in-end c = let f = window-fits _ (c .before .before .before .before .before .before .before .before .before .before .before .before .before .before .before .before .before .args .i) (c .before .before .before .before .before .before .before .before .before .before .before .before .before .before .before .before .before .pre .5) (c .before .before .before .before .before .before .before .before .if1 .left) (c .before .before .before .before .before .row-at .ensures) in omega (arith, f .line .order, f .line .most)
-
--- src/lib.rt:149:9
-quantity-in-requires : tie.Need-quantity-in-requires
-quantity-in-requires c κs = let f = window-fits _ (c .before .before .before .before .before .before .before .before .before .before .before .before .before .before .before .before .before .before .args .i) (c .before .before .before .before .before .before .before .before .before .before .before .before .before .before .before .before .before .before .pre .5) (c .before .before .before .before .before .before .before .before .before .if1 .left) (c .before .before .before .before .before .before .row-at .ensures) in line-kind ingredient f
-
--- src/lib.rt:150:59
-sub-unit-pair : tie.Need-sub-unit-pair
-sub-unit-pair c = let f = window-fits _ (c .before .before .before .before .before .before .before .before .before .before .before .before .before .before .before .before .before .before .before .before .args .i) (c .before .before .before .before .before .before .before .before .before .before .before .before .before .before .before .before .before .before .before .before .pre .5) (c .before .before .before .before .before .before .before .before .before .before .before .if1 .left) (c .before .before .before .before .before .before .before .before .row-at .ensures) in omega (arith, f .line .order, f .line .most)
-
--- src/lib.rt:150:59
-part-unit-pair-start : tie.Need-part-unit-pair-start
-part-unit-pair-start c = let f = window-fits _ (c .before .before .before .before .before .before .before .before .before .before .before .before .before .before .before .before .before .before .before .before .args .i) (c .before .before .before .before .before .before .before .before .before .before .before .before .before .before .before .before .before .before .before .before .pre .5) (c .before .before .before .before .before .before .before .before .before .before .before .if1 .left) (c .before .before .before .before .before .before .before .before .row-at .ensures) in omega (arith, f .line .order, f .line .most)
-
--- src/lib.rt:150:59
-part-unit-pair-end : tie.Need-part-unit-pair-end
-part-unit-pair-end c = let f = window-fits _ (c .before .before .before .before .before .before .before .before .before .before .before .before .before .before .before .before .before .before .before .before .args .i) (c .before .before .before .before .before .before .before .before .before .before .before .before .before .before .before .before .before .before .before .before .pre .5) (c .before .before .before .before .before .before .before .before .before .before .before .if1 .left) (c .before .before .before .before .before .before .before .before .row-at .ensures) in omega (arith, f .line .order, f .line .most)
-
--- src/lib.rt:150:5
-unit-pair-requires : tie.Need-unit-pair-requires
-unit-pair-requires c κs = (c .before .before .before .before .before .before .before .before .before .before .before .before .before .before .before .before .before .before .before .before .before .pre .0, c .before .before .before .before .before .before .before .before .before .before .before .before .before .before .before .before .before .before .before .before .before .pre .1, c .before .before .before .before .before .before .before .before .before .before .before .before .before .before .before .before .before .before .before .before .before .pre .2, c .before .before .quantity-in .ensures .within, c .before .before .before .before .before .before .before .before .before .before .before .before .before .before .before .before .before .before .before .before .before .pre .4, c .before .before .before .before .before .before .before .before .before .before .before .before .before .before .before .before .before .before .before .before .before .pre .6)
-
--- src/lib.rt:121:1
+-- src/lib.rt:245:9
 same-length-2 : tie.Need-same-length-2
 same-length-2 c = search needs
 
--- src/lib.rt:121:1
-returns-3 : tie.Need-returns-3
-returns-3 c = row-checked (c .before .before .before .before .before .before .before .before .before .before .before .before .before .before .before .before .before .before .before .before .before .before .before .before .args .i) (c .before .before .before .before .before .before .before .before .before .before .before .before .before .before .before .before .before .before .before .before .before .before .before .before .pre .5) (c .before .before .before .before .before .before .before .before .before .before .before .before .before .before .before .if1 .left) (c .before .before .before .before .before .before .before .before .before .before .before .before .row-at .ensures) (c .before .before .before .before .before .quantity-in .ensures) (c .before .before .unit-pair .ensures)
+-- src/lib.rt:245:9
+returns : tie.Need-returns
+returns c = (row-skipped (c .before .before .before .before .before .before .before .before .before .before .before .before .before .before .before .pre .5) (units-start _ (c .before .before .before .before .before .before .before .before .before .before .before .before .before .before .before .pre .1 .list)) (c .before .before .before .before .before .before .before .before .before .before .before .before .before .before .before .pre .3) (c .before .before .before .row-fits .ensures .0) (c .if1 .taken), c .before .before .before .row-fits .ensures .1)
+
+-- src/lib.rt:247:27
+sub-row-at : tie.Need-sub-row-at
+sub-row-at c = search needs
+
+-- src/lib.rt:247:27
+part-row-at-start : tie.Need-part-row-at-start
+part-row-at-start c = search needs
+
+-- src/lib.rt:247:27
+part-row-at-end : tie.Need-part-row-at-end
+part-row-at-end c = search needs
+
+-- src/lib.rt:247:9
+row-at-requires : tie.Need-row-at-requires
+row-at-requires c κs = omega (arith, not-past _ _ _ _ _ _ (c .before .before .before .before .before .row-fits .ensures .0) (c .before .before .if1 .left), c .before .before .before .before .before .before .before .before .before .before .before .before .before .before .before .before .before .pre .4 .room .ingredients, c .before .before .before .before .before .before .before .before .before .before .before .before .before .before .before .before .before .pre .4 .long)
+
+-- src/lib.rt:248:14
+cast-at : tie.Need-cast-at
+cast-at c = search needs
+
+-- src/lib.rt:249:15
+cast-end : tie.Need-cast-end
+cast-end c = search needs
+
+-- src/lib.rt:250:33
+sub-quantity-in : tie.Need-sub-quantity-in
+sub-quantity-in c = let f = unfit-row _ _ _ _ _ _ (c .before .before .before .before .before .before .before .before .before .before .before .before .before .before .before .before .before .before .before .before .pre .5) (c .before .before .before .before .before .before .before .before .row-fits .ensures .0) (c .before .before .before .before .before .if1 .left) (c .before .before .row-at .ensures) in omega (arith, f .line .order, f .line .most)
+
+-- src/lib.rt:250:33
+part-quantity-in-start : tie.Need-part-quantity-in-start
+part-quantity-in-start c = let f = unfit-row _ _ _ _ _ _ (c .before .before .before .before .before .before .before .before .before .before .before .before .before .before .before .before .before .before .before .before .pre .5) (c .before .before .before .before .before .before .before .before .row-fits .ensures .0) (c .before .before .before .before .before .if1 .left) (c .before .before .row-at .ensures) in omega (arith, f .line .order, f .line .most)
+
+-- src/lib.rt:250:33
+part-quantity-in-end : tie.Need-part-quantity-in-end
+part-quantity-in-end c = let f = unfit-row _ _ _ _ _ _ (c .before .before .before .before .before .before .before .before .before .before .before .before .before .before .before .before .before .before .before .before .pre .5) (c .before .before .before .before .before .before .before .before .row-fits .ensures .0) (c .before .before .before .before .before .if1 .left) (c .before .before .row-at .ensures) in omega (arith, f .line .order, f .line .most)
+
+-- src/lib.rt:250:9
+quantity-in-requires : tie.Need-quantity-in-requires
+quantity-in-requires c κs = let f = unfit-row _ _ _ _ _ _ (c .before .before .before .before .before .before .before .before .before .before .before .before .before .before .before .before .before .before .before .before .before .pre .5) (c .before .before .before .before .before .before .before .before .before .row-fits .ensures .0) (c .before .before .before .before .before .before .if1 .left) (c .before .before .before .row-at .ensures) in line-kind ingredient f
+
+-- src/lib.rt:251:59
+sub-unit-pair : tie.Need-sub-unit-pair
+sub-unit-pair c = let f = unfit-row _ _ _ _ _ _ (c .before .before .before .before .before .before .before .before .before .before .before .before .before .before .before .before .before .before .before .before .before .before .before .pre .5) (c .before .before .before .before .before .before .before .before .before .before .before .row-fits .ensures .0) (c .before .before .before .before .before .before .before .before .if1 .left) (c .before .before .before .before .before .row-at .ensures) in omega (arith, f .line .order, f .line .most)
+
+-- src/lib.rt:251:59
+part-unit-pair-start : tie.Need-part-unit-pair-start
+part-unit-pair-start c = let f = unfit-row _ _ _ _ _ _ (c .before .before .before .before .before .before .before .before .before .before .before .before .before .before .before .before .before .before .before .before .before .before .before .pre .5) (c .before .before .before .before .before .before .before .before .before .before .before .row-fits .ensures .0) (c .before .before .before .before .before .before .before .before .if1 .left) (c .before .before .before .before .before .row-at .ensures) in omega (arith, f .line .order, f .line .most)
+
+-- src/lib.rt:251:59
+part-unit-pair-end : tie.Need-part-unit-pair-end
+part-unit-pair-end c = let f = unfit-row _ _ _ _ _ _ (c .before .before .before .before .before .before .before .before .before .before .before .before .before .before .before .before .before .before .before .before .before .before .before .pre .5) (c .before .before .before .before .before .before .before .before .before .before .before .row-fits .ensures .0) (c .before .before .before .before .before .before .before .before .if1 .left) (c .before .before .before .before .before .row-at .ensures) in omega (arith, f .line .order, f .line .most)
+
+-- src/lib.rt:251:5
+unit-pair-requires : tie.Need-unit-pair-requires
+unit-pair-requires c κs = (c .before .before .before .before .before .before .before .before .before .before .before .before .before .before .before .before .before .before .before .before .before .before .before .before .pre .0, c .before .before .before .before .before .before .before .before .before .before .before .before .before .before .before .before .before .before .before .before .before .before .before .before .pre .1, c .before .before .before .before .before .before .before .before .before .before .before .before .before .before .before .before .before .before .before .before .before .before .before .before .pre .2, c .before .before .quantity-in .ensures .within, c .before .before .before .before .before .before .before .before .before .before .before .before .before .before .before .before .before .before .before .before .before .before .before .before .pre .4, c .before .before .before .before .before .before .before .before .before .before .before .before .before .before .before .before .before .before .before .before .before .before .before .before .pre .6)
+
+-- src/lib.rt:225:1
+same-length-3 : tie.Need-same-length-3
+same-length-3 c = search needs
+
+-- src/lib.rt:225:1
+same-length-4 : tie.Need-same-length-4
+same-length-4 c = search needs
+
+-- src/lib.rt:225:1
+returns-2 : tie.Need-returns-2
+returns-2 c = (row-checked (c .before .before .before .before .before .before .before .before .before .before .before .before .before .before .before .before .before .before .before .before .before .before .before .before .before .before .before .args .i) (c .before .before .before .before .before .before .before .before .before .before .before .before .before .before .before .before .before .before .before .before .before .before .before .before .before .before .before .pre .5) (not-past _ _ _ _ _ _ (c .before .before .before .before .before .before .before .before .before .before .before .before .before .before .before .row-fits .ensures .0) (c .before .before .before .before .before .before .before .before .before .before .before .before .if1 .left)) (c .before .before .before .before .before .before .before .before .before .row-at .ensures) (c .before .before .before .before .before .quantity-in .ensures) (c .before .before .unit-pair .ensures), c .before .before .before .before .before .before .before .before .before .before .before .before .before .before .before .row-fits .ensures .1)
 
 pub unit-against-spec : {M : Type 1} → statement M
 unit-against-spec =
     tie.close
     (tie.spec
+    row-fits-requires
+    same-length
+    same-length-2
     returns
     sub-row-at
     part-row-at-start
@@ -116,12 +111,6 @@ unit-against-spec =
     row-at-requires
     cast-at
     cast-end
-    sub-unit-fits
-    part-unit-fits-start
-    part-unit-fits-end
-    unit-fits-requires
-    same-length
-    returns-2
     sub-quantity-in
     part-quantity-in-start
     part-quantity-in-end
@@ -130,5 +119,6 @@ unit-against-spec =
     part-unit-pair-start
     part-unit-pair-end
     unit-pair-requires
-    same-length-2
-    returns-3)
+    same-length-3
+    same-length-4
+    returns-2)
