@@ -3,7 +3,6 @@ pub mod Leaves
 pub mod Contents
 pub mod Bytes
 pub mod Numbers
-pub mod Plain
 pub mod Near
 pub mod Escapes
 pub mod Alone

@@ -1,14 +1,12 @@
 // The parts of a line as views: numbers, and where the contents stand in the line. All readers take any bytes and any position;
 // `Ill` says that the part is ill-formed.
 ghost use mathlib.Core.Path.{_≡_};
-ghost use mathlib.Core.Bool.{_&&_, _||_};
 ghost use mathlib.Core.List.{[], _∷_};
 ghost use Prim.Native.Nat.{_+_, _≤_, _<_};
-ghost use lib.Dec.{eqb};
 ghost use lib.ListN.{length};
 ghost use Rattle.rules.specs.Basic.{tab, backslash, isEmpty, eqList};
 ghost use Rattle.sheet.specs.Lines.{fieldAt};
-ghost use Rattle.sheet.specs.Runs.{lacks, Lacking};
+ghost use Rattle.sheet.specs.Runs.{Lacking};
 ghost use Rattle.parts.specs.Views.{partOf};
 ghost use Rattle.parts.specs.Near.{figureOf, endOf, NearRead};
 ghost use Rattle.parts.specs.Got.{DashAt, NumberRead, SpanRead, ContentRead, TextRead, OptTextRead, KindRead, LockRead, QuantityRead, OptQuantityRead};
@@ -260,40 +258,20 @@ pub enum GotContent {
     Ill,
 }
 
-// Whether a content can not go on with a byte as it stands.
-fn is_tab_or_backslash(c: u8) -> bool
-    ensures { λ r. ⌜ r ≡ (eqb c tab || eqb c backslash) ⌝ }
-{
-    (c == b'\t') | (c == b'\\')
-}
-
-// Whether the sixteen bytes at a place lack both. All of them are looked at, which the compiler makes one comparison.
-fn sixteen_plain(line: &[u8], at: usize) -> bool
-    requires { ⌜ at + 16 ≤ length (now line) ⌝ }
-    ensures { λ r. ⌜ r ≡ (lacks tab (now (line .entry)) at 16 && lacks backslash (now (line .entry)) at 16) ⌝ }
-{
-    let mut all = true;
-    let mut j = 0;
-    while j < 16 {
-        if is_tab_or_backslash(line[at + j]) {
-            all = false;
-        }
-        j += 1;
-    }
-    all
-}
-
-// A place that no tab and no backslash stands before, from `at` on, by sixteen bytes a turn.
+// A place that no tab and no backslash stands before, from `at` on, by eight bytes a turn.
 fn past_plain(line: &[u8], at: usize) -> usize
     requires { ⌜ at ≤ length (now line) ⌝ }
     ensures { λ r. ⌜ Lacking tab (now (line .entry)) at r × Lacking backslash (now (line .entry)) at r ⌝ }
 {
     let mut i = at;
-    while 16 <= line.len() - i {
-        if !sixteen_plain(line, i) {
+    while 8 <= line.len() - i {
+        if !sheet::eight_lack(line, i, b'\t') {
             return i;
         }
-        i += 16;
+        if !sheet::eight_lack(line, i, b'\\') {
+            return i;
+        }
+        i += 8;
     }
     i
 }

@@ -58,12 +58,12 @@ joined b s at m i k e (suc n) h =
     let x : getD s (at + (m + n)) 0 ≡ b → ⊥ = rw y (l .last) in
     rw z (sym (lacks-miss b s at (m + n) (sym (joined b s at m i k e n (l .before))) x))
 
-pub lacking-on : {b : ℕ} {s : List ℕ} {at i : ℕ} → Lacking b s at i → (n : ℕ) → i + n ≤ length s → (t : Bool) → t ≡ lacks b s i n → not t ≡ false → Lacking b s at (i + n)
-lacking-on {b} {s} {at} {i} a n h true e q =
-    let k : i + n - at ≡ i - at + n = omega (arith, a .from) in
+pub lacking-on : {b : ℕ} {s : List ℕ} {at i : ℕ} → Lacking b s at i → i + 8 ≤ length s → (t : Bool) → t ≡ lacks b s i 8 → not t ≡ false → Lacking b s at (i + 8)
+lacking-on {b} {s} {at} {i} a h true e q =
+    let k : i + 8 - at ≡ i - at + 8 = omega (arith, a .from) in
     let l : at + (i - at) ≡ i = omega (arith, a .from) in
-    record { from = omega (arith, a .from); inside = λ g. h; clean = rw k (joined b s at (i - at) i l (a .clean) n (sym e)) }
-lacking-on a n h false e q = no-truth (sym q)
+    record { from = omega (arith, a .from); inside = λ g. h; clean = rw k (joined b s at (i - at) i l (a .clean) 8 (sym e)) }
+lacking-on a h false e q = no-truth (sym q)
 
 -- ---- a scan
 passed : (b : ℕ) (s : List ℕ) (at n : ℕ) → lacks b s at n ≡ true → at + n ≤ length s → Scan b s at at → Scan b s at (at + n)

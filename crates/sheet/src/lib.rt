@@ -21,7 +21,7 @@ pub enum LineEnd {
 }
 
 // Whether the eight bytes at a place lack the byte b. All of them are looked at, which the compiler makes one comparison.
-fn eight_lack(s: &[u8], at: usize, b: u8) -> bool
+pub fn eight_lack(s: &[u8], at: usize, b: u8) -> bool
     requires { ⌜ at + 8 ≤ length (now s) ⌝ }
     ensures { λ r. ⌜ r ≡ lacks b (now (s .entry)) at 8 ⌝ }
 {

@@ -5,32 +5,22 @@ use mathlib.Core.Bool.{Bool, true, false, _&&_, not}
 use mathlib.Core.List.{List, [], _∷_, _++_, append-assoc, append-nil}
 use native.Mathlib.Numerals.{add-one}
 use native.Mathlib.Omega.{arith}
+use borrow.Author.Tests.{eq-eqb, ne-eqb}
 use lib.Dec.{eqb}
-use lib.ListN.{length, getD, take, drop}
+use lib.ListN.{length, getD, take, drop, List·getD-eq-default}
 use lib.Seq.{take-all, take-suc}
 use Rattle.rules.specs.Basic.{pick, blank}
 use Rattle.rules.specs.Text.{retain}
 use Rattle.rules.proofs.Basics.{no-truth, by-order}
 use Rattle.output.specs.Put.{Put}
-use Rattle.text.specs.Singles.{stay}
+use Rattle.sheet.specs.Runs.{lacks, Lacking}
+use Rattle.sheet.proofs.Runs.{lacks-miss, last-of}
+use Rattle.text.specs.Singles.{stay, NextBlank}
 use Rattle.text.proofs.Writes.{retain-stays, retain-none}
 
--- ---- byte by byte
-pub stay-none : (w : List ℕ) (at : ℕ) → true ≡ stay w at 0
+pub stay-none : (w : List ℕ) → true ≡ stay w 0 0
 unfolding stay
-stay-none w at = refl
-
-module _ (w : List ℕ) (at j : ℕ) {gone : Bool} (g : gone ≡ (eqb (getD w (at + j + 1) 0) blank && eqb (getD w (at + j) 0) blank)) where
-  pub stay-off : gone ≡ true → false ≡ stay w at (j + 1)
-  unfolding stay
-  stay-off h = rw (add-one j, ← g, h)
-
-  pub stay-on : {r : Bool} → r ≡ stay w at j → gone ≡ false → r ≡ stay w at (j + 1)
-  unfolding stay
-  stay-on e h = rw (add-one j, ← g, h) e
-
-pub stay-whole : (w : List ℕ) (at j : ℕ) {r : Bool} → r ≡ stay w at j → 16 ≤ j → j ≤ 16 → r ≡ stay w at 16
-stay-whole w at j e h l = let k : j ≡ 16 = omega arith in rw k at e
+stay-none w = refl
 
 -- ---- one after the other
 pick-both : (t a b : Bool) → pick t false (pick a b false) ≡ pick (pick t false a) b false
@@ -85,6 +75,49 @@ module _ (w : List ℕ) (i : ℕ) (e : true ≡ stay w 0 i) (gone : Bool) (g : g
   pub stays-not-one : (m : ℕ) → i + 1 ≤ m → gone ≡ true → false ≡ stay w 0 m
   stays-not-one m l h = stays-not w i 1 e (not gone) one m l (rw h refl)
 
+-- ---- up to a blank
+and-off : (x : Bool) → (x && false) ≡ false
+and-off true = refl
+and-off false = refl
+
+lacks-stay : (w : List ℕ) (at n : ℕ) → lacks blank w at n ≡ true → true ≡ stay w at n
+unfolding stay
+lacks-stay w at zero h = refl
+lacks-stay w at (suc n) h =
+    let l = last-of blank w at n h in
+    rw (ne-eqb (getD w (at + n) 0) blank (l .last), and-off (eqb (getD w (at + n + 1) 0) blank)) (lacks-stay w at n (l .before))
+
+pub lacking-more : {w : List ℕ} {at i : ℕ} → Lacking blank w at i → i < length w → (getD w i 0 ≡ blank → ⊥) → Lacking blank w at (i + 1)
+lacking-more {w} {at} {i} a h n =
+    let k : i + 1 - at ≡ i - at + 1 = omega (arith, a .from) in
+    let z : at + (i - at) ≡ i = omega (arith, a .from) in
+    record { from = omega (arith, a .from); inside = λ g. omega arith; clean = rw k (sym (lacks-miss blank w at (i - at) (sym (a .clean)) (rw z n))) }
+
+module _ (w : List ℕ) (i j : ℕ) (e : true ≡ stay w 0 i) (a : NextBlank w i j) where
+  to-blank : true ≡ stay w 0 j
+  to-blank =
+      let z : i + (j - i) ≡ j = omega (arith, a .before .from) in
+      rw z at (stays-on w i (j - i) e true (lacks-stay w i (j - i) (a .before .clean)) refl)
+
+  pub to-end : j ≡ length w → true ≡ stay w 0 (length w)
+  to-end h = rw h at to-blank
+
+  module _ (l : j ≡ length w → ⊥) {b : Bool} (s : b ≡ eqb (getD w (j + 1) 0) blank) where
+    pub past-blank : b ≡ false → true ≡ stay w 0 (j + 1)
+    past-blank n = stays-one w j to-blank _ refl (rw (sym s ∙ n))
+
+    pub two-blanks : b ≡ true → false ≡ stay w 0 (length w)
+    two-blanks t =
+        let h : j < length w = omega (arith, a .inside, l) in
+        stays-not-one w j to-blank _ refl (length w) (omega arith) (rw (sym s ∙ t, eq-eqb (getD w j 0) blank (a .here h)))
+
+pub stay-end : (w : List ℕ) (i : ℕ) → true ≡ stay w 0 i → i ≤ length w → length w ≤ i → true ≡ stay w 0 (length w)
+stay-end w i e h l = let k : i ≡ length w = omega arith in rw k at e
+
+-- past the end stands no blank
+pub none-after : (w : List ℕ) (i : ℕ) → length w ≤ i → false ≡ eqb (getD w i 0) blank
+none-after w i h = rw (List·getD-eq-default w 0 h)
+
 -- ---- the whole
 -- so far they stay
 record Singles (w : List ℕ) (i prev : ℕ) : Type 0 where
@@ -112,11 +145,17 @@ singles w (suc n) h e = by (λ q. singles w n (omega arith) q) (eqb (getD w (n +
     by ih true p m = no-truth m
     by ih false p m = let z : n + 1 ≡ suc n = omega arith in rw z at (turn w (n + 1) (getD w n 0) (getD w (n + 1) 0) (omega arith) refl p refl (ih m))
 
-pub stay-to-end : (w : List ℕ) (i : ℕ) → true ≡ stay w 0 i → i ≤ length w - 1 → length w ≤ i + 1 → true ≡ stay w 0 (length w - 1)
-stay-to-end w i e h l = let k : i ≡ length w - 1 = omega arith in rw k at e
+pub single-whole : (w : List ℕ) → stay w 0 (length w) ≡ true → retain 0 w ≡ w
+single-whole w e = by-order 1 (length w) (λ h. ends (omega arith) (singles w (length w - 1) (omega arith) (before h))) (λ h. ends {i = 0} {prev = 0} (omega arith) (record { is = refl }))
+  where
+    both : (t u : Bool) → pick t u false ≡ true → u ≡ true
+    both true u q = q
+    both false u q = no-truth q
 
-pub single-whole : (w : List ℕ) → stay w 0 (length w - 1) ≡ true → retain 0 w ≡ w
-single-whole w e = by-order 1 (length w) (λ h. ends (omega arith) (singles w (length w - 1) (omega arith) e)) (λ h. ends {i = 0} {prev = 0} (omega arith) (record { is = refl }))
+    before : 1 ≤ length w → stay w 0 (length w - 1) ≡ true
+    before h =
+        let z : length w - 1 + 1 ≡ length w = omega arith in
+        both (stay w (length w - 1) 1) (stay w 0 (length w - 1)) (sym (from-start w (length w - 1) 1) ∙ rw z e)
 
-pub put-single : {w o₀ o : List ℕ} {at r : ℕ} {b : Bool} → b ≡ stay w 0 (length w - 1) → b ≡ true → Put w o₀ at o r → Put (retain 0 w) o₀ at o r
+pub put-single : {w o₀ o : List ℕ} {at r : ℕ} {b : Bool} → b ≡ stay w 0 (length w) → b ≡ true → Put w o₀ at o r → Put (retain 0 w) o₀ at o r
 put-single {w} h e p = rw (single-whole w (sym h ∙ e)) p

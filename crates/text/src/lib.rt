@@ -5,9 +5,9 @@ mod fronts;
 use unicode::Folded;
 ghost use mathlib.Core.Path.{_≡_};
 ghost use mathlib.Core.Bool.{true, false, _&&_};
-ghost use Prim.Native.Nat.{_+_, _-_, _≤_};
+ghost use Prim.Native.Nat.{_+_, _≤_, _<_};
 ghost use lib.Dec.{eqb};
-ghost use lib.ListN.{length};
+ghost use lib.ListN.{length, getD};
 ghost use Rattle.rules.specs.Basic.{blank, any};
 ghost use Rattle.rules.specs.Text.{retain, trimEnd, trimMatches};
 ghost use Rattle.rules.specs.Unicode.{isAlphanumeric, sameName};
@@ -15,7 +15,8 @@ ghost use Rattle.content.specs.Contents.{contentIn, keptIn};
 ghost use Rattle.unicode.specs.Tables.{unicodeTables};
 ghost use Rattle.output.specs.Put.{Put};
 ghost use Rattle.text.specs.Trims.{dropsOf, StartAt, EndAt, TrimmedBy, TrimmedTo, UnitTrimmedTo, PutTrimmed};
-ghost use Rattle.text.specs.Singles.{stay};
+ghost use Rattle.sheet.specs.Runs.{Lacking};
+ghost use Rattle.text.specs.Singles.{stay, NextBlank};
 ghost use Rattle.text.specs.Paths.{isBack, pathBytes};
 ghost use Rattle.text.specs.Names.{startCursor, stepOf, foldFrom, rest, told};
 ghost use Rattle.text.specs.Seams.{meetingOf, Met};
@@ -137,41 +138,62 @@ fn goes(b: u8, prev: u8) -> bool
     false
 }
 
-// Whether after each of the sixteen bytes at a place the next one stays. All of them are looked at, which the compiler makes one
-// comparison.
-fn sixteen_stay(w: &[u8], at: usize) -> bool
-    requires { ⌜ at + 17 ≤ length (now w) ⌝ }
-    ensures { λ r. ⌜ r ≡ stay (now (w .entry)) at 16 ⌝ }
+// A place that no blank stands before, from `at` on, by eight bytes a turn.
+fn past_no_blank(w: &[u8], at: usize) -> usize
+    requires { ⌜ at ≤ length (now w) ⌝ }
+    ensures { λ r. ⌜ Lacking blank (now (w .entry)) at r ⌝ }
 {
-    let mut all = true;
-    let mut j = 0;
-    while j < 16 {
-        let i = at + j;
-        if (w[i + 1] == b' ') & (w[i] == b' ') {
-            all = false;
+    let mut i = at;
+    while 8 <= w.len() - i {
+        if !sheet::eight_lack(w, i, b' ') {
+            return i;
         }
-        j += 1;
+        i += 8;
     }
-    all
+    i
+}
+
+// The first blank at or after `at`, or the end.
+fn next_blank(w: &[u8], at: usize) -> usize
+    requires { ⌜ at ≤ length (now w) ⌝ }
+    ensures { λ r. ⌜ NextBlank (now (w .entry)) at r ⌝ }
+{
+    let mut i = past_no_blank(w, at);
+    while i < w.len() {
+        if w[i] == b' ' {
+            return i;
+        }
+        i += 1;
+    }
+    i
+}
+
+// Whether a blank stands after the place.
+fn is_blank_after(w: &[u8], at: usize) -> bool
+    requires { ⌜ at < length (now w) ⌝ }
+    ensures { λ r. ⌜ r ≡ eqb (getD (now (w .entry)) (at + 1) 0) blank ⌝ }
+{
+    let i = at + 1;
+    if w.len() <= i {
+        return false;
+    }
+    w[i] == b' '
 }
 
 // Whether no two blanks follow one another.
 fn is_single(w: &[u8]) -> bool
-    ensures { λ r. ⌜ r ≡ stay (now (w .entry)) 0 (length (now (w .entry)) - 1) ⌝ }
+    ensures { λ r. ⌜ r ≡ stay (now (w .entry)) 0 (length (now (w .entry))) ⌝ }
 {
     let mut i = 0;
-    while i + 1 < w.len() {
-        if 17 <= w.len() - i {
-            if !sixteen_stay(w, i) {
-                return false;
-            }
-            i += 16;
-        } else {
-            if goes(w[i + 1], w[i]) {
-                return false;
-            }
-            i += 1;
+    while i < w.len() {
+        let j = next_blank(w, i);
+        if j == w.len() {
+            return true;
         }
+        if is_blank_after(w, j) {
+            return false;
+        }
+        i = j + 1;
     }
     true
 }

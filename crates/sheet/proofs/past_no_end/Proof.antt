@@ -47,7 +47,7 @@ loop-less c = search needs
 
 -- src/lib.rt:47:5
 loop-again : tie.Need-loop-again Inv-loop μ-loop
-loop-again c = (omega arith, lacking-on (c .before .before .before .loop .inv .1) 8 (omega arith) _ (c .before .eight-lack .ensures) (c .if2 .left))
+loop-again c = (omega arith, lacking-on (c .before .before .before .loop .inv .1) (omega arith) _ (c .before .eight-lack .ensures) (c .if2 .left))
 
 -- src/lib.rt:40:1
 returns-3 : tie.Need-returns-3 Inv-loop μ-loop
