@@ -9,8 +9,8 @@ and its work memory, on each call, which is counted; the Rust's page is written 
 The Rust: the sheet and unit list read by harness/src/sheet.rs, `parse_events` of cooklang-rs, the page written by harness/src/page.rs.
 "the pass" is what `parse_events` takes of it. Neither the reader nor the writer of the harness was made to be fast.
 
-Run by hand, with valgrind, after `rt staticlib recipe` (or with RECIPE_LIB_DIR): bench/collect.py [--times TIMES] [--rust-only] [WORD ...]
-(a word chooses the inputs whose names hold it)."""
+Run by hand, with valgrind, after `rt staticlib recipe` (or with RECIPE_LIB_DIR): bench/collect.py [--times TIMES] [--rust-only] [--further] [WORD ...]
+(a word chooses the inputs whose names hold it; --further: inputs made to be slow)."""
 import argparse
 import os
 import re
@@ -77,6 +77,7 @@ def main():
     p = argparse.ArgumentParser()
     p.add_argument("--times", type=int, default=11)
     p.add_argument("--rust-only", action="store_true")
+    p.add_argument("--further", action="store_true")
     p.add_argument("words", nargs="*")
     a = p.parse_args()
     build(not a.rust_only)
@@ -85,7 +86,7 @@ def main():
         heads += ["the library", "library / Rust", "library a byte of sheet and page"]
     print("| " + " | ".join(heads) + " |\n|" + "---|" * len(heads))
     with tempfile.TemporaryDirectory() as work:
-        for name, directory, sheet in inputs.write(work, inputs.inputs()):
+        for name, directory, sheet in inputs.write(work, inputs.further() if a.further else inputs.inputs()):
             if all(w in name for w in a.words):
                 row(name, directory, sheet, a.times, not a.rust_only)
 

@@ -286,15 +286,14 @@ def many_texts():
     return in_step(["text\t0\t0\tabc"] * 4000), b"@", ""
 
 
-def long_text():
-    """A text without a number."""
-    return in_step(["text\t0\t0\t" + "abc def ghi. " * 4600]), b"@", "g\tmass\n"
-
-
-def long_names():
-    """A name and a reference to it in the other case."""
+def long_pair(name, other):
+    """A name and a reference to it."""
     line = "ingredient\t0\t1\t0\t1\t%s\t-\t-\t-\t%s\t0\t0\t-"
-    return in_step([line % ("ab" * 15000, "."), line % ("AB" * 15000, "&")]), b"@", ""
+    return in_step([line % (name, "."), line % (other, "&")]), b"@", ""
+
+
+def one_text(text, units):
+    return in_step(["text\t0\t0\t" + text]), b"@", units
 
 
 def inputs():
@@ -315,8 +314,28 @@ def inputs():
     yield ("512 mentions of one ingredient",) + many_mentions()
     yield ("256 pieces of cookware",) + many_pieces()
     yield ("4,000 texts",) + many_texts()
-    yield ("a text of 60 KB",) + long_text()
-    yield ("two names of 30 KB",) + long_names()
+    yield ("a text of 60 KB",) + one_text("abc def ghi. " * 4600, "g\tmass\n")
+    yield ("two names of 30 KB",) + long_pair("ab" * 15000, "AB" * 15000)
+
+
+def further():
+    """Inputs that no recipe comes near, each made to be slow."""
+    units = full_list()[1]
+    unitless = [line.replace("0\t1\tx\t-\t", "-\t-\t") for line in amounts(512, ["x"])]
+    yield "512 amounts without a unit", in_step(unitless), b"@", units
+    yield "512 amounts in a unit that is not in the list", in_step(amounts(512, ["foo"])), b"@", units
+    yield "the same, written in two ways", in_step(amounts(512, ["fo\\\\o", " fo\\\\o"])), b"@", units
+    yield ("two names of 15,000 Cyrillic letters",) + long_pair("аб" * 7500, "АБ" * 7500)
+    yield ("two names of 10,000 CJK characters",) + long_pair("麵粉" * 5000, "麵粉" * 5000)
+    yield ("two names with 12,000 blanks",) + long_pair("a  b " * 6000, "A  B " * 6000)
+    yield ("15,000 times ß beside ss",) + long_pair("ß" * 15000, "ss" * 15000)
+    yield ("a text of 60 KB in CJK",) + one_text("麵粉" * 10000, "")
+    yield ("the same with 4,300 numbers, one word",) + one_text("5克的麵粉" * 4300, "克\tmass\n")
+    yield ("a text of 24,000 escapes",) + one_text("a\\n\\\\" * 12000, "")
+    yield ("a text of 15,000 numbers",) + one_text("1.5 " * 15000, "g\tmass\n")
+    yield "3,600 times one metadata key", "meta\t0\t0\tk\t0\t0\tv\n" * 3600, b"", ""
+    yield "a metadata value of 60 KB", "meta\t0\t0\tk\t0\t0\t" + "v w " * 15000 + "\n", b"", ""
+    yield "4,000 errors", "error\t1\n" * 4000, b"", ""
 
 
 def write(directory, which):
