@@ -4,3 +4,4 @@ pub mod Below
 pub mod Rows
 pub mod Still
 pub mod Ascii
+pub mod Near

@@ -1,19 +1,19 @@
--- Code points whose answer needs no search: those in gaps of the tables, and the Cyrillic capitals; each by one computed test.
-use Prim.Native.Nat.{ℕ, _+_, _-_, _≤_, _<_}
+-- Code points whose answer needs no search: those in gaps of the tables, or in a large range; each by one computed test.
+use Prim.Native.Nat.{ℕ, _≤_, _<_}
 use mathlib.Core.Path.{_≡_, refl, sym, _∙_}
 use mathlib.Core.Bool.{Bool, true, false, _&&_}
 use mathlib.Core.List.{List, [], _∷_}
 use native.Mathlib.Omega.{arith}
 use lib.Dec.{eqb, leb, ltb}
-use borrow.Author.Tests.{ltb-true, ne-eqb, lt-ltb, le-ltb, lt-leb}
+use borrow.Author.Tests.{ltb-true, leb-true, ne-eqb, lt-ltb, le-ltb, lt-leb, le-leb}
 use Rattle.rules.specs.Basic.{pick, within}
 use Rattle.rules.specs.Ranges.{Range, _to_, member, FoldLine, _foldsTo_, lookup}
+use Rattle.rules.specs.Alphabetic.{alphabetic}
+use Rattle.rules.specs.Numeric.{numeric}
 use Rattle.rules.specs.WhiteSpace.{whiteSpace}
 use Rattle.rules.specs.Folding.{folding}
-use Rattle.rules.specs.Unicode.{isWhiteSpace, fold}
-use Rattle.rules.proofs.Basics.{and-left, and-right, within-from, within-to}
-use Rattle.unicode.proofs.Below.{allBelow, below}
-use Rattle.unicode.proofs.Ascii.{alone, alone-is}
+use Rattle.rules.specs.Unicode.{isWhiteSpace, isAlphabetic, isNumeric, fold}
+use Rattle.rules.proofs.Basics.{no-truth, and-left, and-right, within-from, within-to}
 
 -- ---- no key from lo to hi
 
@@ -35,14 +35,6 @@ module _ (lo hi : ℕ) where
     no-key [] t = refl
     no-key ((k foldsTo m) ∷ ls) t = free-line k m (lookup c ls) (and-left (pick (ltb k lo) true (ltb hi k)) (free ls) t) (no-key ls (and-right (pick (ltb k lo) true (ltb hi k)) (free ls) t))
 
-latin-free : free 0xe0 0xff folding ≡ true
-unfolding folding
-latin-free = refl
-
-cyrillic-free : free 0x430 0x45f folding ≡ true
-unfolding folding
-cyrillic-free = refl
-
 east-free : free 0x588 0x109f folding ≡ true
 unfolding folding
 east-free = refl
@@ -56,14 +48,6 @@ unfolding folding
 hangul-free = refl
 
 module _ (c : ℕ) where
-  pub still-latin : 0xe0 ≤ c → c < 0x100 → c ∷ [] ≡ fold c
-  unfolding fold
-  still-latin h g = no-key 0xe0 0xff c h (omega arith) folding latin-free
-
-  pub still-cyrillic : {r : Bool} → r ≡ within 0x430 0x45f c → r ≡ true → c ∷ [] ≡ fold c
-  unfolding fold
-  still-cyrillic e t = no-key 0x430 0x45f c (within-from 0x430 0x45f c (sym e ∙ t)) (within-to 0x430 0x45f c (sym e ∙ t)) folding cyrillic-free
-
   pub still-east : 0x588 ≤ c → c < 0x10a0 → c ∷ [] ≡ fold c
   unfolding fold
   still-east h g = no-key 0x588 0x109f c h (omega arith) folding east-free
@@ -76,21 +60,7 @@ module _ (c : ℕ) where
   unfolding fold
   still-hangul e t = no-key 0xabc0 0xfaff c (within-from 0xabc0 0xfaff c (sym e ∙ t)) (within-to 0xabc0 0xfaff c (sym e ∙ t)) folding hangul-free
 
--- ---- the Cyrillic capitals
-
-capitals : allBelow (λ k. alone (0x430 + k) (fold (0x410 + k))) 32 ≡ true
-unfolding fold lookup folding
-capitals = refl
-
-pub capital : (c : ℕ) {r : Bool} → r ≡ within 0x410 0x42f c → r ≡ true → (c + 32) ∷ [] ≡ fold c
-capital c e t =
-    let l = within-from 0x410 0x42f c (sym e ∙ t) in
-    let m = within-to 0x410 0x42f c (sym e ∙ t) in
-    let z : 0x410 + (c - 0x410) ≡ c = omega arith in
-    let y : 0x430 + (c - 0x410) ≡ c + 32 = omega arith in
-    rw (z, y) at (alone-is (0x430 + (c - 0x410)) (fold (0x410 + (c - 0x410))) (below (λ k. alone (0x430 + k) (fold (0x410 + k))) 32 capitals (c - 0x410) (omega arith)))
-
--- ---- no White_Space from lo to hi
+-- ---- no range from lo to hi
 
 module _ (lo hi : ℕ) where
   abbrev apart : List Range → Bool
@@ -131,3 +101,62 @@ module _ (c : ℕ) where
   pub past-white : 0x3000 < c → c ≤ 0xffffffff → false ≡ isWhiteSpace c
   unfolding isWhiteSpace
   past-white h g = no-range 0x3001 0xffffffff c (omega arith) g whiteSpace white-past
+
+-- ---- marks
+
+pub record Unlettered (c : ℕ) : Type 0 where
+  pub alphabetic : false ≡ isAlphabetic c
+  pub numeric : false ≡ isNumeric c
+
+module _ (lo hi : ℕ) (a : apart lo hi alphabetic ≡ true) (n : apart lo hi numeric ≡ true) (c : ℕ) where
+  unlettered : lo ≤ c → c ≤ hi → Unlettered c
+  unfolding isAlphabetic isNumeric
+  unlettered h g = record { alphabetic = no-range lo hi c h g alphabetic a; numeric = no-range lo hi c h g numeric n }
+
+module _ (c : ℕ) where
+  pub mark-general : {r : Bool} → r ≡ within 0x2000 0x206f c → r ≡ true → (false ≡ isAlphabetic c) × (false ≡ isNumeric c)
+  unfolding alphabetic numeric
+  mark-general e t = let k = unlettered 0x2000 0x206f refl refl c (within-from 0x2000 0x206f c (sym e ∙ t)) (within-to 0x2000 0x206f c (sym e ∙ t)) in (k .alphabetic, k .numeric)
+
+  pub mark-first : 0x3000 ≤ c → c < 0x3005 → (false ≡ isAlphabetic c) × (false ≡ isNumeric c)
+  unfolding alphabetic numeric
+  mark-first h g = let k = unlettered 0x3000 0x3004 refl refl c h (omega arith) in (k .alphabetic, k .numeric)
+
+  pub mark-second : 0x3007 < c → c < 0x3021 → (false ≡ isAlphabetic c) × (false ≡ isNumeric c)
+  unfolding alphabetic numeric
+  mark-second h g = let k = unlettered 0x3008 0x3020 refl refl c (omega arith) (omega arith) in (k .alphabetic, k .numeric)
+
+  pub mark-wide : {r : Bool} → r ≡ within 0xff00 0xff0f c → r ≡ true → (false ≡ isAlphabetic c) × (false ≡ isNumeric c)
+  unfolding alphabetic numeric
+  mark-wide e t = let k = unlettered 0xff00 0xff0f refl refl c (within-from 0xff00 0xff0f c (sym e ∙ t)) (within-to 0xff00 0xff0f c (sym e ∙ t)) in (k .alphabetic, k .numeric)
+
+-- ---- one range has all from lo to hi
+
+module _ (lo hi : ℕ) where
+  abbrev covers : List Range → Bool
+  covers [] = false
+  covers ((a to b) ∷ rs) = pick (ltb b lo) (leb a b && covers rs) (leb a lo && leb hi b)
+
+  module _ (c : ℕ) (h : lo ≤ c) (g : c ≤ hi) where
+    in-range : (rs : List Range) → covers rs ≡ true → true ≡ member c rs
+    unfolding member
+    in-range [] t = no-truth t
+    in-range ((a to b) ∷ rs) t = go (ltb b lo) refl t (λ q. in-range rs q)
+      where
+        go : (x : Bool) → ltb b lo ≡ x → pick x (leb a b && covers rs) (leb a lo && leb hi b) ≡ true → (covers rs ≡ true → true ≡ member c rs) → true ≡ pick (ltb c a) false (pick (leb c b) true (member c rs))
+        go true z t f =
+            let l = ltb-true b lo z in
+            let m = leb-true a b (and-left (leb a b) (covers rs) t) in
+            rw (le-ltb c a (omega arith), lt-leb c b (omega arith)) (f (and-right (leb a b) (covers rs) t))
+        go false z t f =
+            let l = leb-true a lo (and-left (leb a lo) (leb hi b) t) in
+            let m = leb-true hi b (and-right (leb a lo) (leb hi b) t) in
+            rw (le-ltb c a (omega arith), le-leb c b (omega arith))
+
+han-covers : covers 0x4e00 0xa48c alphabetic ≡ true
+unfolding alphabetic
+han-covers = refl
+
+pub han : (c : ℕ) {r : Bool} → r ≡ within 0x4e00 0xa48c c → r ≡ true → true ≡ isAlphabetic c
+unfolding isAlphabetic
+han c e t = in-range 0x4e00 0xa48c c (within-from 0x4e00 0xa48c c (sym e ∙ t)) (within-to 0x4e00 0xa48c c (sym e ∙ t)) alphabetic han-covers

@@ -7,12 +7,14 @@ use lib.Seq.{getD-take, getD-drop}
 use Rattle.rules.specs.Alphabetic.{alphabetic}
 use Rattle.rules.specs.Numeric.{numeric}
 use Rattle.rules.specs.WhiteSpace.{whiteSpace}
+use Rattle.rules.specs.Ranges.{lookup}
 use Rattle.rules.specs.Folding.{folding}
-use Rattle.unicode.specs.Tables.{starts, ends, keys, column, unicodeTables}
+use Rattle.rules.specs.Unicode.{fold}
+use Rattle.unicode.specs.Tables.{starts, ends, keys, column, keysBelow, wordFor, nearWord, nearCode, near, unicodeTables}
 
 -- the tables hold what the rules say: each column stands where the code reads it
 pub record Columns (t : List ℕ) : Type 0 where
-  pub long : length t ≡ 8050
+  pub long : length t ≡ 9850
   pub white-starts : take 10 (drop 0 t) ≡ starts whiteSpace
   pub white-ends : take 10 (drop 10 t) ≡ ends whiteSpace
   pub alphabetic-starts : take 757 (drop 20 t) ≡ starts alphabetic
@@ -23,9 +25,10 @@ pub record Columns (t : List ℕ) : Type 0 where
   pub fold-first : take 1557 (drop 3379 t) ≡ column 0 folding
   pub fold-second : take 1557 (drop 4936 t) ≡ column 1 folding
   pub fold-third : take 1557 (drop 6493 t) ≡ column 2 folding
+  pub fold-near : take 1800 (drop 8050 t) ≡ near 0 1800
 
 all-columns : Columns unicodeTables
-unfolding unicodeTables starts ends keys column whiteSpace alphabetic numeric folding
+unfolding unicodeTables starts ends keys column keysBelow wordFor nearWord nearCode near whiteSpace alphabetic numeric folding fold lookup
 all-columns =
     record {
       long = refl;
@@ -39,6 +42,7 @@ all-columns =
       fold-first = refl;
       fold-second = refl;
       fold-third = refl;
+      fold-near = refl;
     }
 
 pub columns : {t : List ℕ} → t ≡ unicodeTables → Columns t

@@ -1,15 +1,15 @@
 mod tables;
 
 ghost use mathlib.Core.Path.{_≡_};
-ghost use mathlib.Core.Bool.{true};
+ghost use mathlib.Core.Bool.{true, false};
 ghost use mathlib.Core.List.{[], _∷_};
-ghost use Prim.Native.Nat.{_+_, _<_};
-ghost use lib.ListN.{length};
+ghost use Prim.Native.Nat.{_+_, _≤_, _<_};
+ghost use lib.ListN.{length, getD};
 ghost use Rattle.rules.specs.Basic.{within};
 ghost use Rattle.rules.specs.Ranges.{member};
 ghost use Rattle.rules.specs.Unicode.{isWhiteSpace, isAlphabetic, isNumeric, isAlphanumeric, fold as foldRule};
 ghost use Rattle.unicode.specs.Search.{Ascending, Place, zipped};
-ghost use Rattle.unicode.specs.Tables.{unicodeTables};
+ghost use Rattle.unicode.specs.Tables.{nearCode, unicodeTables};
 ghost use Rattle.unicode.specs.Folded.{foldedOf, rowOf};
 
 // Where the columns of the tables start.
@@ -33,6 +33,8 @@ const SECOND: usize = 4936;
 
 const THIRD: usize = 6493;
 
+const NEAR: usize = 8050;
+
 // What a code point folds to.
 pub enum Folded {
     One(u32),
@@ -41,7 +43,7 @@ pub enum Folded {
 }
 
 // The tables, by value: one outermost function asks for them and lends them down, since they are copied here.
-pub fn unicode_tables() -> [u32; 8050]
+pub fn unicode_tables() -> [u32; 9850]
     ensures { λ r. ⌜ r ≡ unicodeTables ⌝ }
 {
     tables::TABLES
@@ -107,6 +109,22 @@ pub fn is_white_space(t: &[u32], c: u32) -> bool
     in_ranges(&t[WHITE..WHITE_ENDS], &t[WHITE_ENDS..ALPHABETIC], c)
 }
 
+// Whether c is a mark of the blocks for punctuation, which have neither letters nor numbers there.
+fn is_mark(c: u32) -> bool
+    ensures { λ r. ⌜ (r ≡ true → (false ≡ isAlphabetic c) × (false ≡ isNumeric c)) ⌝ }
+{
+    if c < 0x3000 {
+        return is_within(0x2000, 0x206f, c);
+    }
+    if c < 0x3005 {
+        return true;
+    }
+    if c < 0x3021 {
+        return 0x3007 < c;
+    }
+    is_within(0xff00, 0xff0f, c)
+}
+
 pub fn is_alphabetic(t: &[u32], c: u32) -> bool
     requires { ⌜ now t ≡ unicodeTables ⌝ }
     ensures { λ r. ⌜ r ≡ isAlphabetic c ⌝ }
@@ -116,6 +134,13 @@ pub fn is_alphabetic(t: &[u32], c: u32) -> bool
             return is_within(65, 90, c);
         }
         return c <= 122;
+    }
+    // Chinese characters, and the letters of Yi after them
+    if is_within(0x4e00, 0xa48c, c) {
+        return true;
+    }
+    if is_mark(c) {
+        return false;
     }
     in_ranges(
         &t[ALPHABETIC..ALPHABETIC_ENDS],
@@ -130,6 +155,9 @@ pub fn is_numeric(t: &[u32], c: u32) -> bool
 {
     if c < 128 {
         return is_within(48, 57, c);
+    }
+    if is_mark(c) {
+        return false;
     }
     in_ranges(&t[NUMERIC..NUMERIC_ENDS], &t[NUMERIC_ENDS..KEYS], c)
 }
@@ -157,17 +185,12 @@ fn row(a: u32, b: u32, c: u32) -> Folded
     Folded::Three(a, b, c)
 }
 
-// Whether c lies in one of the large parts of Unicode where each code point folds to itself: the small letters of Latin-1
-// and of Cyrillic, Hebrew to Myanmar, Chinese and Japanese, Hangul.
+// Whether c lies in one of the large parts of Unicode where each code point folds to itself: Hebrew to Myanmar, Chinese and
+// Japanese, Hangul.
 fn is_still(c: u32) -> bool
+    requires { ⌜ 0x588 ≤ c ⌝ }
     ensures { λ r. ⌜ (r ≡ true → c ∷ [] ≡ foldRule c) ⌝ }
 {
-    if c < 0x588 {
-        if c < 0x100 {
-            return 0xe0 <= c;
-        }
-        return is_within(0x430, 0x45f, c);
-    }
     if c < 0x2cf3 {
         return c < 0x10a0;
     }
@@ -175,6 +198,27 @@ fn is_still(c: u32) -> bool
         return true;
     }
     is_within(0xabc0, 0xfaff, c)
+}
+
+// The row at a place of the folding table.
+fn row_at(t: &[u32], k: usize) -> Folded
+    requires { ⌜ (now t ≡ unicodeTables) × (k < 1557) ⌝ }
+    ensures { λ r. ⌜ foldedOf r ≡ rowOf (getD (now (t .entry)) (3379 + k) 0) (getD (now (t .entry)) (4936 + k) 0) (getD (now (t .entry)) (6493 + k) 0) ⌝ }
+{
+    row(t[FIRST + k], t[SECOND + k], t[THIRD + k])
+}
+
+// The folding of one of the code points that have a word each.
+fn fold_near(t: &[u32], i: usize) -> Folded
+    requires { ⌜ (now t ≡ unicodeTables) × (i < 1800) ⌝ }
+    ensures { λ r. ⌜ foldedOf r ≡ foldRule (nearCode i) ⌝ }
+{
+    let x = t[NEAR + i];
+    if x < 0x110000 {
+        return Folded::One(x);
+    }
+    let k = (x - 0x110000) as usize;
+    row_at(t, k)
 }
 
 // The folding by a search in the table.
@@ -185,7 +229,7 @@ fn fold_in(t: &[u32], c: u32) -> Folded
     let k = lower_bound(&t[KEYS..FIRST], c);
     if k < 1557 {
         if t[KEYS + k] == c {
-            return row(t[FIRST + k], t[SECOND + k], t[THIRD + k]);
+            return row_at(t, k);
         }
     }
     Folded::One(c)
@@ -201,12 +245,16 @@ pub fn fold(t: &[u32], c: u32) -> Folded
         }
         return Folded::One(c);
     }
+    // Latin, Greek, Cyrillic and Armenian letters
+    if c < 0x588 {
+        return fold_near(t, (c - 128) as usize);
+    }
     if is_still(c) {
         return Folded::One(c);
     }
-    // the Cyrillic capitals
-    if is_within(0x410, 0x42f, c) {
-        return Folded::One(c + 32);
+    // Latin and Greek letters with more marks
+    if is_within(0x1e00, 0x1fff, c) {
+        return fold_near(t, (c - 0x1e00 + 1288) as usize);
     }
     fold_in(t, c)
 }

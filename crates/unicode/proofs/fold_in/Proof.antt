@@ -1,93 +1,57 @@
 use borrow.Author.Needs.{needs}
 use native.Mathlib.Omega.{arith}
-use Rattle.unicode.proofs.Windows.{columns}
-use Rattle.unicode.proofs.Rows.{window-ascends, row-found, row-other, row-past}
 use Rattle.unicode.specs.Folded.{foldedOf}
+use Rattle.unicode.proofs.Rows.{window-ascends, row-found, row-other, row-past}
+use Rattle.unicode.proofs.Windows.{columns}
 use Rattle.unicode.proofs.fold_in.Statement.{statement}
 use Rattle.unicode.proofs.fold_in.Tie as tie
 use Rattle.unicode.proofs.fold_in.Reads as reads
 use Rattle.unicode.proofs.fold_in.Lts as lts
 use Rattle.unicode.proofs.lower_bound.Reads as lower-bound-reads
-use Rattle.unicode.proofs.row.Reads as row-reads
+use Rattle.unicode.proofs.row_at.Reads as row-at-reads
 
--- src/lib.rt:148:25
+-- src/lib.rt:204:25
 sub-lower-bound : tie.Need-sub-lower-bound
 sub-lower-bound c = search needs
 
--- src/lib.rt:148:25
+-- src/lib.rt:204:25
 part-lower-bound-start : tie.Need-part-lower-bound-start
 part-lower-bound-start c = search needs
 
--- src/lib.rt:148:25
+-- src/lib.rt:204:25
 part-lower-bound-end : tie.Need-part-lower-bound-end
 part-lower-bound-end c = omega (arith, columns (c .before .pre) .long)
 
--- src/lib.rt:148:9
+-- src/lib.rt:204:9
 lower-bound-requires : tie.Need-lower-bound-requires
 lower-bound-requires c κs = window-ascends _ (c .before .before .pre)
 
--- src/lib.rt:150:14
+-- src/lib.rt:206:14
 add-if2 : tie.Need-add-if2
 add-if2 c = search needs
 
--- src/lib.rt:150:12
+-- src/lib.rt:206:12
 mul-if2 : tie.Need-mul-if2
 mul-if2 c = search needs
 
--- src/lib.rt:150:12
+-- src/lib.rt:206:12
 shared-slice-read-if2 : tie.Need-shared-slice-read-if2
 shared-slice-read-if2 c = omega (arith, columns (c .before .before .before .before .before .pre) .long)
 
--- src/lib.rt:151:26
-add-row : tie.Need-add-row
-add-row c = search needs
+-- src/lib.rt:207:13
+row-at-requires : tie.Need-row-at-requires
+row-at-requires c κs = search needs
 
--- src/lib.rt:151:24
-mul-row : tie.Need-mul-row
-mul-row c = search needs
-
--- src/lib.rt:151:24
-shared-slice-read-row : tie.Need-shared-slice-read-row
-shared-slice-read-row c = omega (arith, columns (c .before .before .before .before .before .before .before .pre) .long)
-
--- src/lib.rt:151:40
-add-row-2 : tie.Need-add-row-2
-add-row-2 c = search needs
-
--- src/lib.rt:151:38
-mul-row-2 : tie.Need-mul-row-2
-mul-row-2 c = search needs
-
--- src/lib.rt:151:38
-shared-slice-read-row-2 : tie.Need-shared-slice-read-row-2
-shared-slice-read-row-2 c = omega (arith, columns (c .before .before .before .before .before .before .before .before .pre) .long)
-
--- src/lib.rt:151:55
-add-row-3 : tie.Need-add-row-3
-add-row-3 c = search needs
-
--- src/lib.rt:151:53
-mul-row-3 : tie.Need-mul-row-3
-mul-row-3 c = search needs
-
--- src/lib.rt:151:53
-shared-slice-read-row-3 : tie.Need-shared-slice-read-row-3
-shared-slice-read-row-3 c = omega (arith, columns (c .before .before .before .before .before .before .before .before .before .pre) .long)
-
--- src/lib.rt:151:13
-row-requires : tie.Need-row-requires
-row-requires c κs = search needs
-
--- src/lib.rt:151:13
+-- src/lib.rt:207:13
 returns : tie.Need-returns
-returns c = row-found _ (c .before .before .before .before .before .before .before .before .before .before .pre) _ _ (c .before .before .before .before .before .before .before .lower-bound .ensures) (c .before .before .before .before .before .before .if1 .taken) (c .before .before .before .before .if2 .taken) (c .row .ensures)
+returns c = row-found _ (c .before .before .before .before .before .before .before .pre) _ _ (c .before .before .before .before .lower-bound .ensures) (c .before .before .before .if1 .taken) (c .before .if2 .taken) (c .row-at .ensures)
 
--- src/lib.rt:138:1
+-- src/lib.rt:200:1
 returns-2 : tie.Need-returns-2
 unfolding foldedOf
 returns-2 c = row-other _ (c .before .before .before .before .before .before .pre) _ _ (c .before .before .before .lower-bound .ensures) (c .before .before .if1 .taken) (c .if2 .left)
 
--- src/lib.rt:138:1
+-- src/lib.rt:200:1
 returns-3 : tie.Need-returns-3
 unfolding foldedOf
 returns-3 c = row-past _ (c .before .before .before .before .pre) _ _ (c .before .lower-bound .ensures) (c .if1 .left)
@@ -103,16 +67,7 @@ fold-in-spec =
     add-if2
     mul-if2
     shared-slice-read-if2
-    add-row
-    mul-row
-    shared-slice-read-row
-    add-row-2
-    mul-row-2
-    shared-slice-read-row-2
-    add-row-3
-    mul-row-3
-    shared-slice-read-row-3
-    row-requires
+    row-at-requires
     returns
     returns-2
     returns-3)
