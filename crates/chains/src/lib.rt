@@ -49,6 +49,10 @@ pub fn hash_content(f: &[u8]) -> usize
         if content::is_plain(a) {
             h = mixed(h, a as u32);
             i += 1;
+        } else if 0x80 <= a {
+            let c = utf8::char_near(f, i);
+            h = mixed(h, c.code);
+            i += c.size;
         } else {
             let c = content::char_in(f, i);
             h = mixed(h, c.code);

@@ -80,12 +80,12 @@ same-reading g f w e q = let k : f ≡ w = eq-true f w (sym e ∙ q) in rw k (sy
 
 -- ---- a plain byte
 
-record Plain (b : ℕ) : Type 0 where
-  low : b < 128
-  bare : b ≡ 92 → ⊥
-  solid : b ≡ 32 → ⊥
+pub record Plain (b : ℕ) : Type 0 where
+  pub low : b < 128
+  pub bare : b ≡ 92 → ⊥
+  pub solid : b ≡ 32 → ⊥
 
-plain : (b : ℕ) → plainByte b ≡ true → Plain b
+pub plain : (b : ℕ) → plainByte b ≡ true → Plain b
 unfolding plainByte
 plain b t =
     let l = and-left (ltb b 128 && not (eqb b 92)) _ t in

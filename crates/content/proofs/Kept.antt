@@ -137,6 +137,15 @@ module _ (f : List ℕ) (at : ℕ) (ch : Char) (h : at < length f) (e : ch ≡ c
         scalar = rw q at (s .scalar);
       }
 
+-- a byte beyond ASCII starts no escape, and no blank
+pub wide-in : (f : List ℕ) (at : ℕ) {ch : Char} → at < length f → 128 ≤ getD f at 0 → ch ≡ charOf (drop at f) → ch ≡ charIn (drop at f)
+wide-in f at h l e = e ∙ rw (drop-cons f at 0 h) (sym (char-plain (getD f at 0) (drop (suc at) f) (λ z. omega arith)))
+
+pub kept-wide : (f : List ℕ) (at : ℕ) {ch : Char} → at < length f → 128 ≤ getD f at 0 → ch ≡ charOf (drop at f) → KeptStep f at ch
+kept-wide f at {ch} h l e =
+    let d = drop-cons f at 0 h in
+    kept-other f at ch h (wide-in f at h l e) (λ z. wide-code (getD f at 0) (drop (suc at) f) 32 l (omega arith) (ap (λ (x : List ℕ). charOf x .code) (sym d) ∙ (rw e at z)))
+
 -- an ASCII byte that is neither
 pub kept-ascii : (f : List ℕ) (at : ℕ) {x : ℕ} → at < length f → x ≡ getD f at 0 → getD f at 0 < 128 → (getD f at 0 ≡ 92 → ⊥) → (getD f at 0 ≡ 32 → ⊥) → KeptStep f at (charWith x 1)
 kept-ascii f at {x} h e l n m = kept-other f at (charWith x 1) h (in-ascii f at h e l n) (λ q. m (sym e ∙ q))

@@ -93,7 +93,7 @@ pub fn kept_char(f: &[u8], at: usize) -> Char
 {
     let a = f[at];
     if 0x80 <= a {
-        return any_kept(f, at);
+        return utf8::char_at(f, at);
     }
     if a == b'\\' {
         return any_kept(f, at);

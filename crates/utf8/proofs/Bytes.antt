@@ -1,11 +1,13 @@
 -- What the tests of bytes say of the definitions.
-use mathlib.Core.Path.{_≡_, sym}
-use mathlib.Core.Bool.{Bool, true, false, not}
+use mathlib.Core.Path.{_≡_, refl, sym}
+use mathlib.Core.Bool.{Bool, true, false, not, _&&_, _||_}
 use mathlib.Core.List.{List, [], _∷_}
 use Prim.Native.Nat.{ℕ, _≤_, _<_, _+_, _*_, _%_}
-use lib.Dec.{leb}
+use native.Mathlib.Omega.{arith}
+use lib.Dec.{leb, ltb, eqb}
 use lib.ListN.{length, getD, List·getD-eq-default}
-use borrow.Author.Tests.{le-leb, lt-leb, eq-eqb, ne-eqb, not-true, not-false}
+use borrow.Author.Tests.{ltb-true, ltb-false, le-leb, lt-leb, eq-eqb, ne-eqb, not-true, not-false}
+use Rattle.rules.specs.Basic.{pick}
 use Rattle.rules.specs.Utf8.{lowest, highest, second, later, sized, isInside}
 use Rattle.utf8.specs.declared.Decoded.the-variants.{Char, Fault}
 use Rattle.utf8.specs.Decoding.{decodedAs}
@@ -18,27 +20,27 @@ unfolding isInside
 inside-byte s at b r e f = rw (← e) f
 
 module _ (a : ℕ) where
-  pub low-e0 : a ≡ 0xe0 → 0xa0 ≡ lowest a
+  low-e0 : a ≡ 0xe0 → 0xa0 ≡ lowest a
   unfolding lowest
   low-e0 h = simp (eq-eqb a 0xe0 h)
 
-  pub low-f0 : (a ≡ 0xe0 → ⊥) → a ≡ 0xf0 → 0x90 ≡ lowest a
+  low-f0 : (a ≡ 0xe0 → ⊥) → a ≡ 0xf0 → 0x90 ≡ lowest a
   unfolding lowest
   low-f0 n h = simp (ne-eqb a 0xe0 n, eq-eqb a 0xf0 h)
 
-  pub low-else : (a ≡ 0xe0 → ⊥) → (a ≡ 0xf0 → ⊥) → 0x80 ≡ lowest a
+  low-else : (a ≡ 0xe0 → ⊥) → (a ≡ 0xf0 → ⊥) → 0x80 ≡ lowest a
   unfolding lowest
   low-else n h = simp (ne-eqb a 0xe0 n, ne-eqb a 0xf0 h)
 
-  pub high-ed : a ≡ 0xed → 0x9f ≡ highest a
+  high-ed : a ≡ 0xed → 0x9f ≡ highest a
   unfolding highest
   high-ed h = simp (eq-eqb a 0xed h)
 
-  pub high-f4 : (a ≡ 0xed → ⊥) → a ≡ 0xf4 → 0x8f ≡ highest a
+  high-f4 : (a ≡ 0xed → ⊥) → a ≡ 0xf4 → 0x8f ≡ highest a
   unfolding highest
   high-f4 n h = simp (ne-eqb a 0xed n, eq-eqb a 0xf4 h)
 
-  pub high-else : (a ≡ 0xed → ⊥) → (a ≡ 0xf4 → ⊥) → 0xbf ≡ highest a
+  high-else : (a ≡ 0xed → ⊥) → (a ≡ 0xf4 → ⊥) → 0xbf ≡ highest a
   unfolding highest
   high-else n h = simp (ne-eqb a 0xed n, ne-eqb a 0xf4 h)
 
@@ -50,14 +52,103 @@ module _ (a : ℕ) where
   unfolding later
   later-high h = simp (le-leb 0x80 a h)
 
-module _ (a b l : ℕ) (e : l ≡ lowest a) where
-  pub second-low : b < l → false ≡ second a b
-  unfolding second
-  second-low h = simp (← e, lt-leb l b h)
+-- ---- the second byte: outside of 0x80 to 0xbf it is none, and inside four first bytes have one bound of their own
 
-  pub second-high : (h : ℕ) → l ≤ b → h ≡ highest a → leb b h ≡ second a b
+or-left : (t u : Bool) → (t || u) ≡ false → t ≡ false
+or-left true u e = e
+or-left false u e = refl
+
+or-right : (t u : Bool) → (t || u) ≡ false → u ≡ false
+or-right true true e = e
+or-right true false e = refl
+or-right false u e = e
+
+or-other : (t u : Bool) → (t || u) ≡ true → t ≡ false → u ≡ true
+or-other true true e f = refl
+or-other true false e f = sym f
+or-other false u e f = e
+
+and-true : (t : Bool) → (t && true) ≡ t
+and-true true = refl
+and-true false = refl
+
+and-false : (t : Bool) → (t && false) ≡ false
+and-false true = refl
+and-false false = refl
+
+lowest-least : (a : ℕ) → 0x80 ≤ lowest a
+unfolding lowest
+lowest-least a = go (eqb a 0xe0) (eqb a 0xf0)
+  where
+    go : (t u : Bool) → 0x80 ≤ pick t 0xa0 (pick u 0x90 0x80)
+    go true u = omega arith
+    go false true = omega arith
+    go false false = omega arith
+
+highest-most : (a : ℕ) → highest a ≤ 0xbf
+unfolding highest
+highest-most a = go (eqb a 0xed) (eqb a 0xf4)
+  where
+    go : (t u : Bool) → pick t 0x9f (pick u 0x8f 0xbf) ≤ 0xbf
+    go true u = omega arith
+    go false true = omega arith
+    go false false = omega arith
+
+module _ (a b : ℕ) where
+  bounds : (l h : ℕ) → l ≡ lowest a → h ≡ highest a → second a b ≡ (leb l b && leb b h)
   unfolding second
-  second-high h k f = simp (← e, ← f, le-leb l b k)
+  bounds l h e f = rw (e, f)
+
+  pub second-out : (ltb b 0x80 || ltb 0xbf b) ≡ true → false ≡ second a b
+  second-out o = go (ltb b 0x80) refl
+    where
+      go : (t : Bool) → ltb b 0x80 ≡ t → false ≡ second a b
+      go true e =
+          let l = lt-leb (lowest a) b (omega (arith, ltb-true b 0x80 e, lowest-least a)) in
+          rw (bounds (lowest a) (highest a) refl refl, l)
+      go false e =
+          let g = ltb-true 0xbf b (or-other (ltb b 0x80) (ltb 0xbf b) o e) in
+          let h = lt-leb b (highest a) (omega (arith, g, highest-most a)) in
+          rw (bounds (lowest a) (highest a) refl refl, h) (sym (and-false (leb (lowest a) b)))
+
+  -- after the first byte of a character of two, any later byte may stand second
+  pub later-second : a < 224 → later b ≡ second a b
+  unfolding later
+  later-second h =
+      let l = low-else a (λ e. omega (arith, e)) (λ e. omega (arith, e)) in
+      let g = high-else a (λ e. omega (arith, e)) (λ e. omega (arith, e)) in
+      sym (bounds 0x80 0xbf l g)
+
+  module _ (i : (ltb b 0x80 || ltb 0xbf b) ≡ false) where
+    from : leb 0x80 b ≡ true
+    from = le-leb 0x80 b (ltb-false b 0x80 (or-left (ltb b 0x80) (ltb 0xbf b) i))
+
+    to : leb b 0xbf ≡ true
+    to = le-leb b 0xbf (ltb-false 0xbf b (or-right (ltb b 0x80) (ltb 0xbf b) i))
+
+    pub second-e0 : a ≡ 0xe0 → leb 0xa0 b ≡ second a b
+    second-e0 e =
+        let g = high-else a (λ z. omega (arith, e, z)) (λ z. omega (arith, e, z)) in
+        rw (bounds 0xa0 0xbf (low-e0 a e) g, to) (sym (and-true (leb 0xa0 b)))
+
+    pub second-ed : a ≡ 0xed → leb b 0x9f ≡ second a b
+    second-ed e =
+        let l = low-else a (λ z. omega (arith, e, z)) (λ z. omega (arith, e, z)) in
+        rw (bounds 0x80 0x9f l (high-ed a e), from)
+
+    pub second-f0 : a ≡ 0xf0 → leb 0x90 b ≡ second a b
+    second-f0 e =
+        let l = low-f0 a (λ z. omega (arith, e, z)) e in
+        let g = high-else a (λ z. omega (arith, e, z)) (λ z. omega (arith, e, z)) in
+        rw (bounds 0x90 0xbf l g, to) (sym (and-true (leb 0x90 b)))
+
+    pub second-f4 : a ≡ 0xf4 → leb b 0x8f ≡ second a b
+    second-f4 e =
+        let l = low-else a (λ z. omega (arith, e, z)) (λ z. omega (arith, e, z)) in
+        rw (bounds 0x80 0x8f l (high-f4 a (λ z. omega (arith, e, z)) e), from)
+
+    pub second-else : (a ≡ 0xe0 → ⊥) → (a ≡ 0xed → ⊥) → (a ≡ 0xf0 → ⊥) → (a ≡ 0xf4 → ⊥) → true ≡ second a b
+    second-else n o p q = rw (bounds 0x80 0xbf (low-else a n p) (high-else a o q), from, to)
 
 -- ---- characters of two, three and four bytes
 
@@ -104,3 +195,11 @@ module _ (a b : ℕ) (t : Bool) (et : t ≡ second a b) where
           unfolding sized decodedAs
           four-char o x y z w ex ey ez ew =
               rw (ex, ey, ez, ew) (simp (← et, not-false t n, ← eu, not-false u m, ← ev, not-false v o))
+
+-- a byte that is missing is 0
+pub three-none : (a b : ℕ) → Fault ≡ decodedAs 3 (sized 3 a (b ∷ 0 ∷ []))
+three-none a b = go (second a b) refl
+  where
+    go : (t : Bool) → t ≡ second a b → Fault ≡ decodedAs 3 (sized 3 a (b ∷ 0 ∷ []))
+    go false e = three-fault a b false e 0 refl
+    go true e = three-fault-2 a b true e 0 false (later-low 0 (omega arith)) refl refl

@@ -1,15 +1,17 @@
 -- The character that bytes start with, by what the first byte was found to be.
 use mathlib.Core.Path.{_≡_, refl, sym, ap, _∙_}
+use mathlib.Core.Bool.{Bool, true, false, not}
 use mathlib.Core.List.{List, [], _∷_}
-use Prim.Native.Nat.{ℕ, _≤_, _<_, _+_, _-_}
+use Prim.Native.Nat.{ℕ, _≤_, _<_, _+_, _-_, _*_, _%_}
 use native.Mathlib.Omega.{arith}
 use lib.ListN.{length, getD, drop, take, length-drop}
 use lib.Seq.{take-length, getD-drop}
-use Rattle.rules.specs.Utf8.{sizeOf, sized, firstOf}
+use Rattle.rules.specs.Utf8.{sizeOf, second, later, sized, firstOf}
 use Rattle.rules.proofs.Begins.{size-1, size-2, size-3, size-4, size-low, size-high}
 use Rattle.utf8.specs.declared.Decoded.{Decoded}
 use Rattle.utf8.specs.declared.Decoded.the-variants.{Char, Fault}
 use Rattle.utf8.specs.Decoding.{decodedAs, decodedOf}
+use Rattle.utf8.proofs.Bytes.{byte-past, later-low, later-second, two-fault, two-char, three-none}
 
 -- the part of a slice from a place on, as the logic has it
 pub part-rest : (s : List ℕ) (at : ℕ) → take (length s - at) (drop at s) ≡ drop at s
@@ -87,3 +89,22 @@ module _ (s : List ℕ) (at : ℕ) (h : at < length s) where
 
     pub three-at : (c : ℕ) → c ≡ getD s (at + 2) 0 → 224 ≤ getD s at 0 → getD s at 0 < 240 → r ≡ decodedAs 3 (sized 3 (getD s at 0) (b ∷ c ∷ [])) → r ≡ decodedOf (drop at s)
     three-at c ec l m e = first-three (drop at s) (getD s at 0) rest here b (eb ∙ there 1) r c (ec ∙ there 2) l m e
+
+  -- two bytes: any later byte may stand second
+  module _ (b : ℕ) (eb : b ≡ getD s (at + 1) 0) where
+    module _ (l : 194 ≤ getD s at 0) (m : getD s at 0 < 224) (t : Bool) (et : t ≡ later b) where
+      by : t ≡ second (getD s at 0) b
+      by = et ∙ later-second (getD s at 0) b m
+
+      pub two-fault-at : not t ≡ true → Fault ≡ decodedOf (drop at s)
+      two-fault-at n = two-at b eb Fault l m (two-fault (getD s at 0) b t by n)
+
+      pub two-char-at : not t ≡ false → (x y : ℕ) → x ≡ getD s at 0 → y ≡ b → Char (x % 32 * 64 + y % 64) 2 ≡ decodedOf (drop at s)
+      two-char-at n x y ex ey = two-at b eb (Char (x % 32 * 64 + y % 64) 2) l m (two-char (getD s at 0) b t by n x y ex ey)
+
+  -- the slice ends before the character does
+  pub two-end : 194 ≤ getD s at 0 → getD s at 0 < 224 → length s ≤ at + 1 → Fault ≡ decodedOf (drop at s)
+  two-end l m k = two-fault-at 0 (byte-past s (at + 1) k) l m false (later-low 0 (omega arith)) refl
+
+  pub three-end : 224 ≤ getD s at 0 → getD s at 0 < 240 → length s ≤ at + 2 → Fault ≡ decodedOf (drop at s)
+  three-end l m k = three-at (getD s (at + 1) 0) refl Fault 0 (byte-past s (at + 2) k) l m (three-none (getD s at 0) (getD s (at + 1) 0))

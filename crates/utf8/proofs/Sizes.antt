@@ -3,14 +3,13 @@ use mathlib.Core.Path.{_≡_, refl, sym, ap, _∙_}
 use mathlib.Core.Bool.{Bool, true, false, not}
 use mathlib.Core.List.{List}
 use Prim.Native.Nat.{ℕ, _≤_, _<_, _+_}
-use native.Mathlib.Omega.{arith}
 use lib.ListN.{length, getD, drop}
 use Rattle.rules.specs.Utf8.{second, later}
 use Rattle.utf8.specs.declared.Decoded.{Decoded}
 use Rattle.utf8.specs.declared.Decoded.the-variants.{Char, Fault}
 use Rattle.utf8.specs.Decoding.{decodedOf, decodedSize}
-use Rattle.utf8.proofs.Bytes.{low-else, high-else, two-fault, two-char, three-fault, three-fault-2, three-char}
-use Rattle.utf8.proofs.Firsts.{low-at, two-at, three-at}
+use Rattle.utf8.proofs.Bytes.{three-fault, three-fault-2, three-char}
+use Rattle.utf8.proofs.Firsts.{low-at, two-fault-at, two-char-at, three-at}
 
 fault-size : (t : List ℕ) → Fault ≡ decodedOf t → 0 ≡ decodedSize (decodedOf t)
 unfolding decodedSize
@@ -19,14 +18,6 @@ fault-size t e = ap decodedSize e
 char-size : (t : List ℕ) {c n : ℕ} → Char c n ≡ decodedOf t → n ≡ decodedSize (decodedOf t)
 unfolding decodedSize
 char-size t e = ap decodedSize e
-
--- after the first byte of a character of two, any later byte may stand second
-later-second : (a b : ℕ) → a < 224 → later b ≡ second a b
-unfolding later second
-later-second a b h =
-    let l = low-else a (λ e. omega (arith, e)) (λ e. omega (arith, e)) in
-    let g = high-else a (λ e. omega (arith, e)) (λ e. omega (arith, e)) in
-    rw (← l, ← g)
 
 -- of a match: the size of what was decoded
 pub size-fault : (s : List ℕ) (at : ℕ) (d : Decoded) → d ≡ decodedOf (drop at s) → d ≡ Fault → 0 ≡ decodedSize (decodedOf (drop at s))
@@ -41,14 +32,11 @@ module _ (s : List ℕ) (at : ℕ) (h : at < length s) where
 
   module _ (b : ℕ) (eb : b ≡ getD s (at + 1) 0) (t : Bool) where
     module _ (l : 194 ≤ getD s at 0) (m : getD s at 0 < 224) (et : t ≡ later b) where
-      by : t ≡ second (getD s at 0) b
-      by = et ∙ later-second (getD s at 0) b m
-
       pub two-miss : not t ≡ true → 0 ≡ decodedSize (decodedOf (drop at s))
-      two-miss n = fault-size (drop at s) (two-at s at h b eb Fault l m (two-fault (getD s at 0) b t by n))
+      two-miss n = fault-size (drop at s) (two-fault-at s at h b eb l m t et n)
 
       pub two-size : not t ≡ false → 2 ≡ decodedSize (decodedOf (drop at s))
-      two-size n = char-size (drop at s) (two-at s at h b eb _ l m (two-char (getD s at 0) b t by n _ _ refl refl))
+      two-size n = char-size (drop at s) (two-char-at s at h b eb l m t et n _ _ refl refl)
 
     module _ (c : ℕ) (ec : c ≡ getD s (at + 2) 0) (l : 224 ≤ getD s at 0) (m : getD s at 0 < 240) (et : t ≡ second (getD s at 0) b) where
       pub three-miss : not t ≡ true → 0 ≡ decodedSize (decodedOf (drop at s))

@@ -2,7 +2,7 @@ ghost use mathlib.Core.Path.{_≡_};
 ghost use mathlib.Core.List.{[], _∷_};
 ghost use Prim.Native.Nat.{_+_, _≤_, _<_};
 ghost use lib.ListN.{length, drop, getD};
-ghost use Rattle.rules.specs.Utf8.{lowest, highest, second, later, sized, firstFault, isInside};
+ghost use Rattle.rules.specs.Utf8.{second, later, sized, firstFault, isInside};
 ghost use Rattle.utf8.specs.Decoding.{decodedAs, decodedOf, decodedSize};
 ghost use Rattle.utf8.specs.Reading.{charOf};
 ghost use Rattle.utf8.specs.Checking.{checkedOf, asciiFor, AsciiTo};
@@ -41,37 +41,25 @@ fn byte(s: &[u8], at: usize) -> u8
     0
 }
 
-fn low(a: u8) -> u8
-    ensures { λ r. ⌜ r ≡ lowest a ⌝ }
-{
-    if a == 0xe0 {
-        return 0xa0;
-    }
-    if a == 0xf0 {
-        return 0x90;
-    }
-    0x80
-}
-
-fn high(a: u8) -> u8
-    ensures { λ r. ⌜ r ≡ highest a ⌝ }
-{
-    if a == 0xed {
-        return 0x9f;
-    }
-    if a == 0xf4 {
-        return 0x8f;
-    }
-    0xbf
-}
-
 fn is_second(a: u8, b: u8) -> bool
     ensures { λ r. ⌜ r ≡ second a b ⌝ }
 {
-    if b < low(a) {
+    if (b < 0x80) | (0xbf < b) {
         return false;
     }
-    b <= high(a)
+    if a == 0xe0 {
+        return 0xa0 <= b;
+    }
+    if a == 0xed {
+        return b <= 0x9f;
+    }
+    if a == 0xf0 {
+        return 0x90 <= b;
+    }
+    if a == 0xf4 {
+        return b <= 0x8f;
+    }
+    true
 }
 
 fn is_later(b: u8) -> bool
@@ -178,14 +166,26 @@ fn wide_at(s: &[u8], at: usize) -> Decoded
     if a < 0xc2 {
         return Decoded::Fault;
     }
+    let j = at + 1;
     if a < 0xe0 {
-        let b = byte(s, at + 1);
-        return two(a, b);
+        if s.len() <= j {
+            return Decoded::Fault;
+        }
+        let b = s[j];
+        if !is_later(b) {
+            return Decoded::Fault;
+        }
+        return Decoded::Char {
+            code: wide(a) % 32 * 64 + wide(b) % 64,
+            size: 2,
+        };
     }
+    let k = at + 2;
     if a < 0xf0 {
-        let b = byte(s, at + 1);
-        let c = byte(s, at + 2);
-        return three(a, b, c);
+        if s.len() <= k {
+            return Decoded::Fault;
+        }
+        return three(a, s[j], s[k]);
     }
     decode(s, at)
 }
@@ -243,6 +243,28 @@ pub fn char_at(s: &[u8], at: usize) -> Char
         },
         Decoded::Char { code, size } => Char { code, size },
     }
+}
+
+// The same, with characters of three bytes read in place, for where one follows another.
+pub fn char_near(s: &[u8], at: usize) -> Char
+    requires { ⌜ at < length (now s) ⌝ }
+    ensures { λ r. ⌜ r ≡ charOf (drop at (now (s .entry))) ⌝ }
+{
+    let a = s[at];
+    if 0xe0 <= a {
+        if a < 0xf0 {
+            let k = at + 2;
+            if k < s.len() {
+                match three(a, s[at + 1], s[k]) {
+                    Decoded::Fault => {}
+                    Decoded::Char { code, size } => {
+                        return Char { code, size };
+                    }
+                }
+            }
+        }
+    }
+    char_at(s, at)
 }
 
 // Whether the sixteen bytes at a place are ASCII. All of them are looked at, which the compiler makes one comparison.

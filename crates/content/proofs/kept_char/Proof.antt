@@ -1,35 +1,37 @@
 use borrow.Author.Needs.{needs}
-use Rattle.content.proofs.Kept.{kept-ascii}
+use native.Mathlib.Omega.{arith}
+use Rattle.content.proofs.Kept.{kept-wide, kept-ascii}
 use Rattle.content.proofs.kept_char.Statement.{statement}
 use Rattle.content.proofs.kept_char.Tie as tie
 use Rattle.content.proofs.kept_char.Reads as reads
 use Rattle.content.proofs.kept_char.Lts as lts
 use Rattle.content.proofs.any_kept.Reads as any-kept-reads
 use Rattle.content.proofs.wide.Reads as wide-reads
+use Rattle.utf8.proofs.char_at.Reads as char-at-reads
 
 -- src/lib.rt:94:13
 shared-slice-read-a : tie.Need-shared-slice-read-a
 shared-slice-read-a c = search needs
 
 -- src/lib.rt:96:9
-any-kept-requires : tie.Need-any-kept-requires
-any-kept-requires c κs = search needs
+char-at-requires : tie.Need-char-at-requires
+char-at-requires c κs = search needs
 
 -- src/lib.rt:96:9
 returns : tie.Need-returns
-returns c = search needs
+returns c = kept-wide _ _ (c .before .before .before .before .pre) (c .before .if1 .taken) (c .char-at .ensures)
 
 -- src/lib.rt:99:9
-any-kept-requires-2 : tie.Need-any-kept-requires-2
-any-kept-requires-2 c κs = search needs
+any-kept-requires : tie.Need-any-kept-requires
+any-kept-requires c κs = search needs
 
 -- src/lib.rt:99:9
 returns-2 : tie.Need-returns-2
 returns-2 c = search needs
 
 -- src/lib.rt:102:9
-any-kept-requires-3 : tie.Need-any-kept-requires-3
-any-kept-requires-3 c κs = search needs
+any-kept-requires-2 : tie.Need-any-kept-requires-2
+any-kept-requires-2 c κs = search needs
 
 -- src/lib.rt:102:9
 returns-3 : tie.Need-returns-3
@@ -48,11 +50,11 @@ kept-char-spec =
     tie.close
     (tie.spec
     shared-slice-read-a
-    any-kept-requires
+    char-at-requires
     returns
-    any-kept-requires-2
+    any-kept-requires
     returns-2
-    any-kept-requires-3
+    any-kept-requires-2
     returns-3
     wide-requires
     returns-4)
