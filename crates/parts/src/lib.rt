@@ -258,12 +258,30 @@ pub enum GotContent {
     Ill,
 }
 
-// A place that no tab and no backslash stands before, from `at` on, by eight bytes a turn.
-fn past_plain(line: &[u8], at: usize) -> usize
+// A place that no tab and no backslash stands before, from `at` on, by sixteen bytes a turn.
+fn past_sixteens(line: &[u8], at: usize) -> usize
     requires { ⌜ at ≤ length (now line) ⌝ }
     ensures { λ r. ⌜ Lacking tab (now (line .entry)) at r × Lacking backslash (now (line .entry)) at r ⌝ }
 {
     let mut i = at;
+    while 16 <= line.len() - i {
+        if !sheet::sixteen_lack(line, i, b'\t') {
+            return i;
+        }
+        if !sheet::sixteen_lack(line, i, b'\\') {
+            return i;
+        }
+        i += 16;
+    }
+    i
+}
+
+// A place that no tab and no backslash stands before, from `at` on, by sixteen bytes a turn and then by eight.
+fn past_plain(line: &[u8], at: usize) -> usize
+    requires { ⌜ at ≤ length (now line) ⌝ }
+    ensures { λ r. ⌜ Lacking tab (now (line .entry)) at r × Lacking backslash (now (line .entry)) at r ⌝ }
+{
+    let mut i = past_sixteens(line, at);
     while 8 <= line.len() - i {
         if !sheet::eight_lack(line, i, b'\t') {
             return i;

@@ -29,8 +29,8 @@ module _ (b : ℕ) (s : List ℕ) (at j : ℕ) where
   unfolding lacks
   lacks-miss e h = rw (add-one) (simp (ne-eqb _ _ h) e)
 
-  pub lacks-whole : {r : Bool} → r ≡ lacks b s at j → 8 ≤ j → j ≤ 8 → r ≡ lacks b s at 8
-  lacks-whole e h l = let k : j ≡ 8 = omega arith in rw k at e
+  pub lacks-whole : {n : ℕ} {r : Bool} → r ≡ lacks b s at j → n ≤ j → j ≤ n → r ≡ lacks b s at n
+  lacks-whole {n} e h l = let k : j ≡ n = omega arith in rw k at e
 
 -- the last byte of a run, and those before it
 pub record Last (b : ℕ) (s : List ℕ) (at n : ℕ) : Type 0 where
@@ -58,12 +58,18 @@ joined b s at m i k e (suc n) h =
     let x : getD s (at + (m + n)) 0 ≡ b → ⊥ = rw y (l .last) in
     rw z (sym (lacks-miss b s at (m + n) (sym (joined b s at m i k e n (l .before))) x))
 
-pub lacking-on : {b : ℕ} {s : List ℕ} {at i : ℕ} → Lacking b s at i → i + 8 ≤ length s → (t : Bool) → t ≡ lacks b s i 8 → not t ≡ false → Lacking b s at (i + 8)
-lacking-on {b} {s} {at} {i} a h true e q =
-    let k : i + 8 - at ≡ i - at + 8 = omega (arith, a .from) in
+pub lacking-on : (n : ℕ) {b : ℕ} {s : List ℕ} {at i : ℕ} → Lacking b s at i → i + n ≤ length s → (t : Bool) → t ≡ lacks b s i n → not t ≡ false → Lacking b s at (i + n)
+lacking-on n {b} {s} {at} {i} a h true e q =
+    let k : i + n - at ≡ i - at + n = omega (arith, a .from) in
     let l : at + (i - at) ≡ i = omega (arith, a .from) in
-    record { from = omega (arith, a .from); inside = λ g. h; clean = rw k (joined b s at (i - at) i l (a .clean) 8 (sym e)) }
-lacking-on a h false e q = no-truth (sym q)
+    record { from = omega (arith, a .from); inside = λ g. h; clean = rw k (joined b s at (i - at) i l (a .clean) n (sym e)) }
+lacking-on n a h false e q = no-truth (sym q)
+
+pub lacking-more : {b : ℕ} {s : List ℕ} {at i : ℕ} → Lacking b s at i → i < length s → (getD s i 0 ≡ b → ⊥) → Lacking b s at (i + 1)
+lacking-more {b} {s} {at} {i} a h n =
+    let k : i + 1 - at ≡ i - at + 1 = omega (arith, a .from) in
+    let z : at + (i - at) ≡ i = omega (arith, a .from) in
+    record { from = omega (arith, a .from); inside = λ g. omega arith; clean = rw k (sym (lacks-miss b s at (i - at) (sym (a .clean)) (rw z n))) }
 
 -- ---- a scan
 passed : (b : ℕ) (s : List ℕ) (at n : ℕ) → lacks b s at n ≡ true → at + n ≤ length s → Scan b s at at → Scan b s at (at + n)

@@ -2,7 +2,7 @@
 ghost use mathlib.Core.Path.{_≡_};
 ghost use Prim.Native.Nat.{_+_, _≤_};
 ghost use lib.ListN.{length};
-ghost use Rattle.rules.specs.Basic.{lf, eqList, isSome, wordIn};
+ghost use Rattle.rules.specs.Basic.{eqList, isSome, wordIn};
 ghost use Rattle.rules.specs.Words.{eventWords, blockKinds, valueKinds, configKeys, defineWords, duplicateWords};
 ghost use Rattle.rules.specs.Utf8.{chars};
 ghost use Rattle.rules.specs.Sheet.{escaped, unescape, numberUpTo, numberOf, signedOf};
@@ -36,16 +36,47 @@ pub fn eight_lack(s: &[u8], at: usize, b: u8) -> bool
     all
 }
 
-// A place that no LF stands before, from `at` on, by eight bytes a turn.
-fn past_no_end(s: &[u8], at: usize) -> usize
-    ensures { λ r. ⌜ Lacking lf (now (s .entry)) at r ⌝ }
+// Whether the sixteen bytes at a place lack the byte b, looked at in the same way.
+pub fn sixteen_lack(s: &[u8], at: usize, b: u8) -> bool
+    requires { ⌜ at + 16 ≤ length (now s) ⌝ }
+    ensures { λ r. ⌜ r ≡ lacks b (now (s .entry)) at 16 ⌝ }
+{
+    let mut all = true;
+    let mut j = 0;
+    while j < 16 {
+        if s[at + j] == b {
+            all = false;
+        }
+        j += 1;
+    }
+    all
+}
+
+// A place that no byte b stands before, from `at` on, by sixteen bytes a turn.
+fn past_sixteens(s: &[u8], at: usize, b: u8) -> usize
+    requires { ⌜ at ≤ length (now s) ⌝ }
+    ensures { λ r. ⌜ Lacking b (now (s .entry)) at r ⌝ }
+{
+    let mut i = at;
+    while 16 <= s.len() - i {
+        if !sixteen_lack(s, i, b) {
+            return i;
+        }
+        i += 16;
+    }
+    i
+}
+
+// A place that no byte b stands before, from `at` on, by sixteen bytes a turn and then by eight.
+pub fn past_lacking(s: &[u8], at: usize, b: u8) -> usize
+    ensures { λ r. ⌜ Lacking b (now (s .entry)) at r ⌝ }
 {
     if s.len() < at {
         return at;
     }
-    let mut i = at;
+    let mut i = past_sixteens(s, at, b);
     while 8 <= s.len() - i {
-        if !eight_lack(s, i, b'\n') {
+        if !eight_lack(s, i, b) {
             return i;
         }
         i += 8;
@@ -57,7 +88,7 @@ fn past_no_end(s: &[u8], at: usize) -> usize
 pub fn line_end(s: &[u8], at: usize) -> LineEnd
     ensures { λ r. ⌜ LineAt (now (s .entry)) at r ⌝ }
 {
-    let mut i = past_no_end(s, at);
+    let mut i = past_lacking(s, at, b'\n');
     while i < s.len() {
         if s[i] == b'\n' {
             return LineEnd::At(i);

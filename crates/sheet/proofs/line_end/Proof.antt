@@ -8,7 +8,7 @@ use Rattle.sheet.proofs.line_end.Statement.{statement}
 use Rattle.sheet.proofs.line_end.Tie as tie
 use Rattle.sheet.proofs.line_end.Reads as reads
 use Rattle.sheet.proofs.line_end.Lts as lts
-use Rattle.sheet.proofs.past_no_end.Reads as past-no-end-reads
+use Rattle.sheet.proofs.past_lacking.Reads as past-lacking-reads
 
 abbrev Inv-loop : tie.InvT-loop
 Inv-loop s at i₀ i = Scan 10 s at i
@@ -17,12 +17,12 @@ abbrev μ-loop : tie.MeasureT-loop
 μ-loop s at i₀ i = length s - i
 
 -- src/lib.rt:60:9
-past-no-end-requires : tie.Need-past-no-end-requires Inv-loop μ-loop
-past-no-end-requires c κs = search needs
+past-lacking-requires : tie.Need-past-lacking-requires Inv-loop μ-loop
+past-lacking-requires c κs = search needs
 
 -- src/lib.rt:61:5
 loop-holds : tie.Need-loop-holds Inv-loop μ-loop
-loop-holds c = scan-to (c .past-no-end .ensures)
+loop-holds c = scan-to (c .past-lacking .ensures)
 
 -- src/lib.rt:62:12
 shared-slice-read-if1 : tie.Need-shared-slice-read-if1 Inv-loop μ-loop
@@ -54,7 +54,7 @@ line-end-spec =
     (tie.spec
     Inv-loop
     μ-loop
-    past-no-end-requires
+    past-lacking-requires
     loop-holds
     shared-slice-read-if1
     returns
