@@ -12,11 +12,13 @@ use Rattle.rules.proofs.Begins.{later-ascii}
 use Rattle.rules.proofs.Folds.{foldName-append}
 use Rattle.rules.proofs.SameChars.{eq-true}
 use Rattle.content.specs.Contents.{keptIn}
+use Rattle.content.specs.Readings.{plainByte}
+use Rattle.content.proofs.Compare.{plain}
 use Rattle.content.proofs.Kept.{kept-none}
 use Rattle.content.proofs.Seams.{Opens, kept-join}
 use Rattle.unicode.proofs.Ascii.{ascii-fold}
-use Rattle.text.specs.Plain.{isPlain, lowered}
-use Rattle.text.proofs.Plain.{plain-stands, plain-solid, case-apart}
+use Rattle.text.specs.Plain.{lowered}
+use Rattle.text.proofs.Plain.{plain-stands, case-apart}
 
 -- the last of a list
 abbrev final : ℕ → List ℕ → ℕ
@@ -33,16 +35,16 @@ pub record Closes (s : List ℕ) (c : ℕ) : Type 0 where
   pub below : c < 128
   pub is : keptIn s ≡ front ++ (c ∷ [])
 
-plain-alone : (x : ℕ) → isPlain x ≡ true → keptIn (x ∷ []) ≡ x ∷ []
+plain-alone : (x : ℕ) → plainByte x ≡ true → keptIn (x ∷ []) ≡ x ∷ []
 plain-alone x t = plain-stands (x ∷ []) 0 (omega arith) t .reads ∙ rw (kept-none (x ∷ []) 1 (omega arith))
 
-closes-two : (p : List ℕ) (b x : ℕ) → (b ≡ 92 → ⊥) → isPlain x ≡ true → Closes (p ++ (b ∷ x ∷ [])) x
+closes-two : (p : List ℕ) (b x : ℕ) → (b ≡ 92 → ⊥) → plainByte x ≡ true → Closes (p ++ (b ∷ x ∷ [])) x
 closes-two p b x n t =
     let l = plain-stands (x ∷ []) 0 (omega arith) t .below in
-    let o : Opens (x ∷ []) = record { starts = later-ascii x l; solid = plain-solid x t } in
+    let o : Opens (x ∷ []) = record { starts = later-ascii x l; solid = plain x t .solid } in
     record { front = keptIn (p ++ (b ∷ [])); below = l; is = kept-join p b n (x ∷ []) o ∙ rw (plain-alone x t) }
 
-pub closes : (s : List ℕ) → 2 ≤ length s → (getD s (length s - 2) 0 ≡ 92 → ⊥) → isPlain (getD s (length s - 1) 0) ≡ true → Closes s (getD s (length s - 1) 0)
+pub closes : (s : List ℕ) → 2 ≤ length s → (getD s (length s - 2) 0 ≡ 92 → ⊥) → plainByte (getD s (length s - 1) 0) ≡ true → Closes s (getD s (length s - 1) 0)
 closes s h n t =
     let z : length s - 1 ≡ suc (length s - 2) = omega arith in
     let l : suc (length s - 2) < length s = omega arith in

@@ -1,4 +1,6 @@
+pub mod Starts
 pub mod Trims
+pub mod Backward
 pub mod Blanks
 pub mod Writes
 pub mod Singles
@@ -6,4 +8,5 @@ pub mod Names
 pub mod Paths
 pub mod Plain
 pub mod Seams
+pub mod Pairs
 pub mod Lasts

@@ -1,37 +1,21 @@
 -- Bytes that tell a name's character by themselves.
 use Prim.Native.Nat.{ℕ, _+_, _/_, _%_, _≤_, _<_}
 use mathlib.Core.Path.{_≡_, refl, sym, ap, _∙_}
-use mathlib.Core.Bool.{Bool, true, false, not, _||_}
+use mathlib.Core.Bool.{Bool, true, false, _||_}
 use mathlib.Core.List.{List, [], _∷_}
 use native.Mathlib.Omega.{arith}
-use borrow.Author.Tests.{eq-eqb, ne-eqb, lt-ltb, le-ltb, eqb-false, not-true}
-use lib.Dec.{eqb, ltb}
+use borrow.Author.Tests.{eq-eqb, ne-eqb, lt-ltb}
 use lib.ListN.{length, getD, drop}
 use Rattle.rules.specs.Basic.{pick, within, eqList}
 use Rattle.rules.specs.Unicode.{fold, foldName, sameName}
-use Rattle.rules.proofs.Basics.{and-left, and-right, within-yes, within-low, within-high, within-from, within-to, by-order}
+use Rattle.rules.proofs.Basics.{within-yes, within-high, within-from, within-to, by-order}
 use Rattle.content.specs.Contents.{keptIn}
+use Rattle.content.specs.Readings.{plainByte}
 use Rattle.content.proofs.Kept.{kept-ascii}
+use Rattle.content.proofs.Compare.{plain}
 use Rattle.unicode.proofs.Ascii.{ascii-fold}
-use Rattle.text.specs.Plain.{isPlain, lowered, SameLetter}
+use Rattle.text.specs.Plain.{lowered, SameLetter}
 use Rattle.text.specs.Seams.{sameAt}
-
--- ---- the ways of `is_plain`
-
-module _ (c : ℕ) where
-  pub plain-after : 92 < c → ltb c 127 ≡ isPlain c
-  unfolding isPlain
-  plain-after h = by-order c 126
-      (λ l. rw (lt-ltb c 127 (omega arith), within-yes 33 126 c (omega arith) l, ne-eqb c 92 (λ e. omega arith)))
-      (λ l. rw (le-ltb c 127 (omega arith), within-high 33 126 c (omega arith)))
-
-  pub plain-low : c < 33 → false ≡ isPlain c
-  unfolding isPlain
-  plain-low h = rw (within-low 33 126 c h)
-
-  pub plain-before : c ≤ 92 → 33 ≤ c → not (eqb c 92) ≡ isPlain c
-  unfolding isPlain
-  plain-before h g = rw (within-yes 33 126 c g (omega arith))
 
 -- ---- a byte that is a character of the content, whatever stands before it, and is kept
 
@@ -40,19 +24,10 @@ pub record Stands (s : List ℕ) (i : ℕ) : Type 0 where
   pub reads : keptIn (drop i s) ≡ getD s i 0 ∷ keptIn (drop (i + 1) s)
 
 module _ (s : List ℕ) (i : ℕ) (h : i < length s) where
-  pub plain-stands : isPlain (getD s i 0) ≡ true → Stands s i
-  unfolding isPlain
-  plain-stands t =
-      let w = and-left (within 33 126 (getD s i 0)) _ t in
-      let n = eqb-false (getD s i 0) 92 (not-true (eqb (getD s i 0) 92) (and-right (within 33 126 (getD s i 0)) _ t)) in
-      let l : getD s i 0 < 128 = omega (arith, within-to 33 126 (getD s i 0) w) in
-      record { below = l; reads = kept-ascii s i h refl l n (λ e. omega (arith, within-from 33 126 (getD s i 0) w)) .reads }
+  pub plain-stands : plainByte (getD s i 0) ≡ true → Stands s i
+  plain-stands t = let p = plain (getD s i 0) t in record { below = p .low; reads = kept-ascii s i h refl (p .low) (p .bare) (p .solid) .reads }
 
-pub plain-solid : (c : ℕ) → isPlain c ≡ true → c ≡ 32 → ⊥
-unfolding isPlain
-plain-solid c t e = omega (arith, within-from 33 126 c (and-left (within 33 126 c) _ t))
-
-fold-stands : {s : List ℕ} {i : ℕ} → Stands s i → (l : ℕ) → l ∷ [] ≡ fold (getD s i 0) → foldName (keptIn (drop i s)) ≡ l ∷ foldName (keptIn (drop (i + 1) s))
+pub fold-stands : {s : List ℕ} {i : ℕ} → Stands s i → (l : ℕ) → l ∷ [] ≡ fold (getD s i 0) → foldName (keptIn (drop i s)) ≡ l ∷ foldName (keptIn (drop (i + 1) s))
 unfolding foldName
 fold-stands p l e = ap foldName (p .reads) ∙ rw (← e)
 
@@ -64,7 +39,7 @@ case-apart c = go (within 65 90 c)
     go true = omega arith
     go false = refl
 
-pub parted : (a b : List ℕ) (i j : ℕ) → i < length a → j < length b → (getD a i 0 % 32 ≡ getD b j 0 % 32 → ⊥) → isPlain (getD a i 0) ≡ true → isPlain (getD b j 0) ≡ true → sameAt a i b j ≡ false
+pub parted : (a b : List ℕ) (i j : ℕ) → i < length a → j < length b → (getD a i 0 % 32 ≡ getD b j 0 % 32 → ⊥) → plainByte (getD a i 0) ≡ true → plainByte (getD b j 0) ≡ true → sameAt a i b j ≡ false
 unfolding sameAt sameName eqList
 parted a b i j h g n x y =
     let p = plain-stands a i h x in
@@ -76,14 +51,14 @@ parted a b i j h g n x y =
 -- ---- the two cases of a letter
 
 module _ (c : ℕ) where
-  letter-plain : 65 ≤ c → c ≤ 122 → (c ≡ 92 → ⊥) → isPlain c ≡ true
-  unfolding isPlain
-  letter-plain h g n = rw (within-yes 33 126 c (omega arith) (omega arith), ne-eqb c 92 n)
+  letter-plain : 65 ≤ c → c ≤ 122 → (c ≡ 92 → ⊥) → plainByte c ≡ true
+  unfolding plainByte
+  letter-plain h g n = rw (lt-ltb c 128 (omega arith), ne-eqb c 92 n, ne-eqb c 32 (λ e. omega arith))
 
-  upper-plain : 65 ≤ c → c ≤ 90 → isPlain c ≡ true
+  upper-plain : 65 ≤ c → c ≤ 90 → plainByte c ≡ true
   upper-plain h g = letter-plain h (omega arith) (λ e. omega arith)
 
-  lower-plain : 97 ≤ c → c ≤ 122 → isPlain c ≡ true
+  lower-plain : 97 ≤ c → c ≤ 122 → plainByte c ≡ true
   lower-plain h g = letter-plain (omega arith) g (λ e. omega arith)
 
   upper-lowered : 65 ≤ c → c ≤ 90 → lowered c ≡ c + 32

@@ -1,32 +1,22 @@
 -- Names whose fronts are compared byte by byte.
 use Prim.Native.Nat.{ℕ, zero, suc, _+_, _-_, _*_, _≤_, _<_}
 use mathlib.Core.Path.{_≡_, refl, sym, ap, _∙_}
-use mathlib.Core.Bool.{Bool, true, false}
+use mathlib.Core.Bool.{Bool, false}
 use mathlib.Core.List.{List, [], _∷_, _++_, append-assoc}
 use native.Mathlib.Numerals.{add-one}
 use native.Mathlib.Omega.{arith}
-use borrow.Author.Tests.{eq-eqb, ne-eqb, leb-true, leb-false}
-use lib.Dec.{eqb, leb}
-use lib.ListN.{length, getD, take, drop, take-append-drop, length-drop, length-append}
+use lib.ListN.{length, getD, take, drop, take-append-drop, length-drop}
 use lib.Seq.{take-suc, take-take, drop-drop, getD-drop}
-use Rattle.rules.specs.Basic.{pick, eqList}
 use Rattle.rules.specs.Utf8.{later}
-use Rattle.rules.specs.Unicode.{fold, foldName, sameName}
+use Rattle.rules.specs.Unicode.{sameName}
 use Rattle.rules.proofs.Basics.{within-high, by-order}
 use Rattle.rules.proofs.Begins.{later-ascii}
-use Rattle.rules.proofs.Folds.{fold-least}
-use Rattle.utf8.specs.declared.Char.{Char}
 use Rattle.utf8.proofs.Firsts.{part-rest}
 use Rattle.content.specs.Contents.{keptIn}
-use Rattle.content.specs.Kept.{KeptStep}
-use Rattle.content.proofs.Kept.{kept-none, kept-some}
 use Rattle.content.proofs.Seams.{Opens, names-join}
-use Rattle.unicode.specs.declared.Folded.{Folded}
-use Rattle.unicode.specs.declared.Folded.the-variants.{One, Two, Three}
-use Rattle.unicode.specs.Folded.{foldedOf}
-use Rattle.text.specs.declared.Meeting.{Meeting}
-use Rattle.text.specs.declared.Meeting.the-variants.{Answer, On, Unclear}
-use Rattle.text.specs.Seams.{sameAt, WordAt, Common, Seam, meetingOf, Met, answered, onward, unclear}
+use Rattle.text.specs.declared.meets.Meeting.{Meeting}
+use Rattle.text.specs.declared.meets.Meeting.the-variants.{Answer, On}
+use Rattle.text.specs.Seams.{sameAt, WordAt, Common, Seam, Met, answered, onward}
 use Rattle.text.specs.Plain.{SameLetter}
 use Rattle.text.proofs.Paths.{past-none}
 use Rattle.text.proofs.Plain.{letter-on}
@@ -136,91 +126,6 @@ seam-at a b (suc m) h v n o q = let z : suc m - 1 ≡ m = omega arith in seam-af
 
 pub seam-letter : {a b : List ℕ} {i : ℕ} → Seam a b i → i < length a → i < length b → SameLetter (getD a i 0) (getD b i 0) → Seam a b (i + 1)
 seam-letter {a} {b} {i} v h g e = record { left = omega arith; right = omega arith; is = letter-on a b i i h g e ∙ v .is }
-
--- ---- the ways of `meet`
-
-fold-more : (c : ℕ) (cs : List ℕ) → eqList (foldName []) (foldName (c ∷ cs)) ≡ false
-unfolding foldName
-fold-more c cs = go (fold c ++ foldName cs) (omega (arith, fold-least c, length-append (fold c) (foldName cs)))
-  where
-    go : (l : List ℕ) → 1 ≤ length l → eqList [] l ≡ false
-    go [] h = absurd (omega arith)
-    go (x ∷ l) h = unfold eqList in refl
-
-more-fold : (c : ℕ) (cs : List ℕ) → eqList (foldName (c ∷ cs)) (foldName []) ≡ false
-unfolding foldName
-more-fold c cs = go (fold c ++ foldName cs) (omega (arith, fold-least c, length-append (fold c) (foldName cs)))
-  where
-    go : (l : List ℕ) → 1 ≤ length l → eqList l [] ≡ false
-    go [] h = absurd (omega arith)
-    go (x ∷ l) h = unfold eqList in refl
-
-module _ (a : List ℕ) (i : ℕ) (b : List ℕ) (j : ℕ) where
-  pub met-parted : sameAt a i b j ≡ false → Met a i b j (Answer false)
-  met-parted e = answered (sym e)
-
-  pub met-both : length a ≤ i → length b ≤ j → true ≡ sameAt a i b j
-  unfolding sameAt sameName foldName eqList
-  met-both h g = rw (kept-none a i h, kept-none b j g)
-
-  pub met-left : length a ≤ i → j < length b → false ≡ sameAt a i b j
-  unfolding sameAt sameName
-  met-left h g = sym (ap (λ (x : List ℕ). eqList (foldName x) (foldName (keptIn (drop j b)))) (kept-none a i h) ∙ ap (λ (x : List ℕ). eqList (foldName []) (foldName x)) (kept-some b j g) ∙ fold-more _ _)
-
-  pub met-end : length a ≤ i → Met a i b j (Answer (leb (length b) j))
-  met-end h = go (leb (length b) j) refl
-    where
-      go : (x : Bool) → leb (length b) j ≡ x → Met a i b j (Answer x)
-      go true e = answered (met-both h (leb-true _ _ e))
-      go false e = answered (met-left h (leb-false _ _ e))
-
-  pub met-right : i < length a → length b ≤ j → Met a i b j (Answer false)
-  unfolding sameAt sameName
-  met-right h g = answered {r = false} (sym (ap (λ (x : List ℕ). eqList (foldName (keptIn (drop i a))) (foldName x)) (kept-none b j g) ∙ ap (λ (x : List ℕ). eqList (foldName x) (foldName [])) (kept-some a i h) ∙ more-fold _ _))
-
-  module _ {x y : Char} (p : KeptStep a i x) (q : KeptStep b j y) where
-    same-step : (u v : ℕ) → u ∷ [] ≡ fold (x .code) → v ∷ [] ≡ fold (y .code) → sameAt a i b j ≡ pick (eqb u v) (sameAt a (i + x .size) b (j + y .size)) false
-    unfolding sameAt sameName foldName
-    same-step u v e g = rw (p .reads, q .reads) (unfold foldName eqList in rw (← e, ← g))
-
-    pub met-folded : (f g : Folded) → foldedOf f ≡ fold (x .code) → foldedOf g ≡ fold (y .code) → Met a i b j (meetingOf f g (i + x .size) (j + y .size))
-    unfolding meetingOf foldedOf
-    met-folded (One u) (One v) e g = go (eqb u v) refl
-      where
-        go : (t : Bool) → eqb u v ≡ t → Met a i b j (pick t (On (i + x .size) (j + y .size)) (Answer false))
-        go true z = let m : i < i + x .size = omega (arith, p .least) in onward m (p .most) (q .most) (sym (same-step u v e g ∙ rw z))
-        go false z = answered {r = false} (sym (same-step u v e g ∙ rw z))
-    met-folded (One u) (Two v w) e g = unclear
-    met-folded (One u) (Three v w z) e g = unclear
-    met-folded (Two u s) g e h = unclear
-    met-folded (Three u s r) g e h = unclear
-
--- ---- the ways of `meet_folded`
-
-module _ (f g : Folded) (i j : ℕ) where
-  pub folded-same : (x y : ℕ) → f ≡ One x → g ≡ One y → x ≡ y → On i j ≡ meetingOf f g i j
-  unfolding meetingOf
-  folded-same x y e h z = rw (e, h, eq-eqb x y z)
-
-  pub folded-other : (x y : ℕ) → f ≡ One x → g ≡ One y → (x ≡ y → ⊥) → Answer false ≡ meetingOf f g i j
-  unfolding meetingOf
-  folded-other x y e h z = rw (e, h, ne-eqb x y z)
-
-  pub folded-two : (x y z : ℕ) → f ≡ One x → g ≡ Two y z → Unclear ≡ meetingOf f g i j
-  unfolding meetingOf
-  folded-two x y z e h = rw (e, h)
-
-  pub folded-three : (x y z w : ℕ) → f ≡ One x → g ≡ Three y z w → Unclear ≡ meetingOf f g i j
-  unfolding meetingOf
-  folded-three x y z w e h = rw (e, h)
-
-  pub two-folded : (y z : ℕ) → f ≡ Two y z → Unclear ≡ meetingOf f g i j
-  unfolding meetingOf
-  two-folded y z h = rw h
-
-  pub three-folded : (y z w : ℕ) → f ≡ Three y z w → Unclear ≡ meetingOf f g i j
-  unfolding meetingOf
-  three-folded y z w h = rw h
 
 -- ---- the turns of `same_name`
 

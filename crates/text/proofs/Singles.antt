@@ -13,8 +13,8 @@ use Rattle.rules.specs.Basic.{pick, blank}
 use Rattle.rules.specs.Text.{retain}
 use Rattle.rules.proofs.Basics.{no-truth, by-order}
 use Rattle.output.specs.Put.{Put}
-use Rattle.sheet.specs.Runs.{lacks, Lacking}
-use Rattle.sheet.proofs.Runs.{lacks-miss, last-of}
+use Rattle.sheet.specs.Runs.{lacks}
+use Rattle.sheet.proofs.Runs.{last-of}
 use Rattle.text.specs.Singles.{stay, NextBlank}
 use Rattle.text.proofs.Writes.{retain-stays, retain-none}
 
@@ -86,12 +86,6 @@ lacks-stay w at zero h = refl
 lacks-stay w at (suc n) h =
     let l = last-of blank w at n h in
     rw (ne-eqb (getD w (at + n) 0) blank (l .last), and-off (eqb (getD w (at + n + 1) 0) blank)) (lacks-stay w at n (l .before))
-
-pub lacking-more : {w : List ℕ} {at i : ℕ} → Lacking blank w at i → i < length w → (getD w i 0 ≡ blank → ⊥) → Lacking blank w at (i + 1)
-lacking-more {w} {at} {i} a h n =
-    let k : i + 1 - at ≡ i - at + 1 = omega (arith, a .from) in
-    let z : at + (i - at) ≡ i = omega (arith, a .from) in
-    record { from = omega (arith, a .from); inside = λ g. omega arith; clean = rw k (sym (lacks-miss blank w at (i - at) (sym (a .clean)) (rw z n))) }
 
 module _ (w : List ℕ) (i j : ℕ) (e : true ≡ stay w 0 i) (a : NextBlank w i j) where
   to-blank : true ≡ stay w 0 j

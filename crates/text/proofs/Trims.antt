@@ -1,17 +1,17 @@
 -- Trimming, one character at a time.
-use Prim.Native.Nat.{ℕ, zero, suc, _≤_, _<_, _+_, _-_}
+use Prim.Native.Nat.{ℕ, _≤_, _<_, _+_, _-_}
 use mathlib.Core.Path.{_≡_, refl, sym, ap, _∙_}
 use mathlib.Core.Bool.{Bool, true, false, not}
 use mathlib.Core.List.{List, [], _∷_, _++_, append-assoc}
 use native.Mathlib.Omega.{arith}
 use borrow.Author.Tests.{not-true, not-false}
 use lib.ListN.{length, getD, drop, take, length-drop, length-append, take-append-drop}
-use lib.Seq.{take-all, take-length, drop-length, split-at, getD-drop}
+use lib.Seq.{take-all, take-length, drop-length}
 use Rattle.rules.specs.Basic.{any}
 use Rattle.rules.specs.Utf8.{later}
 use Rattle.rules.proofs.Basics.{within-high}
 use Rattle.rules.proofs.Begins.{later-ascii}
-use Rattle.rules.specs.Text.{trimStart, trimOnto, trimEnd, trimMatches, textOuterTrimmed, unitTrimmed, isNotAlphabetic}
+use Rattle.rules.specs.Text.{trimStart, trimOnto, trimEnd, trimMatches, textOuterTrimmed, isNotAlphabetic}
 use Rattle.rules.specs.Unicode.{isWhiteSpace, isAlphabetic}
 use Rattle.utf8.specs.declared.Char.{Char}
 use Rattle.content.specs.Contents.{contentIn}
@@ -19,10 +19,9 @@ use Rattle.content.specs.Readings.{charIn}
 use Rattle.content.specs.Parts.{Cut, CutAt}
 use Rattle.content.proofs.Chars.{content-step, content-none, no-content}
 use Rattle.content.proofs.Cuts.{cut-none, cut-all, cut-seq, cut-start, cut-step}
-use Rattle.content.proofs.Seams.{content-join}
 use Rattle.text.specs.declared.Dropped.{Dropped}
 use Rattle.text.specs.declared.Dropped.the-variants.{White, NotAlphabetic}
-use Rattle.text.specs.Trims.{dropsOf, StartAt, EndAt, LastStart, TrimmedBy, TrimmedTo, UnitTrimmedTo}
+use Rattle.text.specs.Trims.{dropsOf, StartAt, EndAt, LastStart, TrimmedBy, TrimmedTo}
 
 -- the tests
 pub dropped-white : (d : Dropped) (c : ℕ) (r : Bool) → d ≡ White → r ≡ isWhiteSpace c → r ≡ dropsOf d c
@@ -83,7 +82,7 @@ module _ (drops : ℕ → Bool) where
           let k : trimStart drops (contentIn (drop at s)) ≡ trimStart drops (contentIn (drop (at + ch .size) s)) = rw (z .reads, n) in
           record { most = z .most; cut = cut-step s at ch h e (v .cut) .cut; is = sym k ∙ v .is }
 
-  -- ---- the turns of `end_of`
+  -- ---- the turns of `forward_end`
 
   pub record Ending (s : List ℕ) (end at : ℕ) : Type 0 where
     pub order : end ≤ at
@@ -165,30 +164,6 @@ module _ (drops : ℕ → Bool) where
       let l : length (drop a s) ≤ length s - a = omega (arith, length-drop a s) in
       trimmed-behind v (rw (take-all (length s - a) (drop a s) l) at w)
 
--- ---- the last character of a field, where the bytes tell it
-
-record Ends (s : List ℕ) (c : ℕ) : Type 0 where
-  front : List ℕ
-  is : contentIn s ≡ front ++ (c ∷ [])
-
--- the bytes before it end in no backslash
-ends-at : (s : List ℕ) (i : ℕ) (c : ℕ) → i < length s → (0 < i → getD s (i - 1) 0 ≡ 92 → ⊥) → (0 < i → later (getD s i 0) ≡ false) → contentIn (drop i s) ≡ c ∷ [] → Ends s c
-ends-at s zero c h n o e = record { front = []; is = e }
-ends-at s (suc m) c h n o e =
-    let z : suc m - 1 ≡ m = omega arith in
-    let k : getD s m 0 ≡ 92 → ⊥ = rw z at (n (omega arith)) in
-    let f : getD (drop (suc m) s) 0 0 ≡ getD s (suc m) 0 = getD-drop (suc m) s 0 0 ∙ (let y : suc m + 0 ≡ suc m = omega arith in rw y) in
-    record {
-      front = contentIn (take m s ++ (getD s m 0 ∷ []));
-      is = ap contentIn (split-at s m 0 (omega arith)) ∙ content-join (take m s) (getD s m 0) (drop (suc m) s) k (rw f (o (omega arith))) ∙ rw e;
-    }
-
-pub stays-whole : (drops : ℕ → Bool) (s : List ℕ) (i : ℕ) (ch : Char) → LastStart s i → (0 < i → getD s (i - 1) 0 ≡ 92 → ⊥) → ch ≡ charIn (drop i s) → length s ≤ i + ch .size → drops (ch .code) ≡ false → EndAt drops s (length s)
-stays-whole drops s i ch v n e h q =
-    let g = content-step s i ch (v .inside) e in
-    let k = ends-at s i (ch .code) (v .inside) n (v .starts) (g .reads ∙ rw (content-none s (i + ch .size) h)) in
-    end-whole drops s (k .front) (ch .code) (k .is) q
-
 -- ---- the ways of `last_start`
 
 later-high : (c : ℕ) → 191 < c → later c ≡ false
@@ -208,10 +183,6 @@ start-none s h = record { inside = h; starts = λ l. absurd (omega arith) }
 pub trimmed-white : {s r : List ℕ} → TrimmedBy (trimMatches (dropsOf White)) s r → TrimmedTo s r
 unfolding dropsOf textOuterTrimmed
 trimmed-white d = record { is = d .is; front = d .front; back = d .back; part = d .part; cut = d .cut; cutBack = d .cutBack; field = d .field }
-
-pub trimmed-unit : {s r : List ℕ} → TrimmedBy (trimMatches (dropsOf NotAlphabetic)) s r → UnitTrimmedTo s r
-unfolding dropsOf unitTrimmed
-trimmed-unit d = record { is = d .is; front = d .front; back = d .back; part = d .part; cut = d .cut; cutBack = d .cutBack; field = d .field }
 
 -- a trimmed text is no longer than the text
 pub trimmed-short : {trim : List ℕ → List ℕ} {s r : List ℕ} → TrimmedBy trim s r → length r ≤ length s

@@ -7,22 +7,9 @@ ghost use Rattle.rules.specs.Basic.{within};
 ghost use Rattle.rules.specs.Unicode.{sameName};
 ghost use Rattle.content.specs.Contents.{keptIn};
 ghost use Rattle.content.proofs.Seams.{Opens};
-ghost use Rattle.text.specs.Plain.{isPlain, SameLetter};
+ghost use Rattle.text.specs.Plain.{SameLetter};
 ghost use Rattle.text.specs.Seams.{sameAt, WordAt, Common, Seam};
 ghost use Rattle.text.specs.Trims.{LastStart, BlankFrom};
-
-// Whether a byte stands for itself wherever it stands, is kept, and is below 128: printed, no blank, no backslash.
-fn is_plain(c: u8) -> bool
-    ensures { λ r. ⌜ r ≡ isPlain c ⌝ }
-{
-    if b'\\' < c {
-        return c < 127;
-    }
-    if c < 33 {
-        return false;
-    }
-    c != b'\\'
-}
 
 // Whether the characters at a place of each of two names tell that they are not the same from there on: both are plain, and
 // not the two cases of one letter, which are 32 apart.
@@ -40,10 +27,10 @@ pub(crate) fn is_parted(a: &[u8], i: usize, b: &[u8], j: usize) -> bool
     if x % 32 == y % 32 {
         return false;
     }
-    if !is_plain(x) {
+    if !content::is_plain(x) {
         return false;
     }
-    is_plain(y)
+    content::is_plain(y)
 }
 
 // Whether the last bytes of two names tell that they are not the same: the bytes before them start no escape, and both are
@@ -70,10 +57,10 @@ pub(crate) fn is_parted_last(a: &[u8], b: &[u8]) -> bool
     if b[m - 2] == b'\\' {
         return false;
     }
-    if !is_plain(x) {
+    if !content::is_plain(x) {
         return false;
     }
-    is_plain(y)
+    content::is_plain(y)
 }
 
 fn wide(b: u8) -> u32
@@ -202,7 +189,39 @@ fn is_same_letter(x: u8, y: u8) -> bool
     is_letter(x)
 }
 
-// The place after the letters of ASCII from a place on that are the same in two names, in whatever case.
+// How many blanks both names start with.
+fn blanks(a: &[u8], b: &[u8]) -> usize
+    ensures { λ r. ⌜ Common (now (a .entry)) (now (b .entry)) r ⌝ }
+{
+    let n = shorter(a.len(), b.len());
+    let mut i = 0;
+    while i < n {
+        if a[i] != b' ' {
+            return i;
+        }
+        if b[i] != b' ' {
+            return i;
+        }
+        i += 1;
+    }
+    i
+}
+
+// The same where neither goes on with one more blank, else 0.
+fn blank_seam(a: &[u8], b: &[u8]) -> usize
+    ensures { λ r. ⌜ Seam (now (a .entry)) (now (b .entry)) r ⌝ }
+{
+    let i = blanks(a, b);
+    if 0 < i {
+        if is_seam(a, b, i) {
+            return i;
+        }
+    }
+    0
+}
+
+// The place after the letters of ASCII from a place on that are the same in two names, in whatever case, and the blanks
+// between them.
 fn letters(a: &[u8], b: &[u8], at: usize) -> usize
     requires { ⌜ Seam (now a) (now b) at ⌝ }
     ensures { λ r. ⌜ Seam (now (a .entry)) (now (b .entry)) r ⌝ }
@@ -210,10 +229,15 @@ fn letters(a: &[u8], b: &[u8], at: usize) -> usize
     let n = shorter(a.len(), b.len());
     let mut i = at;
     while i < n {
-        if !is_same_letter(a[i], b[i]) {
-            return i;
+        if is_same_letter(a[i], b[i]) {
+            i += 1;
+        } else {
+            let k = blank_seam(&a[i..], &b[i..]);
+            if k == 0 {
+                return i;
+            }
+            i += k;
         }
-        i += 1;
     }
     i
 }

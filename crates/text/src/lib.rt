@@ -1,7 +1,11 @@
 // The contents of fields as they stand in a sheet, escaped, or of any bytes: trimming, and names that are folded as they
 // are read. The Unicode tables are lent.
+mod ends;
 mod fronts;
+mod meets;
 
+use ends::Last;
+use meets::Meeting;
 use unicode::Folded;
 ghost use mathlib.Core.Path.{_≡_};
 ghost use mathlib.Core.Bool.{true, false, _&&_};
@@ -14,12 +18,11 @@ ghost use Rattle.rules.specs.Unicode.{isAlphanumeric, sameName};
 ghost use Rattle.content.specs.Contents.{contentIn, keptIn};
 ghost use Rattle.unicode.specs.Tables.{unicodeTables};
 ghost use Rattle.output.specs.Put.{Put};
-ghost use Rattle.text.specs.Trims.{dropsOf, StartAt, EndAt, TrimmedBy, TrimmedTo, UnitTrimmedTo, PutTrimmed};
-ghost use Rattle.sheet.specs.Runs.{Lacking};
+ghost use Rattle.text.specs.Trims.{dropsOf, StartAt, EndAt, TrimmedBy, TrimmedTo, PutTrimmed};
 ghost use Rattle.text.specs.Singles.{stay, NextBlank};
 ghost use Rattle.text.specs.Paths.{isBack, pathBytes};
 ghost use Rattle.text.specs.Names.{startCursor, stepOf, foldFrom, rest, told};
-ghost use Rattle.text.specs.Seams.{meetingOf, Met};
+ghost use Rattle.text.specs.Seams.{Met};
 
 // Which characters a trimming drops at both ends.
 pub enum Dropped {
@@ -53,46 +56,26 @@ pub fn start_of(t: &[u32], s: &[u8], d: Dropped) -> usize
     at
 }
 
-// Whether the last character is seen to stay, without the characters before it.
-fn stays_whole(t: &[u32], s: &[u8], d: Dropped) -> bool
-    requires { ⌜ now t ≡ unicodeTables ⌝ }
-    ensures { λ r. ⌜ (r ≡ true → EndAt (dropsOf d) (now (s .entry)) (length (now (s .entry)))) ⌝ }
-{
-    if s.len() < 1 {
-        return false;
-    }
-    let i = fronts::last_start(s);
-    if 0 < i {
-        if s[i - 1] == b'\\' {
-            return false;
-        }
-    }
-    let c = content::char_in(s, i);
-    if i + c.size < s.len() {
-        return false;
-    }
-    !is_dropped(t, d, c.code)
-}
-
-// The place after the last character that stays. Mostly only blanks are dropped.
+// The place after the last character that stays, sought from the end; a backslash makes it unclear, and then from the start.
 pub fn end_of(t: &[u32], s: &[u8], d: Dropped) -> usize
     requires { ⌜ now t ≡ unicodeTables ⌝ }
     ensures { λ r. ⌜ EndAt (dropsOf d) (now (s .entry)) r ⌝ }
 {
-    let e = fronts::blanks_end(s);
-    if stays_whole(t, &s[..e], d) {
-        return e;
-    }
-    let mut end = 0;
-    let mut at = 0;
-    while at < s.len() {
-        let c = content::char_in(s, at);
-        at += c.size;
-        if !is_dropped(t, d, c.code) {
-            end = at;
+    let mut e = fronts::blanks_end(s);
+    while 0 < e {
+        match ends::last_of(t, &s[..e], d) {
+            Last::Stays => {
+                return e;
+            }
+            Last::Goes(i) => {
+                e = i;
+            }
+            Last::Unclear => {
+                return ends::forward_end(t, &s[..e], d);
+            }
         }
     }
-    end
+    0
 }
 
 fn trimmed_end<'a>(t: &[u32], s: &'a [u8], d: Dropped) -> &'a [u8]
@@ -120,14 +103,6 @@ pub fn text_outer_trimmed<'a>(t: &[u32], s: &'a [u8]) -> &'a [u8]
     trimmed(t, s, Dropped::White)
 }
 
-// The field without what is not Alphabetic at its ends.
-pub fn unit_trimmed<'a>(t: &[u32], s: &'a [u8]) -> &'a [u8]
-    requires { ⌜ now t ≡ unicodeTables ⌝ }
-    ensures { λ r. ⌜ UnitTrimmedTo (now (s .entry)) (now r) ⌝ }
-{
-    trimmed(t, s, Dropped::NotAlphabetic)
-}
-
 // Whether the byte b goes after the byte prev.
 fn goes(b: u8, prev: u8) -> bool
     ensures { λ r. ⌜ r ≡ (eqb b blank && eqb prev blank) ⌝ }
@@ -138,27 +113,12 @@ fn goes(b: u8, prev: u8) -> bool
     false
 }
 
-// A place that no blank stands before, from `at` on, by eight bytes a turn.
-fn past_no_blank(w: &[u8], at: usize) -> usize
-    requires { ⌜ at ≤ length (now w) ⌝ }
-    ensures { λ r. ⌜ Lacking blank (now (w .entry)) at r ⌝ }
-{
-    let mut i = at;
-    while 8 <= w.len() - i {
-        if !sheet::eight_lack(w, i, b' ') {
-            return i;
-        }
-        i += 8;
-    }
-    i
-}
-
 // The first blank at or after `at`, or the end.
 fn next_blank(w: &[u8], at: usize) -> usize
     requires { ⌜ at ≤ length (now w) ⌝ }
     ensures { λ r. ⌜ NextBlank (now (w .entry)) at r ⌝ }
 {
-    let mut i = past_no_blank(w, at);
+    let mut i = sheet::past_lacking(w, at, b' ');
     while i < w.len() {
         if w[i] == b' ' {
             return i;
@@ -422,35 +382,7 @@ fn same_rest(t: &[u32], a: &[u8], b: &[u8]) -> bool
     }
 }
 
-// What the characters at a place of each of two names tell of the names from there on: the answer, or where to go on.
-enum Meeting {
-    Answer(bool),
-    On(usize, usize),
-    Unclear,
-}
-
-// By the foldings of two characters.
-fn meet_folded(f: Folded, g: Folded, i: usize, j: usize) -> Meeting
-    ensures { λ r. ⌜ r ≡ meetingOf f g i j ⌝ }
-{
-    match f {
-        Folded::One(x) => {
-            match g {
-                Folded::One(y) => {
-                    if x == y {
-                        return Meeting::On(i, j);
-                    }
-                    Meeting::Answer(false)
-                }
-                Folded::Two(_, _) => Meeting::Unclear,
-                Folded::Three(_, _, _) => Meeting::Unclear,
-            }
-        }
-        Folded::Two(_, _) => Meeting::Unclear,
-        Folded::Three(_, _, _) => Meeting::Unclear,
-    }
-}
-
+// What the characters at a place of each of two names tell of the names from there on.
 fn meet(t: &[u32], a: &[u8], i: usize, b: &[u8], j: usize) -> Meeting
     requires { ⌜ now t ≡ unicodeTables ⌝ }
     ensures { λ r. ⌜ Met (now (a .entry)) i (now (b .entry)) j r ⌝ }
@@ -472,21 +404,16 @@ fn meet(t: &[u32], a: &[u8], i: usize, b: &[u8], j: usize) -> Meeting
     let y = content::kept_char(b, j);
     let f = unicode::fold(t, x.code);
     let g = unicode::fold(t, y.code);
-    meet_folded(f, g, i + x.size, j + y.size)
+    let p = meets::paired(f, g);
+    meets::meet_on(t, a, i + x.size, b, j + y.size, p)
 }
 
-// Whether two fields have the same folding, their blanks collapsed. No table is asked where their bytes are the same
-// or the same letters of ASCII.
-pub fn same_name(t: &[u32], a: &[u8], b: &[u8]) -> bool
+// The same for names whose first and last bytes do not tell. No table is asked where their bytes are the same or the same
+// letters of ASCII.
+fn same_whole(t: &[u32], a: &[u8], b: &[u8]) -> bool
     requires { ⌜ now t ≡ unicodeTables ⌝ }
     ensures { λ r. ⌜ r ≡ sameName (keptIn (now (a .entry))) (keptIn (now (b .entry))) ⌝ }
 {
-    if fronts::is_parted(a, 0, b, 0) {
-        return false;
-    }
-    if fronts::is_parted_last(a, b) {
-        return false;
-    }
     let mut i = 0;
     let mut j = 0;
     loop {
@@ -499,8 +426,9 @@ pub fn same_name(t: &[u32], a: &[u8], b: &[u8]) -> bool
                 return r;
             }
             Meeting::On(k, l) => {
-                i = k;
-                j = l;
+                let w = meets::wide_pairs(t, &a[k..], &b[l..]);
+                i = k + w;
+                j = l + w;
             }
             Meeting::Unclear => {
                 break;
@@ -508,4 +436,21 @@ pub fn same_name(t: &[u32], a: &[u8], b: &[u8]) -> bool
         }
     }
     same_rest(t, &a[i..], &b[j..])
+}
+
+// Whether two fields have the same folding, their blanks collapsed.
+pub fn same_name(t: &[u32], a: &[u8], b: &[u8]) -> bool
+    requires { ⌜ now t ≡ unicodeTables ⌝ }
+    ensures { λ r. ⌜ r ≡ sameName (keptIn (now (a .entry))) (keptIn (now (b .entry))) ⌝ }
+{
+    if fronts::is_parted(a, 0, b, 0) {
+        return false;
+    }
+    if a.len() < 2 {
+        return same_whole(t, a, b);
+    }
+    if fronts::is_parted_last(a, b) {
+        return false;
+    }
+    same_whole(t, a, b)
 }

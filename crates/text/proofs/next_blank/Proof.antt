@@ -4,12 +4,12 @@ use Prim.Native.Nat.{_-_, _≤_}
 use lib.ListN.{length}
 use Rattle.rules.specs.Basic.{blank}
 use Rattle.sheet.specs.Runs.{Lacking}
-use Rattle.text.proofs.Singles.{lacking-more}
+use Rattle.sheet.proofs.Runs.{lacking-more}
 use Rattle.text.proofs.next_blank.Statement.{statement}
 use Rattle.text.proofs.next_blank.Tie as tie
 use Rattle.text.proofs.next_blank.Reads as reads
 use Rattle.text.proofs.next_blank.Lts as lts
-use Rattle.text.proofs.past_no_blank.Reads as past-no-blank-reads
+use Rattle.sheet.proofs.past_lacking.Reads as past-lacking-reads
 
 abbrev Inv-loop : tie.InvT-loop
 Inv-loop w at i₀ i = (i ≤ length w) × Lacking blank w at i
@@ -18,12 +18,12 @@ abbrev μ-loop : tie.MeasureT-loop
 μ-loop w at i₀ i = length w - i
 
 -- src/lib.rt:161:9
-past-no-blank-requires : tie.Need-past-no-blank-requires Inv-loop μ-loop
-past-no-blank-requires c κs = search needs
+past-lacking-requires : tie.Need-past-lacking-requires Inv-loop μ-loop
+past-lacking-requires c κs = search needs
 
 -- src/lib.rt:162:5
 loop-holds : tie.Need-loop-holds Inv-loop μ-loop
-loop-holds c = (c .past-no-blank .ensures .inside (c .before .before .pre), c .past-no-blank .ensures)
+loop-holds c = (c .past-lacking .ensures .inside (c .before .before .pre), c .past-lacking .ensures)
 
 -- src/lib.rt:163:12
 shared-slice-read-if1 : tie.Need-shared-slice-read-if1 Inv-loop μ-loop
@@ -55,7 +55,7 @@ next-blank-spec =
     (tie.spec
     Inv-loop
     μ-loop
-    past-no-blank-requires
+    past-lacking-requires
     loop-holds
     shared-slice-read-if1
     returns
