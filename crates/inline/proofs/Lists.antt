@@ -1,6 +1,6 @@
 -- The search for a name along a chain of the unit list.
 use Prim.Native.Nat.{ℕ, _-_, _≤_, _<_}
-use mathlib.Core.Path.{_≡_, refl, ap, sym, _∙_}
+use mathlib.Core.Path.{_≡_, ap, sym, _∙_}
 use mathlib.Core.Bool.{Bool, true, false}
 use mathlib.Core.List.{List}
 use native.Mathlib.Omega.{arith}
@@ -12,16 +12,16 @@ use Rattle.rules.specs.Answer.{unitsOr}
 use Rattle.units.specs.Lists.{unitsFrom}
 use Rattle.units.proofs.Walks.{units-start}
 use Rattle.chains.proofs.Seeks.{Seeking}
-use Rattle.unit_index.specs.Index.{head, next, bucket, names, Indexed, Linked}
-use Rattle.unit_index.proofs.Searches.{seek-first, seek-less, seek-next, content-linked, content-none, content-has}
+use Rattle.unit_index.specs.Index.{next, bucket, firstOf, names, Indexed, Linked}
+use Rattle.unit_index.proofs.Searches.{seek-content, seek-less, seek-next, content-linked, content-none, content-has}
 
 -- the lines that are left of the chain of a name
 pub record Along (units index name : List ℕ) (p : ℕ) : Type 0 where
   pub seeks : Seeking bucket (names units) (length (unitsFrom units 0)) (contentIn name) p
 
 module _ (name : List ℕ) {units index : List ℕ} (x : Indexed units index) where
-  pub along-first : {p : ℕ} → p ≡ head index (bucket (contentIn name)) → Along units index name p
-  along-first e = record { seeks = seek-first (x .filled) e refl }
+  pub along-first : {p : ℕ} → p ≡ firstOf index name → Along units index name p
+  along-first e = record { seeks = seek-content (x .filled) name e }
 
   module _ {p : ℕ} (v : Along units index name p) where
     pub along-end : p ≡ 0 → isSome (findUnit (contentIn name) (unitsOr (readUnits units))) ≡ false

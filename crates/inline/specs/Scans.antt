@@ -1,11 +1,11 @@
 -- What the functions that go over a text answer.
-use Prim.Native.Nat.{ℕ, _≤_, _-_}
+use Prim.Native.Nat.{ℕ, _+_, _≤_, _-_}
 use mathlib.Core.Path.{_≡_}
-use mathlib.Core.Bool.{Bool, not}
+use mathlib.Core.Bool.{Bool, true, false, not}
 use mathlib.Core.List.{List}
-use lib.Dec.{ltb}
-use lib.ListN.{length, take, drop}
-use Rattle.rules.specs.Basic.{pick}
+use lib.Dec.{eqb, ltb}
+use lib.ListN.{length, getD, take, drop}
+use Rattle.rules.specs.Basic.{pick, backslash}
 use Rattle.rules.specs.Unicode.{isWhiteSpace}
 use Rattle.content.specs.Contents.{contentIn}
 use Rattle.content.specs.Parts.{Field}
@@ -16,9 +16,18 @@ use Rattle.inline.specs.declared.Span.{Span}
 unfoldable pub isNotWhite : ℕ → Bool
 isNotWhite c = not (isWhiteSpace c)
 
--- how many bytes a character of UTF-8 takes that starts with the byte a, which is not ASCII
+-- how many bytes a character of UTF-8 takes that starts with the byte a
 unfoldable pub leadSize : ℕ → ℕ
-leadSize a = pick (ltb a 0xe0) 2 (pick (ltb a 0xf0) 3 4)
+leadSize a = pick (ltb a 0x80) 1 (pick (ltb a 0xe0) 2 (pick (ltb a 0xf0) 3 4))
+
+-- no White_Space and no escape starts with the byte a: White_Space beyond ASCII starts with c2, e1, e2 or e3
+unfoldable pub isSolid : ℕ → Bool
+isSolid a = pick (ltb a 0x80) (pick (ltb a 33) false (not (eqb a backslash))) (pick (ltb a 0xe1) (not (eqb a 0xc2)) (ltb 0xe3 a))
+
+-- the byte at place i is e3, and the two after it are not 80 80: of the characters that start with e3, only U+3000 (e3 80 80) is
+-- White_Space; a byte that is missing reads as 0
+unfoldable pub isSolidE3 : List ℕ → ℕ → Bool
+isSolidE3 s i = pick (eqb (getD s i 0) 0xe3) (pick (eqb (getD s (i + 1) 0) 0x80) (not (eqb (getD s (i + 2) 0) 0x80)) true) false
 
 -- the bytes from place a to place e
 abbrev pub part : ℕ → ℕ → List ℕ → List ℕ

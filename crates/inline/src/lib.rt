@@ -13,9 +13,10 @@ ghost use Rattle.rules.specs.Text.{isNotAlphabetic};
 ghost use Rattle.rules.specs.Inline.{isNoDigit, isDigitOrPoint, points as pointsIn};
 ghost use Rattle.unicode.specs.Tables.{unicodeTables};
 ghost use Rattle.unit_index.specs.Index.{Indexed};
-ghost use Rattle.inline.specs.Scans.{isNotWhite, leadSize, part, Front, SignAt, UnitPart};
+ghost use Rattle.inline.specs.Scans.{isNotWhite, leadSize, isSolid, isSolidE3, part, Front, SignAt, UnitPart};
 ghost use Rattle.inline.specs.Found.{InlineAt};
 ghost use Rattle.inline.specs.Items.{CountsOf, textItems};
+use text::Dropped;
 
 // A part of a text, from a place to a place.
 struct Span {
@@ -42,10 +43,13 @@ fn is_digit_or_point(c: u32) -> bool
     c == 46
 }
 
-// How many bytes the character takes that a byte beyond ASCII starts.
+// How many bytes the character takes that a byte starts.
 fn lead_size(a: u8) -> usize
     ensures { λ r. ⌜ r ≡ leadSize a ⌝ }
 {
+    if a < 0x80 {
+        return 1;
+    }
     if a < 0xe0 {
         return 2;
     }
@@ -53,6 +57,39 @@ fn lead_size(a: u8) -> usize
         return 3;
     }
     4
+}
+
+// Whether a byte is seen to start a character that is not White_Space.
+fn is_solid(a: u8) -> bool
+    ensures { λ r. ⌜ r ≡ isSolid a ⌝ }
+{
+    if a < 0x80 {
+        if a < 33 {
+            return false;
+        }
+        return a != b'\\';
+    }
+    if a < 0xe1 {
+        return a != 0xc2;
+    }
+    0xe3 < a
+}
+
+// Whether the byte at a place is E3 and does not start U+3000, the only White_Space that starts so.
+fn is_solid_e3(s: &[u8], i: usize) -> bool
+    requires { ⌜ i < length (now s) ⌝ }
+    ensures { λ r. ⌜ r ≡ isSolidE3 (now (s .entry)) i ⌝ }
+{
+    if s[i] != 0xe3 {
+        return false;
+    }
+    if s.len() - i < 3 {
+        return true;
+    }
+    if s[i + 1] != 0x80 {
+        return true;
+    }
+    s[i + 2] != 0x80
 }
 
 // The place of the next ASCII digit, or the end.
@@ -83,6 +120,9 @@ fn number_end(s: &[u8], at: usize) -> usize
 {
     let mut i = at;
     while i < s.len() {
+        if 0x80 <= s[i] {
+            return i;
+        }
         let c = content::char_in(s, i);
         if !is_digit_or_point(c.code) {
             return i;
@@ -99,6 +139,9 @@ fn blanks_end(t: &[u32], s: &[u8], at: usize) -> usize
 {
     let mut i = at;
     while i < s.len() {
+        if is_solid(s[i]) {
+            return i;
+        }
         let c = content::char_in(s, i);
         if !unicode::is_white_space(t, c.code) {
             return i;
@@ -115,11 +158,18 @@ fn word_end(t: &[u32], s: &[u8], at: usize) -> usize
 {
     let mut i = at;
     while i < s.len() {
-        let c = content::char_in(s, i);
-        if unicode::is_white_space(t, c.code) {
-            return i;
+        let a = s[i];
+        if is_solid(a) {
+            i += lead_size(a);
+        } else if is_solid_e3(s, i) {
+            i += 3;
+        } else {
+            let c = content::char_in(s, i);
+            if unicode::is_white_space(t, c.code) {
+                return i;
+            }
+            i += c.size;
         }
-        i += c.size;
     }
     i
 }
@@ -176,12 +226,11 @@ fn unit_part(t: &[u32], s: &[u8], from: usize, to: usize) -> Span
     requires { ⌜ (now t ≡ unicodeTables) × (from ≤ to) × (to ≤ length (now s)) × (Field (part from to (now s))) ⌝ }
     ensures { λ r. ⌜ UnitPart (now (s .entry)) from to r ⌝ }
 {
-    let word = &s[from..to];
-    let a = from + letters_start(t, word);
-    let name = text::unit_trimmed(t, word);
+    let a = from + letters_start(t, &s[from..to]);
+    let size = text::end_of(t, &s[a..to], Dropped::NotAlphabetic);
     Span {
         from: a,
-        to: a + name.len(),
+        to: a + size,
     }
 }
 

@@ -69,7 +69,7 @@ module _ {sheet text units : List ℕ} {flags : ℕ} {a : Checked} (p : a ≡ ch
 
 -- ---- the index
 
-pub refused-ready : {units index : List ℕ} {n l : ℕ} → length index ≡ 2304 → UnitsReady units index (Refused n l)
+pub refused-ready : {units index : List ℕ} {n l : ℕ} → length index ≡ 2305 → UnitsReady units index (Refused n l)
 refused-ready h = record { long = h; indexed = λ q. absurd (let z : _≡_ {A = ℕ} 0 1 = cc in omega arith) }
 
 pub good-ready : {units index : List ℕ} {b : UnitsChecked} {r : Inputs} → UnitsIndexed units index b → b ≡ list.Good → UnitsReady units index r

@@ -63,7 +63,7 @@ pub record InputsChecked (sheet text units : List ℕ) (flags words bytes : ℕ)
 
 -- where nothing is refused, the unit list has its index
 pub record UnitsReady (units index : List ℕ) (r : Inputs) : Type 0 where
-  pub long : length index ≡ 2304
+  pub long : length index ≡ 2305
   pub indexed : r ≡ Good → Indexed units index
 
 -- what the pass may count on: none of 1 to 10 arises

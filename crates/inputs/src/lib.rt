@@ -31,7 +31,7 @@ fn check_sheet(sheet: &[u8], text: &[u8], flags: u32) -> Inputs
 
 // 4, then 5 and 6, then the rest; the unit list gets its index.
 fn check_contents(sheet: &[u8], text: &[u8], units: &[u8], index: &mut [u32], flags: u32) -> Inputs
-    requires { ⌜ (length (now units) ≤ 16384) × (length (now index) ≡ 2304) ⌝ }
+    requires { ⌜ (length (now units) ≤ 16384) × (length (now index) ≡ 2305) ⌝ }
     ensures { λ r. ⌜ ContentsChecked (now (sheet .entry)) (now (text .entry)) (now (units .entry)) flags r × UnitsReady (now (units .entry)) (now (index .exit)) r ⌝ }
 {
     let utf8::Checked::Valid = utf8::first_fault(text) else {
@@ -54,7 +54,7 @@ pub fn check_inputs(
     words: usize,
     bytes: usize,
 ) -> Inputs
-    requires { ⌜ length (now index) ≡ 2304 ⌝ }
+    requires { ⌜ length (now index) ≡ 2305 ⌝ }
     ensures { λ r. ⌜ InputsChecked (now (sheet .entry)) (now (text .entry)) (now (units .entry)) flags words bytes r × UnitsReady (now (units .entry)) (now (index .exit)) r ⌝ }
 {
     if words < WORDS {

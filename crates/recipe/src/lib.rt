@@ -70,7 +70,7 @@ fn collected(
     bytes: usize,
     out: &mut [u8],
 ) -> Answer
-    requires { ⌜ (now t ≡ unicodeTables) × (length (now index) ≡ 2304) ⌝ }
+    requires { ⌜ (now t ≡ unicodeTables) × (length (now index) ≡ 2305) ⌝ }
     ensures { λ r. ⌜ Answered (collectAnswer (now (sheet .entry)) (now (text .entry)) (now (units .entry)) flags (lengths (now (words .entry)) bytes (now (out .entry)))) (length (now (out .entry))) (now (out .exit)) r ⌝ }
 {
     match inputs::check_inputs(sheet, text, units, index, flags, words.len(), bytes) {
@@ -102,7 +102,7 @@ pub fn collect(
     ensures { λ r. ⌜ Collected (now (sheet .entry)) (now (text .entry)) (now (units .entry)) flags (lentOf (now (words .entry)) (now (bytes .entry)) (now (out .entry))) (now (words .exit)) (now (bytes .exit)) (now (out .exit)) r ⌝ }
 {
     let t = unicode::unicode_tables();
-    let mut index = [0u32; 2304];
+    let mut index = [0u32; 2305];
     let r = collected(
         &t,
         sheet,
@@ -245,7 +245,7 @@ fn formed(
     bytes: &mut [u8],
     out: &mut [u8],
 ) -> Answer
-    requires { ⌜ (now t ≡ unicodeTables) × (length (now index) ≡ 2304) ⌝ }
+    requires { ⌜ (now t ≡ unicodeTables) × (length (now index) ≡ 2305) ⌝ }
     ensures { λ r. ⌜ Answered (plainAnswer (now (sheet .entry)) (now (text .entry)) (now (units .entry)) flags (lentOf (now (words .entry)) (now (bytes .entry)) (now (out .entry)))) (length (now (out .entry))) (now (out .exit)) r ⌝ }
 {
     match inputs::check_inputs(sheet, text, units, index, flags, words.len(), bytes.len()) {
@@ -267,7 +267,7 @@ pub fn plain_form(
     ensures { λ r. ⌜ PlainFormed (now (sheet .entry)) (now (text .entry)) (now (units .entry)) flags (lentOf (now (words .entry)) (now (bytes .entry)) (now (out .entry))) (now (words .exit)) (now (bytes .exit)) (now (out .exit)) r ⌝ }
 {
     let t = unicode::unicode_tables();
-    let mut index = [0u32; 2304];
+    let mut index = [0u32; 2305];
     let f = formed(&t, sheet, text, units, &mut index, flags, words, bytes, out);
     clearing::clear_words(words);
     clearing::clear_from(bytes, 0usize);

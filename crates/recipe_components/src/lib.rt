@@ -167,7 +167,7 @@ fn collect_rows(
 ) -> Components
     ensures { λ r. ⌜ RowsCollected (now (sheet .entry)) (now (text .entry)) (now (units .entry)) flags (roomOf (length (now (words .entry))) ingredients «ingredient_pairs» cookware «cookware_pairs») (now (words .exit)) r ⌝ }
 {
-    let mut index = [0u32; 2304];
+    let mut index = [0u32; 2305];
     match inputs::check_inputs(
         sheet,
         text,

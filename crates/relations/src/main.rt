@@ -137,7 +137,7 @@ fn run(
 fn check_and_run(t: &[u32], sheet: &[u8], text: &[u8], units: &[u8], flags: u32, words: &mut [u32])
     requires { ⌜ now t ≡ unicodeTables ⌝ }
 {
-    let mut index = [0u32; 2304];
+    let mut index = [0u32; 2305];
     match inputs::check_inputs(
         sheet,
         text,

@@ -6,16 +6,17 @@ use mathlib.Core.List.{List, [], _∷_}
 use mathlib.Core.Option.{Option, none, some}
 use native.Mathlib.Omega.{arith}
 use native.Mathlib.Numerals.{add-one}
-use borrow.Author.Tests.{eqb-true, eqb-false, leb-true}
-use lib.Dec.{eqb, leb}
+use borrow.Author.Tests.{eqb-true, eqb-false, leb-true, lt-ltb, le-ltb, ltb-true, ltb-false}
+use lib.Dec.{eqb, leb, ltb}
 use lib.ListN.{length, set, drop, length-set, length-drop}
 use lib.Seq.{getD-set-same, getD-set-other}
 use Rattle.rules.specs.Basic.{pick, isSome}
-use Rattle.rules.specs.Utf8.{chars}
+use Rattle.rules.specs.Utf8.{chars, encode}
 use Rattle.rules.specs.Sheet.{lines}
 use Rattle.rules.specs.Units.{NamedUnit, unitsOf, atMost1024, readUnits}
 use Rattle.rules.specs.Answer.{unitsOr}
-use Rattle.rules.proofs.Basics.{by-order, no-truth}
+use Rattle.rules.proofs.Basics.{pick-either, by-order, no-truth}
+use Rattle.rules.proofs.Encodes.{encode-chars}
 use Rattle.chains.specs.Rows.{findIn, headIn}
 use Rattle.units.specs.declared.Physical.{Physical}
 use Rattle.units.specs.declared.UnitAt.{UnitAt}
@@ -24,7 +25,7 @@ use Rattle.units.specs.declared.UnitsChecked.the-variants.{Good, Ill, Twice}
 use Rattle.units.specs.Lists.{unitsFrom, part, namedAs, UnitTurn, UnitHere}
 use Rattle.units.proofs.Turns.{units-end}
 use Rattle.units.proofs.Walks.{list-starts, check-ill, check-twice, check-good}
-use Rattle.unit_index.specs.Index.{head, start, next, bucket, names, Placed, Filled, Cleared, LinePushed, Named, LineAdded, AllAdded, UnitsIndexed}
+use Rattle.unit_index.specs.Index.{head, start, next, longest, bucket, names, Placed, Filled, Cleared, LongestKept, LinePushed, Named, LineAdded, AllAdded, UnitsIndexed}
 use Rattle.unit_index.proofs.Names.{first-name, first-rest, all-once, one-twice}
 use Rattle.unit_index.proofs.Searches.{bucket-small}
 
@@ -39,7 +40,7 @@ pub clear-starts : (m : List ℕ) → Clearing m m 0
 clear-starts m = record { most = omega arith; long = refl; heads = λ d l. absurd (omega arith) }
 
 module _ {m₀ m : List ℕ} {b : ℕ} (v : Clearing m₀ m b) where
-  pub clear-on : b < 256 → length m₀ ≡ 2304 → Clearing m₀ (set m b 0) (b + 1)
+  pub clear-on : b < 256 → length m₀ ≡ 2305 → Clearing m₀ (set m b 0) (b + 1)
   clear-on l h =
       record {
         most = omega arith;
@@ -47,15 +48,49 @@ module _ {m₀ m : List ℕ} {b : ℕ} (v : Clearing m₀ m b) where
         heads = λ d g. by-order b d (λ k. let e : d ≡ b = omega arith in rw e (getD-set-same m b 0 0 (omega (arith, v .long)))) (λ k. getD-set-other m b d 0 0 (λ q. omega arith) ∙ v .heads d k);
       }
 
-  pub clear-ends : 256 ≤ b → length m₀ ≡ 2304 → Cleared m
+  pub clear-ends : 256 ≤ b → length m₀ ≡ 2305 → Cleared m
   clear-ends h l = record { long = v .long ∙ l; heads = λ d g. v .heads d (omega arith) }
+
+-- ---- the longest name
+
+module _ (m : List ℕ) (size : ℕ) where
+  pub longer-kept : longest m < size → LongestKept m size (set m 2304 size)
+  longer-kept h = record { is = rw (lt-ltb (longest m) size h) }
+
+  pub same-kept : size ≤ longest m → LongestKept m size m
+  same-kept h = record { is = rw (le-ltb (longest m) size h) }
+
+module _ {units m : List ℕ} {n : ℕ} (z : Filled units m n) where
+  -- with another last word that is no less
+  longer-filled : (x : ℕ) → longest m < x → Filled units (set m 2304 x) n
+  longer-filled x h =
+      record {
+        long = length-set m 2304 x ∙ z .long;
+        few = z .few;
+        most = z .most;
+        lines = λ i l. rw (getD-set-other m 2304 (256 + i * 2) x 0 (λ q. omega (arith, z .few, z .most))) (z .lines i l);
+        heads = λ b l. getD-set-other m 2304 b x 0 (λ q. omega arith) ∙ z .heads b l;
+        nexts = λ i l. getD-set-other m 2304 (257 + i * 2) x 0 (λ q. omega (arith, z .few, z .most)) ∙ z .nexts i l;
+        once = z .once;
+        short = λ i l. rw (getD-set-same m 2304 x 0 (omega (arith, z .long))) (omega (arith, z .short i l));
+      }
+
+  pub kept-filled : {size : ℕ} {w : List ℕ} → LongestKept m size w → Filled units w n
+  kept-filled {size} k =
+      rw (k .is) (pick-either (λ (w : List ℕ). Filled units w n) (ltb (longest m) size) _ _ (λ t. longer-filled size (ltb-true (longest m) size t)) (λ _. z))
+
+  pub kept-size : {size : ℕ} {w : List ℕ} → LongestKept m size w → size ≤ longest w
+  kept-size {size} k =
+      rw (k .is)
+      (pick-either (λ (w : List ℕ). size ≤ longest w) (ltb (longest m) size) _ _ (λ _. rw (getD-set-same m 2304 size 0 (omega (arith, z .long))) (omega arith))
+      (λ f. ltb-false (longest m) size f))
 
 -- ---- one line more
 
 split-last : {P : Type 0} (i n : ℕ) → i < suc n → (i < n → P) → (i ≡ n → P) → P
 split-last i n l a b = by-order n i (λ h. b (omega arith)) (λ h. a h)
 
-module _ (m : List ℕ) (n b from x : ℕ) (few : n < 1024) (small : b < 256) (long : length m ≡ 2304) where
+module _ (m : List ℕ) (n b from x : ℕ) (few : n < 1024) (small : b < 256) (long : length m ≡ 2305) where
   abbrev withStart : List ℕ
   withStart = set m (256 + n * 2) from
 
@@ -92,8 +127,13 @@ module _ (m : List ℕ) (n b from x : ℕ) (few : n < 1024) (small : b < 256) (l
   head-other d l g =
       getD-set-other withNext b d x 0 g ∙ getD-set-other withStart (257 + n * 2) d (head m b) 0 (λ q. omega arith) ∙ getD-set-other m (256 + n * 2) d from 0 (λ q. omega arith)
 
+  longest-same : longest withLine ≡ longest m
+  longest-same =
+      getD-set-other withNext b 2304 x 0 (λ q. omega arith) ∙ getD-set-other withStart (257 + n * 2) 2304 (head m b) 0 (λ q. omega arith)
+      ∙ getD-set-other m (256 + n * 2) 2304 from 0 (λ q. omega arith)
+
   module _ {units : List ℕ} (z : Filled units m n) (hash : b ≡ bucket (names units n)) (e : x ≡ suc n) (room : n < length (unitsFrom units 0))
-      (there : Placed units n from) (gone : findIn (names units) (names units n) n ≡ none) where
+      (there : Placed units n from) (gone : findIn (names units) (names units n) n ≡ none) (fits : length (encode (names units n)) ≤ longest m) where
     heads-now : (d : ℕ) → d < 256 → head withLine d ≡ headIn bucket (names units) d (suc n)
     unfolding headIn
     heads-now d l = go (eqb (bucket (names units n)) d) refl
@@ -112,6 +152,7 @@ module _ (m : List ℕ) (n b from x : ℕ) (few : n < 1024) (small : b < 256) (l
           heads = heads-now;
           nexts = λ i l. split-last i n l (λ g. next-old i g ∙ z .nexts i g) (λ q. rw q (next-new ∙ z .heads b small ∙ ap (λ (d : ℕ). headIn bucket (names units) d n) hash));
           once = λ i l. split-last i n l (z .once i) (λ q. rw q gone);
+          short = λ i l. rw longest-same (split-last i n l (z .short i) (λ q. rw q fits));
         }
 
 module _ {units m : List ℕ} {n from to : ℕ} (z : Filled units m n) (y : Named units n from to) {r : Bool} (told : r ≡ isSome (findIn (names units) (chars (part units from to)) n)) where
@@ -121,8 +162,8 @@ module _ {units m : List ℕ} {n from to : ℕ} (z : Filled units m n) (y : Name
   pub added-twice : r ≡ true → LineAdded units n m true
   added-twice h = record { long = z .long; told = sym h ∙ told-name; filled = λ q. no-truth (sym q) }
 
-  pub added-line : {b : ℕ} {w : List ℕ} → b ≡ bucket (chars (part units from to)) → r ≡ false → LinePushed m n b from w → LineAdded units n w false
-  added-line {b} {w} h q s = rw (s .is) (record { long = f .long; told = sym q ∙ told-name; filled = λ _. at-count (n + 1) (sym (add-one n)) f })
+  pub added-line : {b : ℕ} {w : List ℕ} → b ≡ bucket (chars (part units from to)) → r ≡ false → length (part units from to) ≤ longest m → LinePushed m n b from w → LineAdded units n w false
+  added-line {b} {w} h q l s = rw (s .is) (record { long = f .long; told = sym q ∙ told-name; filled = λ _. at-count (n + 1) (sym (add-one n)) f })
     where
       at-count : {w : List ℕ} (c : ℕ) → suc n ≡ c → Filled units w (suc n) → Filled units w c
       at-count c g y = rw g at y
@@ -135,7 +176,7 @@ module _ {units m : List ℕ} {n from to : ℕ} (z : Filled units m n) (y : Name
       none-is (some i) e = unfold isSome in no-truth (sym e)
 
       f : Filled units (withLine m n b from (n + 1) (omega (arith, y .few, z .most)) small (z .long)) (suc n)
-      f = line-filled m n b from (n + 1) (omega (arith, y .few, z .most)) small (z .long) z (h ∙ ap bucket (sym (y .name))) (add-one n) (y .few) (y .placed) (none-is _ (sym told-name ∙ q))
+      f = line-filled m n b from (n + 1) (omega (arith, y .few, z .most)) small (z .long) z (h ∙ ap bucket (sym (y .name))) (add-one n) (y .few) (y .placed) (none-is _ (sym told-name ∙ q)) (rw (y .name, encode-chars (part units from to) (y .utf8)) l)
 
 -- ---- all lines
 
@@ -165,6 +206,7 @@ add-starts {units} {index} h c =
             heads = λ b l. c .heads b l;
             nexts = λ i l. absurd (omega arith);
             once = λ i l. absurd (omega arith);
+            short = λ i l. absurd (omega arith);
           };
       placed = record { list = list-starts units h; is = refl };
     }
@@ -208,7 +250,7 @@ module _ {units index : List ℕ} {n at : ℕ} (v : Adding units index n at) whe
 -- ---- the answer
 
 module _ (units : List ℕ) {b : Bool} (q : b ≡ isSome (readUnits units)) where
-  pub units-ill : {index : List ℕ} → length index ≡ 2304 → b ≡ false → UnitsIndexed units index Ill
+  pub units-ill : {index : List ℕ} → length index ≡ 2305 → b ≡ false → UnitsIndexed units index Ill
   units-ill l h = record { long = l; is = check-ill units q h; indexed = λ e. absurd (let z : _≡_ {A = ℕ} 0 1 = cc in omega arith) }
 
   module _ {index : List ℕ} {t : Bool} (h : b ≡ true) (a : AllAdded units index t) where

@@ -1,3 +1,4 @@
 pub mod Names
+pub mod Sizes
 pub mod Searches
 pub mod Adds

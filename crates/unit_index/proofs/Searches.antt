@@ -1,19 +1,23 @@
 -- The search for a name along a chain of lines.
-use Prim.Native.Nat.{ℕ, zero, suc, _-_, _%_, _<_}
+use Prim.Native.Nat.{ℕ, zero, suc, _-_, _/_, _%_, _≤_, _<_}
 use mathlib.Core.Path.{_≡_, refl, ap, sym, _∙_}
 use mathlib.Core.Bool.{Bool, true, false}
 use mathlib.Core.List.{List, _∷_}
 use mathlib.Core.Option.{none, some}
 use native.Mathlib.Omega.{arith}
 use native.Mathlib.Nat.{mod-lt}
+use borrow.Author.Tests.{lt-ltb, le-ltb, ltb-true}
+use lib.Dec.{ltb}
 use lib.ListN.{length, drop, length-drop}
 use Rattle.rules.specs.Basic.{eqList, isSome}
-use Rattle.rules.specs.Utf8.{isUtf8, chars}
+use Rattle.rules.specs.Utf8.{isUtf8, chars, encode}
 use Rattle.rules.specs.Units.{findUnit}
+use Rattle.rules.proofs.Basics.{pick-either}
 use Rattle.rules.proofs.SameChars.{eq-true, same-chars}
+use Rattle.content.specs.Contents.{contentIn}
 use Rattle.chains.specs.Hashes.{hashOf, Hashed}
 use Rattle.chains.specs.Rows.{findIn, headIn}
-use Rattle.chains.proofs.Seeks.{Seeking, seek-starts, seek-most, seek-gone, seek-hit, seek-on, next-less}
+use Rattle.chains.proofs.Seeks.{find-miss, Seeking, seek-starts, seek-most, seek-gone, seek-hit, seek-on, next-less}
 use Rattle.units.specs.declared.Physical.{Physical}
 use Rattle.units.specs.declared.Physical.the-variants.{Unknown}
 use Rattle.units.specs.declared.UnitAt.{UnitAt}
@@ -21,7 +25,8 @@ use Rattle.units.specs.declared.UnitAt.the-variants.{Unit, End}
 use Rattle.units.specs.Quantities.{physicalAs}
 use Rattle.units.specs.Lists.{unitsFrom, part, namedAs, UnitHere}
 use Rattle.unit_index.specs.declared.Line.{Line}
-use Rattle.unit_index.specs.Index.{head, start, next, bucket, names, LineIn, LineAt, Filled, Indexed, Linked}
+use Rattle.unit_index.specs.Index.{head, start, next, longest, bucket, firstOf, names, LineIn, LineAt, Filled, Indexed, Linked}
+use Rattle.unit_index.proofs.Sizes.{content-long}
 use Rattle.unit_index.proofs.Names.{first-name, find-drop, gone-all, found-all}
 
 -- ---- a line
@@ -49,6 +54,17 @@ bucket-of h = ap (λ (x : ℕ). x % 256) (h .is)
 pub bucket-small : (k : List ℕ) → bucket k < 256
 bucket-small k = mod-lt (hashOf k) (omega arith)
 
+-- ---- the ways of `first_of`
+
+module _ (index s : List ℕ) where
+  pub first-none : longest index < length s / 2 → 0 ≡ firstOf index s
+  unfolding firstOf
+  first-none h = rw (lt-ltb (longest index) (length s / 2) h)
+
+  pub first-head : {p b : ℕ} → length s / 2 ≤ longest index → b ≡ bucket (contentIn s) → p ≡ head index b → p ≡ firstOf index s
+  unfolding firstOf
+  first-head h e q = q ∙ rw (le-ltb (longest index) (length s / 2) h, e)
+
 -- ---- the walk
 
 nonzero : (p : ℕ) → (p ≡ 0 → ⊥) → p ≡ suc (p - 1)
@@ -62,6 +78,25 @@ module _ {units index : List ℕ} {n : ℕ} (z : Filled units index n) where
   pub seek-first : {k : List ℕ} {p b : ℕ} → p ≡ head index b → b ≡ bucket k → Seeking bucket (names units) n k p
   seek-first {k} {p} {b} e h =
       seek-starts bucket (names units) (e ∙ (z .heads b (rw h (bucket-small k)) ∙ ap (λ (d : ℕ). headIn bucket (names units) d n) h))
+
+  -- no line has a name that is too long
+  too-long : (k : List ℕ) (i : ℕ) → i ≤ n → longest index < length (encode k) → findIn (names units) k i ≡ none
+  unfolding findIn
+  too-long k zero h l = refl
+  too-long k (suc i) h l = find-miss (names units) k i (other (eqList k (names units i)) refl) ∙ too-long k i (omega arith) l
+    where
+      other : (t : Bool) → eqList k (names units i) ≡ t → t ≡ false
+      other false e = refl
+      other true e = absurd (omega (arith, z .short i (omega arith), ap (λ (x : List ℕ). length (encode x)) (eq-true k (names units i) e)))
+
+  pub seek-content : (s : List ℕ) {p : ℕ} → p ≡ firstOf index s → Seeking bucket (names units) n (contentIn s) p
+  unfolding firstOf headIn findIn
+  seek-content s {p} e =
+      rw e
+      (pick-either (Seeking bucket (names units) n (contentIn s)) (ltb (longest index) (length s / 2)) _ _
+      (λ t. let h = ltb-true (longest index) (length s / 2) t in
+      record { upto = 0; most = omega arith; at = refl; is = sym (too-long (contentIn s) n (omega arith) (omega (arith, content-long s))) })
+      (λ _. seek-first refl refl))
 
   -- a line that is in the index
   module _ {i : ℕ} (l : i < n) where

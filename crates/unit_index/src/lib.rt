@@ -1,5 +1,6 @@
 // The index of a unit list: its names in chains by their hashes. 256 words are the heads of the chains; then each line has two, where
-// it starts in the list, and the next line of its chain (one more than its number, or 0).
+// it starts in the list, and the next line of its chain (one more than its number, or 0); the last word is a number of bytes
+// that no name exceeds.
 ghost use mathlib.Core.Path.{_≡_};
 ghost use mathlib.Core.Bool.{true};
 ghost use Prim.Native.Nat.{_-_, _≤_, _<_};
@@ -11,7 +12,7 @@ ghost use Rattle.content.specs.Contents.{contentIn, keptIn};
 ghost use Rattle.units.specs.Quantities.{physicalAs};
 ghost use Rattle.units.specs.Lists.{unitsFrom};
 ghost use Rattle.chains.specs.Rows.{findIn};
-ghost use Rattle.unit_index.specs.Index.{names, bucket, head, start, next, LineIn, LineAt, Filled, Indexed, Linked, Cleared, LinePushed, Named, LineAdded, AllAdded, UnitsIndexed};
+ghost use Rattle.unit_index.specs.Index.{names, bucket, head, start, next, longest, firstOf, LineIn, LineAt, Filled, Indexed, Linked, Cleared, LongestKept, LinePushed, Named, LineAdded, AllAdded, UnitsIndexed};
 use units::Physical;
 use units::UnitAt;
 use units::UnitsChecked;
@@ -23,14 +24,14 @@ fn wide(x: u32) -> usize
 }
 
 fn head_at(index: &[u32], b: usize) -> usize
-    requires { ⌜ (b < 256) × (length (now index) ≡ 2304) ⌝ }
+    requires { ⌜ (b < 256) × (length (now index) ≡ 2305) ⌝ }
     ensures { λ r. ⌜ r ≡ head (now (index .entry)) b ⌝ }
 {
     wide(index[b])
 }
 
 fn start_at(index: &[u32], i: usize) -> usize
-    requires { ⌜ (i < 1024) × (length (now index) ≡ 2304) ⌝ }
+    requires { ⌜ (i < 1024) × (length (now index) ≡ 2305) ⌝ }
     ensures { λ r. ⌜ r ≡ start (now (index .entry)) i ⌝ }
 {
     let at = 256 + i * 2;
@@ -38,11 +39,18 @@ fn start_at(index: &[u32], i: usize) -> usize
 }
 
 fn next_at(index: &[u32], i: usize) -> usize
-    requires { ⌜ (i < 1024) × (length (now index) ≡ 2304) ⌝ }
+    requires { ⌜ (i < 1024) × (length (now index) ≡ 2305) ⌝ }
     ensures { λ r. ⌜ r ≡ next (now (index .entry)) i ⌝ }
 {
     let at = 257 + i * 2;
     wide(index[at])
+}
+
+fn longest_in(index: &[u32]) -> usize
+    requires { ⌜ length (now index) ≡ 2305 ⌝ }
+    ensures { λ r. ⌜ r ≡ longest (now (index .entry)) ⌝ }
+{
+    wide(index[2304])
 }
 
 // A line of the list: where its name ends, and its physical quantity.
@@ -93,11 +101,15 @@ pub fn find_named(units: &[u8], index: &[u32], name: &[u8]) -> Physical
     Physical::Unknown
 }
 
-// The chain of the content of a field's part: one more than the number of its first line, or 0.
+// The chain of the content of a field's part: one more than the number of its first line, or 0; also 0 where the content is seen
+// to be longer than any name.
 pub fn first_of(index: &[u32], name: &[u8]) -> usize
-    requires { ⌜ length (now index) ≡ 2304 ⌝ }
-    ensures { λ r. ⌜ r ≡ head (now (index .entry)) (bucket (contentIn (now (name .entry)))) ⌝ }
+    requires { ⌜ length (now index) ≡ 2305 ⌝ }
+    ensures { λ r. ⌜ r ≡ firstOf (now (index .entry)) (now (name .entry)) ⌝ }
 {
+    if longest_in(index) < name.len() / 2 {
+        return 0;
+    }
     let h = chains::hash_content(name) % 256;
     head_at(index, h)
 }
@@ -116,7 +128,7 @@ pub fn is_named(units: &[u8], index: &[u32], p: usize, name: &[u8]) -> bool
 
 // The next line of its chain.
 pub fn next_of(index: &[u32], p: usize) -> usize
-    requires { ⌜ (0 < p) × (p ≤ 1024) × (length (now index) ≡ 2304) ⌝ }
+    requires { ⌜ (0 < p) × (p ≤ 1024) × (length (now index) ≡ 2305) ⌝ }
     ensures { λ r. ⌜ r ≡ next (now (index .entry)) (p - 1) ⌝ }
 {
     next_at(index, p - 1)
@@ -126,7 +138,7 @@ pub fn next_of(index: &[u32], p: usize) -> usize
 
 // No chain has a line.
 fn clear_heads(index: &mut [u32])
-    requires { ⌜ length (now index) ≡ 2304 ⌝ }
+    requires { ⌜ length (now index) ≡ 2305 ⌝ }
     ensures { λ _. ⌜ Cleared (now (index .exit)) ⌝ }
 {
     let mut b = 0;
@@ -154,9 +166,19 @@ fn has_name(units: &[u8], index: &[u32], n: usize, name: &[u8], b: usize) -> boo
     false
 }
 
+// The last word is raised to the size of a name.
+fn keep_longest(index: &mut [u32], size: u32)
+    requires { ⌜ length (now index) ≡ 2305 ⌝ }
+    ensures { λ _. ⌜ LongestKept (now (index .entry)) size (now (index .exit)) ⌝ }
+{
+    if index[2304] < size {
+        index[2304] = size;
+    }
+}
+
 // One line more, first in its chain.
 fn push_line(index: &mut [u32], n: usize, b: usize, from: u32)
-    requires { ⌜ (n < 1024) × (b < 256) × (length (now index) ≡ 2304) ⌝ }
+    requires { ⌜ (n < 1024) × (b < 256) × (length (now index) ≡ 2305) ⌝ }
     ensures { λ _. ⌜ LinePushed (now (index .entry)) n b from (now (index .exit)) ⌝ }
 {
     let first = index[b];
@@ -178,6 +200,7 @@ fn add_line(units: &[u8], index: &mut [u32], n: usize, from: usize, to: usize) -
     if has_name(units, index, n, name, b) {
         return true;
     }
+    keep_longest(index, name.len() as u32);
     push_line(index, n, b, from as u32);
     false
 }
@@ -212,7 +235,7 @@ fn add_lines(units: &[u8], index: &mut [u32]) -> bool
 
 // The unit list as it is lent: refusal 5 where it is ill-formed, refusal 6 where a name stands twice; else its index.
 pub fn index_units(units: &[u8], index: &mut [u32]) -> UnitsChecked
-    requires { ⌜ (length (now units) ≤ 16384) × (length (now index) ≡ 2304) ⌝ }
+    requires { ⌜ (length (now units) ≤ 16384) × (length (now index) ≡ 2305) ⌝ }
     ensures { λ r. ⌜ UnitsIndexed (now (units .entry)) (now (index .exit)) r ⌝ }
 {
     if !units::is_list(units) {
