@@ -1,4 +1,4 @@
--- The codes of earlier ingredients' units: what they are, that they stay right, and that they tell whether units fit.
+-- The words of earlier ingredients' units: what they are, that they stay right, and that they tell whether units fit.
 use Prim.Native.Nat.{ℕ, suc, _+_, _-_, _*_, _≤_, _<_}
 use mathlib.Core.Path.{_≡_, refl, ap, sym, _∙_}
 use mathlib.Core.Bool.{Bool, true, false, _&&_}
@@ -6,9 +6,9 @@ use mathlib.Core.List.{List}
 use mathlib.Core.Option.{Option, none, some}
 use native.Mathlib.Omega.{arith}
 use native.Mathlib.Numerals.{add-one}
-use borrow.Author.Tests.{eqb-true, eqb-false, eq-eqb, ne-eqb}
+use borrow.Author.Tests.{eqb-true, eqb-false, eq-eqb, ne-eqb, lt-ltb, le-ltb}
 use lib.Dec.{eqb}
-use lib.ListN.{length, getD, set, take, drop, length-set}
+use lib.ListN.{length, getD, set, take, drop, replicate, length-set, length-replicate, getD-replicate}
 use lib.Seq.{getD-set-same, getD-set-other}
 use Rattle.rules.specs.Basic.{pick, eqList, onSome}
 use Rattle.rules.specs.Event.{Text, Quantity}
@@ -30,28 +30,48 @@ use Rattle.recall.specs.Places.{contentIf, unitOf, unitAs, UnitRecalled}
 use Rattle.recall.specs.declared.UnitPlace.{UnitPlace}
 use Rattle.recall.specs.declared.UnitPlace.the-variants.{NoQuantity, NoUnit, At}
 use Rattle.unit_checks.specs.Checked.{fitsUnit}
-use Rattle.unit_checks.specs.Codes.{textCode, amountCode, lineCode, CodesKept, keptCode, withCode, SameUnit, codeFits, knownFits}
+use Rattle.unit_checks.specs.Codes.{textCode, amountCode, lineCode, codeIn, startIn, endIn, UnitPlaced, LineWord, PlaceWord, CodesKept, keptWord, withWord, SameUnit, codeFits, knownFits}
 
 pub up-to-five : (us : List NamedUnit) (a : List ℕ) {m : ℕ} → m ≡ unitCode us a → m ≤ 5
 up-to-five us a e = rw e (code-small us a)
 
+-- ---- words
+
+-- of a place
+pub place-plain : {p : Part} → PlaceWord p 6
+unfolding codeIn
+place-plain = record { is = refl; start = λ l. absurd (omega arith); end = λ l. absurd (omega arith) }
+
+pub place-packed : (p : Part) → 1 ≤ p .from → p .from ≤ p .to → p .to ≤ 65535 → PlaceWord p (p .from * 65536 + p .to)
+unfolding codeIn startIn endIn
+place-packed p l o m = record { is = rw (le-ltb (p .from * 65536 + p .to) 16 (omega arith)); start = λ g. omega arith; end = λ g. omega arith }
+
+-- a word that is a code
+plain-word : {units line : List ℕ} {w : ℕ} → w < 16 → w ≡ lineCode units line → LineWord units line w
+unfolding codeIn
+plain-word {w = w} l e = record { is = rw (lt-ltb w 16 l) e; placed = λ g. absurd (omega arith) }
+
 -- ---- of a line
 
-module _ (units : List ℕ) {old : List ℕ} {p : UnitPlace} (q : UnitRecalled old p) where
+module _ {old : List ℕ} {p : UnitPlace} (q : UnitRecalled old p) where
   place-is : {r : UnitPlace} → p ≡ r → unitOf (componentOfLine ingredient old .quantity) ≡ unitAs old r
   place-is e = q .is ∙ ap (unitAs old) e
 
-  pub code-absent : p ≡ NoQuantity → 8 ≡ lineCode units old
+  unit-content : (z : Quantity) (s : Text) → componentOfLine ingredient old .quantity ≡ some z → z .unit ≡ some s → unitOf (componentOfLine ingredient old .quantity) ≡ some (some (s .content))
+  unfolding unitOf contentIf onSome
+  unit-content z s a u = rw (a, u) refl
+
+  pub word-absent : (units : List ℕ) → p ≡ NoQuantity → LineWord units old 8
   unfolding unitAs unitOf onSome lineCode amountCode
-  code-absent e = go (componentOfLine ingredient old .quantity) (place-is e)
+  word-absent units e = plain-word (omega arith) (go (componentOfLine ingredient old .quantity) (place-is e))
     where
       go : (o : Option Quantity) → unitOf o ≡ none → 8 ≡ amountCode (unitsFrom units 0) o
       go none k = refl
       go (some x) k = no-some (sym k)
 
-  pub code-unitless : p ≡ NoUnit → 7 ≡ lineCode units old
+  pub word-unitless : (units : List ℕ) → p ≡ NoUnit → LineWord units old 7
   unfolding unitAs unitOf contentIf onSome lineCode amountCode textCode
-  code-unitless e = go (componentOfLine ingredient old .quantity) (place-is e)
+  word-unitless units e = plain-word (omega arith) (go (componentOfLine ingredient old .quantity) (place-is e))
     where
       none-there : (u : Option Text) → contentIf u ≡ none → 7 ≡ textCode (unitsFrom units 0) u
       none-there none k = refl
@@ -61,34 +81,66 @@ module _ (units : List ℕ) {old : List ℕ} {p : UnitPlace} (q : UnitRecalled o
       go none k = no-some k
       go (some x) k = none-there (x .unit) (some-inj k)
 
-  pub code-there : {x : Part} {g y : List ℕ} {m : ℕ} → p ≡ At x → g ≡ partOf old x → TrimmedTo g y → m ≡ unitCode (unitsFrom units 0) (keptIn y) → m + 1 ≡ lineCode units old
-  unfolding unitAs unitOf contentIf onSome lineCode amountCode textCode
-  code-there {x} {g} {y} {m} e i t c = go (componentOfLine ingredient old .quantity) (place-is e)
-    where
-      unit-there : (u : Option Text) → contentIf u ≡ some (contentIn (partOf old x)) → m + 1 ≡ textCode (unitsFrom units 0) u
-      unit-there none k = no-some k
-      unit-there (some s) k =
-          let w : trimmedText s ≡ trimmedIn (partOf old x) = unfold trimmedText trimmedIn in ap textTrimmed (some-inj k) in
-          let z : trimmedText s ≡ keptIn y = w ∙ ap trimmedIn (sym i) ∙ sym (trimmed-is t) in
-          rw (add-one m) (ap suc (c ∙ ap (unitCode (unitsFrom units 0)) (sym z)))
+  pub same-absent : {f : List ℕ} {r : Bool} → p ≡ NoQuantity → SameUnit old f r
+  unfolding unitAs
+  same-absent n = record { is = λ z s e u. no-some (sym (place-is n) ∙ unit-content z s e u) }
 
-      go : (o : Option Quantity) → unitOf o ≡ some (some (contentIn (partOf old x))) → m + 1 ≡ amountCode (unitsFrom units 0) o
-      go none k = no-some k
-      go (some z) k = unit-there (z .unit) (some-inj k)
+  pub same-unitless : {f : List ℕ} {r : Bool} → p ≡ NoUnit → SameUnit old f r
+  unfolding unitAs
+  same-unitless n = record { is = λ z s e u. no-some (some-inj (sym (place-is n) ∙ unit-content z s e u)) }
+
+  module _ {x : Part} (e : p ≡ At x) where
+    unit-is : (z : Quantity) (s : Text) → componentOfLine ingredient old .quantity ≡ some z → z .unit ≡ some s → trimmedText s ≡ trimmedIn (partOf old x)
+    unfolding unitAs trimmedText trimmedIn
+    unit-is z s a u = ap textTrimmed (sym (some-inj (some-inj (sym (place-is e) ∙ unit-content z s a u))))
+
+    pub same-at : {f g : List ℕ} {r : Bool} → g ≡ partOf old x → r ≡ eqList (trimmedIn g) (trimmedIn f) → SameUnit old f r
+    same-at i c = record { is = λ z s a u. rw (unit-is z s a u, ← i) c }
+
+    module _ (units : List ℕ) {g y : List ℕ} (i : g ≡ partOf old x) (t : TrimmedTo g y) {m : ℕ} (c : m ≡ unitCode (unitsFrom units 0) (keptIn y)) where
+      code-there : m + 1 ≡ lineCode units old
+      unfolding unitAs unitOf contentIf onSome lineCode amountCode textCode
+      code-there = go (componentOfLine ingredient old .quantity) (place-is e)
+        where
+          unit-there : (u : Option Text) → contentIf u ≡ some (contentIn (partOf old x)) → m + 1 ≡ textCode (unitsFrom units 0) u
+          unit-there none k = no-some k
+          unit-there (some s) k =
+              let w : trimmedText s ≡ trimmedIn (partOf old x) = unfold trimmedText trimmedIn in ap textTrimmed (some-inj k) in
+              let z : trimmedText s ≡ keptIn y = w ∙ ap trimmedIn (sym i) ∙ sym (trimmed-is t) in
+              rw (add-one m) (ap suc (c ∙ ap (unitCode (unitsFrom units 0)) (sym z)))
+
+          go : (o : Option Quantity) → unitOf o ≡ some (some (contentIn (partOf old x))) → m + 1 ≡ amountCode (unitsFrom units 0) o
+          go none k = no-some k
+          go (some z) k = unit-there (z .unit) (some-inj k)
+
+      pub word-coded : LineWord units old (m + 1)
+      word-coded = plain-word (omega (arith, up-to-five (unitsFrom units 0) (keptIn y) c)) code-there
+
+      pub word-placed : {w : ℕ} → m ≡ 5 → PlaceWord x w → LineWord units old w
+      unfolding partOf
+      word-placed {w} n k = record { is = k .is ∙ ap suc (sym n) ∙ sym (add-one m) ∙ code-there; placed = there }
+        where
+          there : 16 ≤ w → UnitPlaced old w
+          there l =
+              record {
+                order = rw (k .start l, k .end l) (q .within x e .0);
+                ends = rw (k .end l) (q .within x e .1);
+                is = λ z s a u. rw (k .start l, k .end l) (unit-is z s a u);
+              }
 
 -- ---- what is kept
 
 module _ (codes : List ℕ) (i at end : ℕ) where
-  pub kept-here : getD codes (i * 3) 0 ≡ at → getD codes (i * 3 + 1) 0 ≡ end → getD codes (i * 3 + 2) 0 ≡ keptCode codes i at end
-  unfolding keptCode
+  pub kept-here : getD codes (i * 3) 0 ≡ at → getD codes (i * 3 + 1) 0 ≡ end → getD codes (i * 3 + 2) 0 ≡ keptWord codes i at end
+  unfolding keptWord
   kept-here a b = rw (eq-eqb _ _ a, eq-eqb _ _ b)
 
-  pub kept-start : (getD codes (i * 3) 0 ≡ at → ⊥) → 0 ≡ keptCode codes i at end
-  unfolding keptCode
+  pub kept-start : (getD codes (i * 3) 0 ≡ at → ⊥) → 0 ≡ keptWord codes i at end
+  unfolding keptWord
   kept-start a = rw (ne-eqb _ _ a)
 
-  pub kept-end : getD codes (i * 3) 0 ≡ at → (getD codes (i * 3 + 1) 0 ≡ end → ⊥) → 0 ≡ keptCode codes i at end
-  unfolding keptCode
+  pub kept-end : getD codes (i * 3) 0 ≡ at → (getD codes (i * 3 + 1) 0 ≡ end → ⊥) → 0 ≡ keptWord codes i at end
+  unfolding keptWord
   kept-end a b = rw (eq-eqb _ _ a, ne-eqb _ _ b)
 
 -- what it says
@@ -103,46 +155,37 @@ module _ (o : ℕ) (has : Bool) (m : ℕ) {k : ℕ} (e : k ≡ o) {b : Bool} (s 
 
 -- ---- its unit
 
-module _ {old : List ℕ} {p : UnitPlace} (q : UnitRecalled old p) where
-  unit-as : (r : UnitPlace) → p ≡ r → (z : Quantity) (s : Text) → componentOfLine ingredient old .quantity ≡ some z → z .unit ≡ some s → unitAs old r ≡ some (some (s .content))
-  unfolding unitOf contentIf onSome
-  unit-as r e z s a u =
-      let h : unitOf (componentOfLine ingredient old .quantity) ≡ some (some (s .content)) = rw (a, u) refl in
-      sym (ap (unitAs old) e) ∙ sym (q .is) ∙ h
+pub same-placed : {old f : List ℕ} {w : ℕ} {r : Bool} → UnitPlaced old w → r ≡ eqList (trimmedIn (take (endIn w - startIn w) (drop (startIn w) old))) (trimmedIn f) → SameUnit old f r
+same-placed k c = record { is = λ z s a u. rw (k .is z s a u) c }
 
-  pub same-absent : {f : List ℕ} {r : Bool} → p ≡ NoQuantity → SameUnit old f r
-  unfolding unitAs
-  same-absent n = record { is = λ z s e u. no-some (unit-as NoQuantity n z s e u) }
+-- as they are written
+pub written-same : (g f : List ℕ) {r : Bool} → r ≡ eqList g f → r ≡ true → true ≡ eqList (trimmedIn g) (trimmedIn f)
+written-same g f s t = rw (eq-true g f (sym s ∙ t)) (sym (eq-itself (trimmedIn f)))
 
-  pub same-unitless : {f : List ℕ} {r : Bool} → p ≡ NoUnit → SameUnit old f r
-  unfolding unitAs
-  same-unitless n = record { is = λ z s e u. no-some (some-inj (unit-as NoUnit n z s e u)) }
-
-  module _ {x : Part} {g : List ℕ} (e : p ≡ At x) (i : g ≡ partOf old x) where
-    unit-is : (z : Quantity) (s : Text) → componentOfLine ingredient old .quantity ≡ some z → z .unit ≡ some s → trimmedText s ≡ trimmedIn g
-    unfolding unitAs trimmedText trimmedIn
-    unit-is z s a u = rw i (ap textTrimmed (sym (some-inj (some-inj (unit-as (At x) e z s a u)))))
-
-    pub same-written : {f : List ℕ} {r : Bool} → r ≡ eqList g f → r ≡ true → SameUnit old f true
-    same-written {f} s t = record { is = λ z w a u. rw (unit-is z w a u, eq-true g f (sym s ∙ t)) (sym (eq-itself (trimmedIn f))) }
-
-    pub same-trimmed : {f x y : List ℕ} {r : Bool} → TrimmedTo g y → TrimmedTo f x → r ≡ eqList (keptIn y) (keptIn x) → SameUnit old f r
-    same-trimmed j k c = record { is = λ z w a u. rw (unit-is z w a u, ← trimmed-is j, ← trimmed-is k) c }
+pub written-trimmed : {g f x y : List ℕ} {r : Bool} → TrimmedTo g y → TrimmedTo f x → r ≡ eqList (keptIn y) (keptIn x) → r ≡ eqList (trimmedIn g) (trimmedIn f)
+written-trimmed j k c = rw (← trimmed-is j, ← trimmed-is k) c
 
 -- ---- kept
 
+pub codes-none : {units sheet : List ℕ} → CodesKept units sheet (replicate 1539 0)
+codes-none =
+    record {
+      long = length-replicate {A = ℕ} 1539 0;
+      is = λ i few some. absurd (some (getD-replicate {A = ℕ} 1539 (i * 3 + 2) 0 0 (omega (arith, few))));
+    }
+
 module _ {units sheet codes : List ℕ} (v : CodesKept units sheet codes) (i : ℕ) (l : i < 513) where
-  pub code-kept : (at end : ℕ) {known : ℕ} → known ≡ keptCode codes i at end → (known ≡ 0 → ⊥) → known ≡ lineCode units (take (end - at) (drop at sheet))
-  unfolding keptCode
-  code-kept at end {known} k n = by (eqb (getD codes (i * 3) 0) at) refl (eqb (getD codes (i * 3 + 1) 0) end) refl k
+  pub word-kept : (at end : ℕ) {known : ℕ} → known ≡ keptWord codes i at end → (known ≡ 0 → ⊥) → LineWord units (take (end - at) (drop at sheet)) known
+  unfolding keptWord
+  word-kept at end {known} k n = by (eqb (getD codes (i * 3) 0) at) refl (eqb (getD codes (i * 3 + 1) 0) end) refl k
     where
-      by : (a : Bool) → eqb (getD codes (i * 3) 0) at ≡ a → (b : Bool) → eqb (getD codes (i * 3 + 1) 0) end ≡ b → known ≡ pick a (pick b (getD codes (i * 3 + 2) 0) 0) 0 → known ≡ lineCode units (take (end - at) (drop at sheet))
+      by : (a : Bool) → eqb (getD codes (i * 3) 0) at ≡ a → (b : Bool) → eqb (getD codes (i * 3 + 1) 0) end ≡ b → known ≡ pick a (pick b (getD codes (i * 3 + 2) 0) 0) 0 → LineWord units (take (end - at) (drop at sheet)) known
       by false p b q e = absurd (n e)
       by true p false q e = absurd (n e)
-      by true p true q e = e ∙ v .is i l (λ z. n (e ∙ z)) ∙ rw (eqb-true (getD codes (i * 3) 0) at p, eqb-true (getD codes (i * 3 + 1) 0) end q) refl
+      by true p true q e = rw (e, ← eqb-true (getD codes (i * 3) 0) at p, ← eqb-true (getD codes (i * 3 + 1) 0) end q) (v .is i l (λ z. n (e ∙ z)))
 
   -- one more
-  module _ (at end code : ℕ) where
+  module _ (at end w : ℕ) where
     abbrev one : List ℕ
     one = set codes (i * 3) at
 
@@ -155,37 +198,39 @@ module _ {units sheet codes : List ℕ} (v : CodesKept units sheet codes) (i : �
     two-long : length two ≡ 1539
     two-long = length-set one (i * 3 + 1) end ∙ one-long
 
-    starts : getD (withCode codes i at end code) (i * 3) 0 ≡ at
-    unfolding withCode
+    starts : getD (withWord codes i at end w) (i * 3) 0 ≡ at
+    unfolding withWord
     starts =
-        getD-set-other two (i * 3 + 2) (i * 3) code 0 (λ q. omega arith) ∙ getD-set-other one (i * 3 + 1) (i * 3) end 0 (λ q. omega arith)
+        getD-set-other two (i * 3 + 2) (i * 3) w 0 (λ q. omega arith) ∙ getD-set-other one (i * 3 + 1) (i * 3) end 0 (λ q. omega arith)
         ∙ getD-set-same codes (i * 3) at 0 (omega (arith, v .long))
 
-    ends : getD (withCode codes i at end code) (i * 3 + 1) 0 ≡ end
-    unfolding withCode
-    ends = getD-set-other two (i * 3 + 2) (i * 3 + 1) code 0 (λ q. omega arith) ∙ getD-set-same one (i * 3 + 1) end 0 (omega (arith, one-long))
+    ends : getD (withWord codes i at end w) (i * 3 + 1) 0 ≡ end
+    unfolding withWord
+    ends = getD-set-other two (i * 3 + 2) (i * 3 + 1) w 0 (λ q. omega arith) ∙ getD-set-same one (i * 3 + 1) end 0 (omega (arith, one-long))
 
-    says : getD (withCode codes i at end code) (i * 3 + 2) 0 ≡ code
-    unfolding withCode
-    says = getD-set-same two (i * 3 + 2) code 0 (omega (arith, two-long))
+    says : getD (withWord codes i at end w) (i * 3 + 2) 0 ≡ w
+    unfolding withWord
+    says = getD-set-same two (i * 3 + 2) w 0 (omega (arith, two-long))
 
-    others : (k : ℕ) → (k ≡ i * 3 → ⊥) → (k ≡ i * 3 + 1 → ⊥) → (k ≡ i * 3 + 2 → ⊥) → getD (withCode codes i at end code) k 0 ≡ getD codes k 0
-    unfolding withCode
+    others : (k : ℕ) → (k ≡ i * 3 → ⊥) → (k ≡ i * 3 + 1 → ⊥) → (k ≡ i * 3 + 2 → ⊥) → getD (withWord codes i at end w) k 0 ≡ getD codes k 0
+    unfolding withWord
     others k a b c =
-        getD-set-other two (i * 3 + 2) k code 0 (λ q. c (omega arith)) ∙ getD-set-other one (i * 3 + 1) k end 0 (λ q. b (omega arith))
+        getD-set-other two (i * 3 + 2) k w 0 (λ q. c (omega arith)) ∙ getD-set-other one (i * 3 + 1) k end 0 (λ q. b (omega arith))
         ∙ getD-set-other codes (i * 3) k at 0 (λ q. a (omega arith))
 
-    pub code-added : code ≡ lineCode units (take (end - at) (drop at sheet)) → CodesKept units sheet (withCode codes i at end code)
-    code-added c = record { long = unfold withCode in length-set two (i * 3 + 2) code ∙ two-long; is = λ j g n. by-order i j (λ p. by-order j i (λ q. here j (omega arith)) (λ q. there j g (λ e. omega arith) n)) (λ p. there j g (λ e. omega arith) n) }
+    -- the words of the row j, with that one
+    abbrev Told : ℕ → Type 0
+    Told j = LineWord units (take (getD (withWord codes i at end w) (j * 3 + 1) 0 - getD (withWord codes i at end w) (j * 3) 0) (drop (getD (withWord codes i at end w) (j * 3) 0) sheet)) (getD (withWord codes i at end w) (j * 3 + 2) 0)
+
+    pub word-added : LineWord units (take (end - at) (drop at sheet)) w → CodesKept units sheet (withWord codes i at end w)
+    word-added c = record { long = unfold withWord in length-set two (i * 3 + 2) w ∙ two-long; is = λ j g n. by-order i j (λ p. by-order j i (λ q. here j (omega arith)) (λ q. there j g (λ e. omega arith) n)) (λ p. there j g (λ e. omega arith) n) }
       where
-        here : (j : ℕ) → j ≡ i
-            → getD (withCode codes i at end code) (j * 3 + 2) 0 ≡ lineCode units (take (getD (withCode codes i at end code) (j * 3 + 1) 0 - getD (withCode codes i at end code) (j * 3) 0) (drop (getD (withCode codes i at end code) (j * 3) 0) sheet))
+        here : (j : ℕ) → j ≡ i → Told j
         here j e = rw (e, says, ends, starts) c
 
-        there : (j : ℕ) → j < 513 → (j ≡ i → ⊥) → (getD (withCode codes i at end code) (j * 3 + 2) 0 ≡ 0 → ⊥)
-            → getD (withCode codes i at end code) (j * 3 + 2) 0 ≡ lineCode units (take (getD (withCode codes i at end code) (j * 3 + 1) 0 - getD (withCode codes i at end code) (j * 3) 0) (drop (getD (withCode codes i at end code) (j * 3) 0) sheet))
+        there : (j : ℕ) → j < 513 → (j ≡ i → ⊥) → (getD (withWord codes i at end w) (j * 3 + 2) 0 ≡ 0 → ⊥) → Told j
         there j g d n =
-            let o : getD (withCode codes i at end code) (j * 3 + 2) 0 ≡ getD codes (j * 3 + 2) 0 = others (j * 3 + 2) (λ q. d (omega arith)) (λ q. d (omega arith)) (λ q. d (omega arith)) in
+            let o : getD (withWord codes i at end w) (j * 3 + 2) 0 ≡ getD codes (j * 3 + 2) 0 = others (j * 3 + 2) (λ q. d (omega arith)) (λ q. d (omega arith)) (λ q. d (omega arith)) in
             rw (o, others (j * 3 + 1) (λ q. d (omega arith)) (λ q. d (omega arith)) (λ q. d (omega arith)), others (j * 3) (λ q. d (omega arith)) (λ q. d (omega arith)) (λ q. d (omega arith)))
             (v .is j g (λ z. n (o ∙ z)))
 
@@ -257,19 +302,20 @@ module _ (us : List NamedUnit) {f x : List ℕ} (t : TrimmedTo f x) {m : ℕ} (c
   eight-not true e = omega (arith, new-small, eqb-true 8 (m + 1) e)
   eight-not false e = omega (arith, eqb-true 8 7 e)
 
--- by the code that is kept
+-- by the word that is kept
 module _ {units sheet codes : List ℕ} (v : CodesKept units sheet codes) (i : ℕ) (l : i < 513) {f x : List ℕ} (t : TrimmedTo f x) {m : ℕ} (c : m ≡ unitCode (unitsFrom units 0) (keptIn x)) where
-  pub fits-kept : (at end : ℕ) (has : Bool) {r : Bool} → r ≡ knownFits (keptCode codes i at end) has m → r ≡ true
+  pub fits-kept : (at end : ℕ) (has : Bool) {r : Bool} → r ≡ knownFits (codeIn (keptWord codes i at end)) has m → r ≡ true
       → true ≡ fitsUnit (unitsFrom units 0) (componentOfLine ingredient (take (end - at) (drop at sheet)) .quantity) (pick has (some (trimmedIn f)) none)
   unfolding knownFits lineCode
-  fits-kept at end has {r} k z = by (keptCode codes i at end) refl (eqb (keptCode codes i at end) 6 && has && eqb m 5) refl (sym k ∙ z)
+  fits-kept at end has {r} k z = by (codeIn (keptWord codes i at end)) refl (eqb (codeIn (keptWord codes i at end)) 6 && has && eqb m 5) refl (sym k ∙ z)
     where
-      by : (o : ℕ) → keptCode codes i at end ≡ o → (b : Bool) → (eqb (keptCode codes i at end) 6 && has && eqb m 5) ≡ b → pick b false (codeFits (keptCode codes i at end) has m) ≡ true
+      by : (o : ℕ) → codeIn (keptWord codes i at end) ≡ o → (b : Bool) → (eqb (codeIn (keptWord codes i at end)) 6 && has && eqb m 5) ≡ b → pick b false (codeFits (codeIn (keptWord codes i at end)) has m) ≡ true
           → true ≡ fitsUnit (unitsFrom units 0) (componentOfLine ingredient (take (end - at) (drop at sheet)) .quantity) (pick has (some (trimmedIn f)) none)
       by o e true p q = no-truth q
       by o e false p q =
           let u : codeFits o has m ≡ true = rw e at q in
           let w : (eqb o 6 && has && eqb m 5) ≡ false = rw e at p in
+          let no-word : codeIn 0 ≡ 0 = unfold codeIn in refl in
           fits-coded (unitsFrom units 0) t c (componentOfLine ingredient (take (end - at) (drop at sheet)) .quantity) has
-          (code-kept v i l at end (sym e) (λ n. zero-not (unitsFrom units 0) t c has (rw n at u)))
+          (sym e ∙ word-kept v i l at end refl (λ n. zero-not (unitsFrom units 0) t c has (rw (sym e ∙ ap codeIn n ∙ no-word) at u)) .is)
           (λ n. eight-not (unitsFrom units 0) t c has (rw n at u)) refl w (sym u)

@@ -126,9 +126,6 @@ module _ (us : List NamedUnit) (sheet w : List ℕ) (h : Held) (i : ℕ) (b : Op
   pub not-past : {t : Bool} → t ≡ fitsRow us sheet w h i b → t ≡ false → i < h .counts .ingredients
   not-past e n = by-order (h .counts .ingredients) i (λ l. no-truth (sym n ∙ e ∙ sym (fits-past l))) (λ l. l)
 
-  pub unfit-row : {t : Bool} {r : Row} → AllFit sheet w h → t ≡ fitsRow us sheet w h i b → t ≡ false → r ≡ rowOf (rowAt 12 (take 6156 (drop 0 w)) i) → Fits ingredient sheet r
-  unfit-row f e n = window-fits w i f (not-past e n)
-
 -- a row that fits draws nothing
 pub row-skipped : {us vs : List NamedUnit} {sheet line : List ℕ} {a : OptQuantity} {has : Bool} {g x : List ℕ} {m i : ℕ} {w : List ℕ} {h : Held} {t : Bool} → AllFit sheet w h → us ≡ vs → UnitKnown us line a has g x m
     → t ≡ fitsRow us sheet w h i (pick has (some (trimmedIn g)) none) → t ≡ true → RowChecked vs sheet line a i w h w h

@@ -123,7 +123,29 @@ fn row_fits(
     kept::line_fits(t, units, index, codes, sheet, at, end, i, has, f, x, m)
 }
 
-// The unit of a new ingredient's quantity `a`, of its line, against that of the row i; nothing where there is no such row.
+// The unit of a new ingredient's quantity `a`, of its line, against that of the row i.
+fn row_against(
+    t: &[u32],
+    units: &[u8],
+    index: &[u32],
+    words: &mut [u32],
+    h: Held,
+    sheet: &[u8],
+    line: &[u8],
+    a: OptQuantity,
+    i: usize,
+) -> Held
+    requires { ⌜ (now t ≡ unicodeTables) × Indexed (now units) (now index) × OptQuantityWithin (now line) a × Sound (now words) h × AllFit (now sheet) (now words) h × (h .counts .findings < 1544) × (i < h .counts .ingredients) ⌝ }
+    ensures { λ r. ⌜ RowChecked (unitsOr (readUnits (now (units .entry)))) (now (sheet .entry)) (now (line .entry)) a i (now (words .entry)) h (now (words .exit)) r ⌝ }
+{
+    let r = model::row_at(&words[0..6156], i);
+    let at = r.line_at as usize;
+    let end = r.line_end as usize;
+    let b = recall::quantity_in(&sheet[at..end]);
+    checks::unit_pair(t, units, index, words, h, line, a, &sheet[at..end], b)
+}
+
+// The same where they do not fit; nothing where there is no such row.
 fn unit_against(
     t: &[u32],
     units: &[u8],
@@ -146,11 +168,7 @@ fn unit_against(
     if row_fits(t, units, index, codes, words, h, sheet, has, f, x, m, i) {
         return h;
     }
-    let r = model::row_at(&words[0..6156], i);
-    let at = r.line_at as usize;
-    let end = r.line_end as usize;
-    let b = recall::quantity_in(&sheet[at..end]);
-    checks::unit_pair(t, units, index, words, h, line, a, &sheet[at..end], b)
+    row_against(t, units, index, words, h, sheet, line, a, i)
 }
 
 // Against those of all rows that refer to the row d, oldest first.
@@ -188,22 +206,7 @@ fn referrer_check(
         };
         let j = i as usize;
         if !row_fits(t, units, index, codes, words, k, sheet, has, f, x, m, j) {
-            k = unit_against(
-                t,
-                units,
-                index,
-                codes,
-                words,
-                k,
-                sheet,
-                line,
-                a,
-                has,
-                f,
-                x,
-                m,
-                j,
-            );
+            k = row_against(t, units, index, words, k, sheet, line, a, j);
         }
         from = next;
     }

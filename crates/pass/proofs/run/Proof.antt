@@ -2,7 +2,7 @@ use borrow.Author.Needs.{needs}
 use native.Mathlib.Omega.{arith}
 use mathlib.Core.Path.{sym}
 use Rattle.unit_checks.specs.Codes.{CodesKept}
-use Rattle.pass.proofs.Codes.{codes-none}
+use Rattle.unit_checks.proofs.Codes.{codes-none}
 use Rattle.rules.specs.Answer.{unitsOr}
 use Rattle.rules.specs.Units.{readUnits}
 use lib.ListN.{length}

@@ -1,101 +1,45 @@
 use borrow.Author.Needs.{needs}
 use native.Mathlib.Omega.{arith}
-use Rattle.rules.specs.Model.{ingredient}
+use Rattle.unit_checks.proofs.Units.{not-past, row-skipped}
 use Rattle.units.proofs.Walks.{units-start}
-use Rattle.unit_checks.proofs.Rows.{line-kind}
-use Rattle.unit_checks.proofs.Units.{not-past, unfit-row, row-skipped, row-checked}
 use Rattle.unit_checks.proofs.unit_against.Statement.{statement}
 use Rattle.unit_checks.proofs.unit_against.Tie as tie
 use Rattle.unit_checks.proofs.unit_against.Reads as reads
 use Rattle.unit_checks.proofs.unit_against.Lts as lts
-use Rattle.checks.proofs.unit_pair.Reads as unit-pair-reads
-use Rattle.model.proofs.row_at.Reads as row-at-reads
-use Rattle.recall.proofs.quantity_in.Reads as quantity-in-reads
+use Rattle.unit_checks.proofs.row_against.Reads as row-against-reads
 use Rattle.unit_checks.proofs.row_fits.Reads as row-fits-reads
 
--- src/lib.rt:244:8
+-- src/lib.rt:168:8
 row-fits-requires : tie.Need-row-fits-requires
 row-fits-requires c κs = (c .before .before .before .before .before .before .before .before .before .before .before .pre .0, c .before .before .before .before .before .before .before .before .before .before .before .pre .1, c .before .before .before .before .before .before .before .before .before .before .before .pre .7, c .before .before .before .before .before .before .before .before .before .before .before .pre .4, c .before .before .before .before .before .before .before .before .before .before .before .pre .5, c .before .before .before .before .before .before .before .before .before .before .before .pre .3 .trimmed, c .before .before .before .before .before .before .before .before .before .before .before .pre .3 .code)
 
--- src/lib.rt:245:9
+-- src/lib.rt:169:9
 same-length : tie.Need-same-length
 same-length c = search needs
 
--- src/lib.rt:245:9
+-- src/lib.rt:169:9
 same-length-2 : tie.Need-same-length-2
 same-length-2 c = search needs
 
--- src/lib.rt:245:9
+-- src/lib.rt:169:9
 returns : tie.Need-returns
 returns c = (row-skipped (c .before .before .before .before .before .before .before .before .before .before .before .before .before .before .before .pre .5) (units-start _ (c .before .before .before .before .before .before .before .before .before .before .before .before .before .before .before .pre .1 .list)) (c .before .before .before .before .before .before .before .before .before .before .before .before .before .before .before .pre .3) (c .before .before .before .row-fits .ensures .0) (c .if1 .taken), c .before .before .before .row-fits .ensures .1)
 
--- src/lib.rt:247:27
-sub-row-at : tie.Need-sub-row-at
-sub-row-at c = search needs
+-- src/lib.rt:171:5
+row-against-requires : tie.Need-row-against-requires
+row-against-requires c κs = (c .before .before .before .before .before .before .before .before .before .before .before .before .before .before .before .before .pre .0, c .before .before .before .before .before .before .before .before .before .before .before .before .before .before .before .before .pre .1, c .before .before .before .before .before .before .before .before .before .before .before .before .before .before .before .before .pre .2, c .before .before .before .before .before .before .before .before .before .before .before .before .before .before .before .before .pre .4, c .before .before .before .before .before .before .before .before .before .before .before .before .before .before .before .before .pre .5, c .before .before .before .before .before .before .before .before .before .before .before .before .before .before .before .before .pre .6, not-past _ _ _ _ _ _ (c .before .before .before .before .row-fits .ensures .0) (c .before .if1 .left))
 
--- src/lib.rt:247:27
-part-row-at-start : tie.Need-part-row-at-start
-part-row-at-start c = search needs
-
--- src/lib.rt:247:27
-part-row-at-end : tie.Need-part-row-at-end
-part-row-at-end c = search needs
-
--- src/lib.rt:247:9
-row-at-requires : tie.Need-row-at-requires
-row-at-requires c κs = omega (arith, not-past _ _ _ _ _ _ (c .before .before .before .before .before .row-fits .ensures .0) (c .before .before .if1 .left), c .before .before .before .before .before .before .before .before .before .before .before .before .before .before .before .before .before .pre .4 .room .ingredients, c .before .before .before .before .before .before .before .before .before .before .before .before .before .before .before .before .before .pre .4 .long)
-
--- src/lib.rt:248:14
-cast-at : tie.Need-cast-at
-cast-at c = search needs
-
--- src/lib.rt:249:15
-cast-end : tie.Need-cast-end
-cast-end c = search needs
-
--- src/lib.rt:250:33
-sub-quantity-in : tie.Need-sub-quantity-in
-sub-quantity-in c = let f = unfit-row _ _ _ _ _ _ (c .before .before .before .before .before .before .before .before .before .before .before .before .before .before .before .before .before .before .before .before .pre .5) (c .before .before .before .before .before .before .before .before .row-fits .ensures .0) (c .before .before .before .before .before .if1 .left) (c .before .before .row-at .ensures) in omega (arith, f .line .order, f .line .most)
-
--- src/lib.rt:250:33
-part-quantity-in-start : tie.Need-part-quantity-in-start
-part-quantity-in-start c = let f = unfit-row _ _ _ _ _ _ (c .before .before .before .before .before .before .before .before .before .before .before .before .before .before .before .before .before .before .before .before .pre .5) (c .before .before .before .before .before .before .before .before .row-fits .ensures .0) (c .before .before .before .before .before .if1 .left) (c .before .before .row-at .ensures) in omega (arith, f .line .order, f .line .most)
-
--- src/lib.rt:250:33
-part-quantity-in-end : tie.Need-part-quantity-in-end
-part-quantity-in-end c = let f = unfit-row _ _ _ _ _ _ (c .before .before .before .before .before .before .before .before .before .before .before .before .before .before .before .before .before .before .before .before .pre .5) (c .before .before .before .before .before .before .before .before .row-fits .ensures .0) (c .before .before .before .before .before .if1 .left) (c .before .before .row-at .ensures) in omega (arith, f .line .order, f .line .most)
-
--- src/lib.rt:250:9
-quantity-in-requires : tie.Need-quantity-in-requires
-quantity-in-requires c κs = let f = unfit-row _ _ _ _ _ _ (c .before .before .before .before .before .before .before .before .before .before .before .before .before .before .before .before .before .before .before .before .before .pre .5) (c .before .before .before .before .before .before .before .before .before .row-fits .ensures .0) (c .before .before .before .before .before .before .if1 .left) (c .before .before .before .row-at .ensures) in line-kind ingredient f
-
--- src/lib.rt:251:59
-sub-unit-pair : tie.Need-sub-unit-pair
-sub-unit-pair c = let f = unfit-row _ _ _ _ _ _ (c .before .before .before .before .before .before .before .before .before .before .before .before .before .before .before .before .before .before .before .before .before .before .before .pre .5) (c .before .before .before .before .before .before .before .before .before .before .before .row-fits .ensures .0) (c .before .before .before .before .before .before .before .before .if1 .left) (c .before .before .before .before .before .row-at .ensures) in omega (arith, f .line .order, f .line .most)
-
--- src/lib.rt:251:59
-part-unit-pair-start : tie.Need-part-unit-pair-start
-part-unit-pair-start c = let f = unfit-row _ _ _ _ _ _ (c .before .before .before .before .before .before .before .before .before .before .before .before .before .before .before .before .before .before .before .before .before .before .before .pre .5) (c .before .before .before .before .before .before .before .before .before .before .before .row-fits .ensures .0) (c .before .before .before .before .before .before .before .before .if1 .left) (c .before .before .before .before .before .row-at .ensures) in omega (arith, f .line .order, f .line .most)
-
--- src/lib.rt:251:59
-part-unit-pair-end : tie.Need-part-unit-pair-end
-part-unit-pair-end c = let f = unfit-row _ _ _ _ _ _ (c .before .before .before .before .before .before .before .before .before .before .before .before .before .before .before .before .before .before .before .before .before .before .before .pre .5) (c .before .before .before .before .before .before .before .before .before .before .before .row-fits .ensures .0) (c .before .before .before .before .before .before .before .before .if1 .left) (c .before .before .before .before .before .row-at .ensures) in omega (arith, f .line .order, f .line .most)
-
--- src/lib.rt:251:5
-unit-pair-requires : tie.Need-unit-pair-requires
-unit-pair-requires c κs = (c .before .before .before .before .before .before .before .before .before .before .before .before .before .before .before .before .before .before .before .before .before .before .before .before .pre .0, c .before .before .before .before .before .before .before .before .before .before .before .before .before .before .before .before .before .before .before .before .before .before .before .before .pre .1, c .before .before .before .before .before .before .before .before .before .before .before .before .before .before .before .before .before .before .before .before .before .before .before .before .pre .2, c .before .before .quantity-in .ensures .within, c .before .before .before .before .before .before .before .before .before .before .before .before .before .before .before .before .before .before .before .before .before .before .before .before .pre .4, c .before .before .before .before .before .before .before .before .before .before .before .before .before .before .before .before .before .before .before .before .before .before .before .before .pre .6)
-
--- src/lib.rt:225:1
+-- src/lib.rt:149:1
 same-length-3 : tie.Need-same-length-3
 same-length-3 c = search needs
 
--- src/lib.rt:225:1
+-- src/lib.rt:149:1
 same-length-4 : tie.Need-same-length-4
 same-length-4 c = search needs
 
--- src/lib.rt:225:1
+-- src/lib.rt:149:1
 returns-2 : tie.Need-returns-2
-returns-2 c = (row-checked (c .before .before .before .before .before .before .before .before .before .before .before .before .before .before .before .before .before .before .before .before .before .before .before .before .before .before .before .args .i) (c .before .before .before .before .before .before .before .before .before .before .before .before .before .before .before .before .before .before .before .before .before .before .before .before .before .before .before .pre .5) (not-past _ _ _ _ _ _ (c .before .before .before .before .before .before .before .before .before .before .before .before .before .before .before .row-fits .ensures .0) (c .before .before .before .before .before .before .before .before .before .before .before .before .if1 .left)) (c .before .before .before .before .before .before .before .before .before .row-at .ensures) (c .before .before .before .before .before .quantity-in .ensures) (c .before .before .unit-pair .ensures), c .before .before .before .before .before .before .before .before .before .before .before .before .before .before .before .row-fits .ensures .1)
+returns-2 c = (c .before .before .row-against .ensures, c .before .before .before .before .before .before .before .row-fits .ensures .1)
 
 pub unit-against-spec : {M : Type 1} → statement M
 unit-against-spec =
@@ -105,20 +49,7 @@ unit-against-spec =
     same-length
     same-length-2
     returns
-    sub-row-at
-    part-row-at-start
-    part-row-at-end
-    row-at-requires
-    cast-at
-    cast-end
-    sub-quantity-in
-    part-quantity-in-start
-    part-quantity-in-end
-    quantity-in-requires
-    sub-unit-pair
-    part-unit-pair-start
-    part-unit-pair-end
-    unit-pair-requires
+    row-against-requires
     same-length-3
     same-length-4
     returns-2)

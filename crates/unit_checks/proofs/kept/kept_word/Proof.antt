@@ -1,10 +1,10 @@
 use borrow.Author.Needs.{needs}
 use native.Mathlib.Omega.{arith}
 use Rattle.unit_checks.proofs.Codes.{kept-here, kept-start, kept-end}
-use Rattle.unit_checks.proofs.kept.kept_code.Statement.{statement}
-use Rattle.unit_checks.proofs.kept.kept_code.Tie as tie
-use Rattle.unit_checks.proofs.kept.kept_code.Reads as reads
-use Rattle.unit_checks.proofs.kept.kept_code.Lts as lts
+use Rattle.unit_checks.proofs.kept.kept_word.Statement.{statement}
+use Rattle.unit_checks.proofs.kept.kept_word.Tie as tie
+use Rattle.unit_checks.proofs.kept.kept_word.Reads as reads
+use Rattle.unit_checks.proofs.kept.kept_word.Lts as lts
 
 -- src/lib.rt:127:14
 mul-if1 : tie.Need-mul-if1
@@ -62,8 +62,8 @@ returns-2 c = kept-end _ _ _ _ (c .before .before .if1 .taken) (c .if2 .left)
 returns-3 : tie.Need-returns-3
 returns-3 c = kept-start _ _ _ _ (c .if1 .left)
 
-pub kept-code-spec : {M : Type 1} → statement M
-kept-code-spec =
+pub kept-word-spec : {M : Type 1} → statement M
+kept-word-spec =
     tie.close
     (tie.spec
     mul-if1

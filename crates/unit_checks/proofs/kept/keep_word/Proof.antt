@@ -2,11 +2,11 @@ use borrow.Author.Needs.{needs}
 use native.Mathlib.Omega.{arith}
 use mathlib.Core.Path.{refl}
 use lib.ListN.{length-set}
-use Rattle.unit_checks.specs.Codes.{withCode}
-use Rattle.unit_checks.proofs.kept.keep_code.Statement.{statement}
-use Rattle.unit_checks.proofs.kept.keep_code.Tie as tie
-use Rattle.unit_checks.proofs.kept.keep_code.Reads as reads
-use Rattle.unit_checks.proofs.kept.keep_code.Lts as lts
+use Rattle.unit_checks.specs.Codes.{withWord}
+use Rattle.unit_checks.proofs.kept.keep_word.Statement.{statement}
+use Rattle.unit_checks.proofs.kept.keep_word.Tie as tie
+use Rattle.unit_checks.proofs.kept.keep_word.Reads as reads
+use Rattle.unit_checks.proofs.kept.keep_word.Lts as lts
 
 -- src/lib.rt:140:13
 mul-a : tie.Need-mul-a
@@ -58,11 +58,11 @@ same-length c = search needs
 
 -- src/lib.rt:136:1
 returns : tie.Need-returns
-unfolding withCode
+unfolding withWord
 returns c = refl
 
-pub keep-code-spec : {M : Type 1} → statement M
-keep-code-spec =
+pub keep-word-spec : {M : Type 1} → statement M
+keep-word-spec =
     tie.close
     (tie.spec
     mul-a
