@@ -326,11 +326,19 @@ def further():
     yield "512 amounts in a unit that is not in the list", in_step(amounts(512, ["foo"])), b"@", units
     yield "the same, written in two ways", in_step(amounts(512, ["fo\\\\o", " fo\\\\o"])), b"@", units
     yield ("two names of 15,000 Cyrillic letters",) + long_pair("аб" * 7500, "АБ" * 7500)
+    yield ("two names of 15,000 Greek letters",) + long_pair("αβ" * 7500, "ΑΒ" * 7500)
+    yield ("two names of 10,000 Vietnamese letters",) + long_pair("ạả" * 5000, "ẠẢ" * 5000)
     yield ("two names of 10,000 CJK characters",) + long_pair("麵粉" * 5000, "麵粉" * 5000)
+    yield ("two names of 10,000 full stops",) + long_pair("。" * 10000, "。" * 10000)
     yield ("two names with 12,000 blanks",) + long_pair("a  b " * 6000, "A  B " * 6000)
     yield ("15,000 times ß beside ss",) + long_pair("ß" * 15000, "ss" * 15000)
     yield ("a text of 60 KB in CJK",) + one_text("麵粉" * 10000, "")
     yield ("the same with 4,300 numbers, one word",) + one_text("5克的麵粉" * 4300, "克\tmass\n")
+    yield ("3,600 numbers and full stops, one word",) + one_text("5克的麵粉。" * 3600, "克\tmass\n")
+    yield ("3,400 numbers and full stops, words",) + one_text("5克的麵粉。 " * 3400, "克\tmass\n")
+    yield ("2,000 numbers before words of 9 characters",) + one_text("5克的麵粉一杯糖。 " * 2000, units)
+    sheet, text, none = one_text("。" * 20000, "")
+    yield "a text of 20,000 full stops in components mode", "meta\t0\t1\t[mode]\t0\t1\tcomponents\n" + sheet, text, none
     yield ("a text of 24,000 escapes",) + one_text("a\\n\\\\" * 12000, "")
     yield ("a text of 15,000 numbers",) + one_text("1.5 " * 15000, "g\tmass\n")
     yield "3,600 times one metadata key", "meta\t0\t0\tk\t0\t0\tv\n" * 3600, b"", ""
