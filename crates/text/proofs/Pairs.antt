@@ -30,7 +30,7 @@ use Rattle.text.specs.declared.meets.Next.{Next}
 use Rattle.text.specs.declared.meets.Next.the-variants.{Other, Past}
 use Rattle.text.specs.Names.{foldFrom}
 use Rattle.text.proofs.Plain.{plain-stands, fold-stands}
-use Rattle.text.specs.Seams.{sameAt, Seam, SmallS, StartsSs, pairOf, Following, other, past, Ahead, apart, level, firstShort, secondShort, several, Met, answered, onward, unclear, Settled}
+use Rattle.text.specs.Seams.{sameAt, Seam, LetterS, StartsSs, pairOf, Following, other, past, Ahead, apart, level, firstShort, secondShort, several, Met, answered, onward, unclear, Settled}
 
 -- ---- the ways of `meet`: ends
 
@@ -274,23 +274,23 @@ module _ (a b : List ℕ) {x y : Char} (p : KeptStep a 0 x) (q : KeptStep b 0 y)
 
 -- ---- ß and ss
 
-s-small : SmallS 115
+s-small : LetterS 115
 unfolding plainByte
 s-small = record { plain = refl; is = refl }
 
-s-capital : SmallS 83
+s-capital : LetterS 83
 unfolding plainByte
 s-capital = record { plain = refl; is = refl }
 
-pub letter-s : (c : ℕ) → (eqb c 115 || eqb c 83) ≡ true → SmallS c
+pub letter-s : (c : ℕ) → (eqb c 115 || eqb c 83) ≡ true → LetterS c
 letter-s c t = go (eqb c 115) refl t
   where
-    go : (b : Bool) → eqb c 115 ≡ b → (b || eqb c 83) ≡ true → SmallS c
+    go : (b : Bool) → eqb c 115 ≡ b → (b || eqb c 83) ≡ true → LetterS c
     go true e t = rw (eqb-true c 115 e) s-small
     go false e t = rw (eqb-true c 83 t) s-capital
 
 module _ (s : List ℕ) (h : 2 ≤ length s) where
-  pub starts-double : SmallS (getD s 0 0) → SmallS (getD s 1 0) → StartsSs s
+  pub starts-double : LetterS (getD s 0 0) → LetterS (getD s 1 0) → StartsSs s
   unfolding foldFrom
   starts-double v w =
       let p = plain-stands s 0 (omega arith) (v .plain) in

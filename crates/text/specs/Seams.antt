@@ -79,7 +79,7 @@ pub record Settled (a : List ℕ) (i : ℕ) (b : List ℕ) (j : ℕ) (p : Pair) 
   pub is : (i₀ j₀ : ℕ) → i₀ < i → Ahead (foldFrom a i) (foldFrom b j) (sameAt a i₀ b j₀) p → Met a i₀ b j₀ m
 
 -- a byte that is the letter s, in whatever case
-pub record SmallS (c : ℕ) : Type 0 where
+pub record LetterS (c : ℕ) : Type 0 where
   pub plain : plainByte c ≡ true
   pub is : lowered c ≡ 115
 

@@ -446,6 +446,7 @@ pub fn same_name(t: &[u32], a: &[u8], b: &[u8]) -> bool
     if fronts::is_parted(a, 0, b, 0) {
         return false;
     }
+    // a name of one byte has no other last one; called in two places, the comparison stays out of the loop over names
     if a.len() < 2 {
         return same_whole(t, a, b);
     }

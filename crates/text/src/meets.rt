@@ -5,7 +5,7 @@ ghost use mathlib.Core.Bool.{true};
 ghost use Prim.Native.Nat.{_≤_};
 ghost use lib.ListN.{length};
 ghost use Rattle.unicode.specs.Tables.{unicodeTables};
-ghost use Rattle.text.specs.Seams.{Seam, pairOf, Following, Settled, SmallS, StartsSs};
+ghost use Rattle.text.specs.Seams.{Seam, pairOf, Following, Settled, LetterS, StartsSs};
 
 // The answer, or where to go on.
 pub(crate) enum Meeting {
@@ -136,7 +136,7 @@ fn wide_pair(t: &[u32], a: &[u8], b: &[u8]) -> usize
 
 // Whether a byte is the letter s.
 fn is_s(c: u8) -> bool
-    ensures { λ r. ⌜ (r ≡ true → SmallS c) ⌝ }
+    ensures { λ r. ⌜ (r ≡ true → LetterS c) ⌝ }
 {
     (c == b's') | (c == b'S')
 }

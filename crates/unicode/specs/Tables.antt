@@ -35,12 +35,13 @@ unfoldable pub keysBelow : ℕ → List FoldLine → ℕ
 keysBelow c [] = 0
 keysBelow c ((k foldsTo m) ∷ ls) = pick (ltb k c) (1 + keysBelow c ls) 0
 
--- what c folds to; where that is several code points, 0x110000 and the place of its key
+-- the word of c, where m is what c folds to: the one code point of m; or, where m has several, 0x110000 and the place of c's line
 unfoldable pub wordFor : ℕ → List ℕ → ℕ
 wordFor c [] = 0
 wordFor c (x ∷ []) = x
 wordFor c (x ∷ y ∷ xs) = 0x110000 + keysBelow c folding
 
+-- the word of c
 unfoldable pub nearWord : ℕ → ℕ
 nearWord c = wordFor c (fold c)
 

@@ -105,7 +105,7 @@ pub record Cleared (index : List ℕ) : Type 0 where
   pub long : length index ≡ 2305
   pub heads : (b : ℕ) → b < 256 → head index b ≡ 0
 
--- the last word is at least a size
+-- the last word is raised to a size, where it was less
 pub record LongestKept (index₀ : List ℕ) (size : ℕ) (index : List ℕ) : Type 0 where
   pub is : index ≡ pick (ltb (longest index₀) size) (set index₀ 2304 size) index₀
 
