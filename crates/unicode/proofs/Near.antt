@@ -18,7 +18,7 @@ use Rattle.unicode.specs.Tables.{column, keysBelow, wordFor, nearWord, n
 use Rattle.unicode.specs.Folded.{rowOf}
 use Rattle.unicode.proofs.Ascii.{alone, alone-is}
 use Rattle.unicode.proofs.Below.{allBelow, below}
-use Rattle.unicode.proofs.Windows.{columns, in-window}
+use Rattle.unicode.proofs.Windows.{columns, in-window, rowIn, row-window}
 
 -- ---- the words
 
@@ -27,10 +27,6 @@ unfolding near
 near-at j zero i h = absurd (not-suc-le-zero h)
 near-at j (suc n) zero h = let z : j ≡ j + 0 = omega arith in ap (λ (k : ℕ). nearWord (nearCode k)) z
 near-at j (suc n) (suc i) h = let z : suc j + i ≡ j + suc i = omega arith in near-at (suc j) n i (omega arith) ∙ ap (λ (k : ℕ). nearWord (nearCode k)) z
-
--- the row at a place of the folding
-abbrev rowIn : ℕ → List ℕ
-rowIn k = rowOf (getD (column 0 folding) k 0) (getD (column 1 folding) k 0) (getD (column 2 folding) k 0)
 
 -- the word x tells the folding m
 abbrev tells : ℕ → List ℕ → Bool
@@ -92,15 +88,7 @@ module _ (t : List ℕ) (e : t ≡ unicodeTables) (i : ℕ) (h : i < 1800) where
     near-row l r z =
         let k = x - 0x110000 in
         let f = near-few l in
-        z ∙ rw (
-          in-window 1557 3379 t k f,
-          in-window 1557 4936 t k f,
-          in-window 1557 6493 t k f,
-          columns e .fold-first,
-          columns e .fold-second,
-          columns e .fold-third,
-        )
-        (eq-true (rowIn k) (fold (nearCode i)) (and-right (ltb k 1557) (eqList (rowIn k) (fold (nearCode i))) (several l)))
+        z ∙ row-window e k f ∙ (eq-true (rowIn k) (fold (nearCode i)) (and-right (ltb k 1557) (eqList (rowIn k) (fold (nearCode i))) (several l)))
 
 -- ---- the two blocks
 

@@ -18,7 +18,7 @@ use Rattle.unicode.specs.Search.{Ascending, Place}
 use Rattle.unicode.specs.Tables.{keys, column, unicodeTables}
 use Rattle.unicode.specs.Folded.{rowOf}
 use Rattle.unicode.proofs.Places.{keys-ascending}
-use Rattle.unicode.proofs.Windows.{columns, in-window}
+use Rattle.unicode.proofs.Windows.{columns, in-window, row-window}
 
 -- ---- a mapping and its row: no code point of a mapping is 0, which the row has for none
 
@@ -85,15 +85,7 @@ module _ (t : List ℕ) (e : t ≡ unicodeTables) where
         → r ≡ rowOf (getD t (3379 + k) 0) (getD t (4936 + k) 0) (getD t (6493 + k) 0) → r ≡ fold c
     unfolding fold
     row-found h q z =
-        z ∙ rw (
-          in-window 1557 3379 t k h,
-          in-window 1557 4936 t k h,
-          in-window 1557 6493 t k h,
-          columns e .fold-first,
-          columns e .fold-second,
-          columns e .fold-third,
-        )
-        (found folding c k mapped-are-shaped (omega (arith, keys-long)) (place .below)
+        z ∙ row-window e k h ∙ (found folding c k mapped-are-shaped (omega (arith, keys-long)) (place .below)
         (ap (λ (l : List ℕ). getD l k 0) (sym (columns e .fold-keys)) ∙ sym (in-window 1557 1822 t k h) ∙ q))
 
     pub row-other : k < 1557 → (getD t (1822 + k) 0 ≡ c → ⊥) → c ∷ [] ≡ fold c

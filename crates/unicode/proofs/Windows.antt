@@ -10,6 +10,7 @@ use Rattle.rules.specs.WhiteSpace.{whiteSpace}
 use Rattle.rules.specs.Ranges.{lookup}
 use Rattle.rules.specs.Folding.{folding}
 use Rattle.rules.specs.Unicode.{fold}
+use Rattle.unicode.specs.Folded.{rowOf}
 use Rattle.unicode.specs.Tables.{starts, ends, keys, column, keysBelow, wordFor, nearWord, nearCode, near, unicodeTables}
 
 -- the tables hold what the rules say: each column stands where the code reads it
@@ -51,3 +52,18 @@ columns e = rw e all-columns
 -- an element of a window
 pub in-window : (n a : ℕ) (t : List ℕ) (k : ℕ) → k < n → getD t (a + k) 0 ≡ getD (take n (drop a t)) k 0
 in-window n a t k h = sym (getD-take n (drop a t) k 0 h ∙ getD-drop a t k 0)
+
+-- the row at a place of the folding
+abbrev pub rowIn : ℕ → List ℕ
+rowIn k = rowOf (getD (column 0 folding) k 0) (getD (column 1 folding) k 0) (getD (column 2 folding) k 0)
+
+pub row-window : {t : List ℕ} → t ≡ unicodeTables → (k : ℕ) → k < 1557 → rowOf (getD t (3379 + k) 0) (getD t (4936 + k) 0) (getD t (6493 + k) 0) ≡ rowIn k
+row-window {t} e k h =
+    rw (
+      in-window 1557 3379 t k h,
+      in-window 1557 4936 t k h,
+      in-window 1557 6493 t k h,
+      columns e .fold-first,
+      columns e .fold-second,
+      columns e .fold-third,
+    )
