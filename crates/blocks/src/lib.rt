@@ -16,7 +16,7 @@ use model::{Define, Held, Open};
 use parts::{OptText, Span};
 
 // What a line leaves: the small state after it, or the number of a refusal.
-#[derive(Drop)]
+#[derive(Clone, Copy)]
 pub enum Passed {
     Next(Held),
     Stop(u32),

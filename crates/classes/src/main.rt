@@ -8,7 +8,7 @@ use unicode::Folded;
 const POINTS: u32 = 1114112;
 
 // How many code points were seen, and the sum of each times its place from 1, modulo 2 ^ 32.
-#[derive(Drop)]
+#[derive(Clone, Copy)]
 struct Sum {
     count: u32,
     total: u64,
@@ -43,7 +43,7 @@ fn and_all(s: Sum, f: Folded) -> Sum {
     }
 }
 
-#[derive(Drop)]
+#[derive(Clone, Copy)]
 enum Class {
     White,
     Alphabetic,

@@ -18,7 +18,7 @@ use Rattle.rules.specs.Components.{Made, lock_findings, new_entry, found_same, c
 use Rattle.parts.specs.Views.{opt_quantity_in}
 use Rattle.components.specs.Views.{modifiers_in, component_in, ComponentWithin}
 use Rattle.components.specs.declared.ComponentView.{ComponentView}
-use Rattle.model.specs.Contracts.{found_of}
+use Rattle.model.specs.Searches.{found_of}
 use Rattle.model.specs.Rows.{entry_as}
 use Rattle.model.specs.Memory.{define_of, state_of, state_in, Sound}
 use Rattle.model.specs.Fits.{AllFit}

@@ -24,7 +24,7 @@ use Rattle.components.specs.Views.{modifiers_in, component_in, intermediate_in}
 use Rattle.components.specs.declared.ComponentView.{ComponentView}
 use Rattle.components.specs.declared.Modifiers.{Modifiers}
 use Rattle.components.specs.declared.Intermediate.{Intermediate}
-use Rattle.model.specs.Contracts.{found_of}
+use Rattle.model.specs.Searches.{found_of}
 use Rattle.model.specs.Rows.{entry_as}
 use Rattle.model.specs.Memory.{define_of, state_of, state_in, Sound}
 use Rattle.model.specs.Fits.{Fits, AllFit}

@@ -18,7 +18,7 @@ use Rattle.components.specs.declared.ComponentView.{ComponentView}
 use Rattle.components.specs.declared.Intermediate.{Intermediate}
 use Rattle.known_events.specs.Fields.{TextField}
 use Rattle.model.specs.Blank.{blank}
-use Rattle.model.specs.Contracts.{found_of}
+use Rattle.model.specs.Searches.{found_of}
 use Rattle.model.specs.Rows.{component_of_line, relation_in}
 use Rattle.model.specs.Memory.{state_in, Sound}
 use Rattle.model.specs.Fits.{is_of_kind, WholeLine, AllFit}

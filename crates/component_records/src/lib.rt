@@ -10,7 +10,7 @@ use model::{Relation, RelationRecord, Row, Target};
 
 // A component of a recipe as it is lent: its line in the sheet, its name in it (after a path, still escaped), its modifiers
 // and its relation after the pass.
-#[derive(Drop)]
+#[derive(Clone, Copy)]
 pub struct Component {
     pub line_at: u32,
     pub line_end: u32,
@@ -117,7 +117,7 @@ pub fn lend_records(words: &[u32], from: usize, count: usize, all: &mut [Compone
 // ---- pairs
 
 // What linking a reference to its definition answers.
-#[derive(Drop)]
+#[derive(Clone, Copy)]
 pub enum Linked {
     // The pair stands.
     Pair,

@@ -4,7 +4,7 @@ ghost use Rattle.rules.specs.Read.{leads, modifier_letters, modifiers_of};
 ghost use Rattle.components.specs.Views.{Skips, modifiers_told};
 ghost use Rattle.components.specs.Got.{ModifiersRead, ComponentRead, SignedRead, ReferenceRead, TargetRead, IntermediateRead, OptIntermediateRead};
 
-#[derive(Drop)]
+#[derive(Clone, Copy)]
 pub struct Modifiers {
     pub recipe: bool,
     pub reference: bool,
@@ -13,7 +13,7 @@ pub struct Modifiers {
     pub new: bool,
 }
 
-#[derive(Drop)]
+#[derive(Clone, Copy)]
 pub struct ComponentView {
     pub span: parts::Span,
     pub name: parts::TextView,
@@ -24,19 +24,19 @@ pub struct ComponentView {
     pub modifiers_span: parts::Span,
 }
 
-#[derive(Drop)]
+#[derive(Clone, Copy)]
 pub struct SignedView {
     pub negative: bool,
     pub size: u32,
 }
 
-#[derive(Drop)]
+#[derive(Clone, Copy)]
 pub enum Target {
     Step,
     Section,
 }
 
-#[derive(Drop)]
+#[derive(Clone, Copy)]
 pub struct Intermediate {
     pub relative: bool,
     pub target: Target,
@@ -44,7 +44,7 @@ pub struct Intermediate {
     pub span: parts::Span,
 }
 
-#[derive(Drop)]
+#[derive(Clone, Copy)]
 pub enum OptIntermediate {
     Absent,
     Present(Intermediate),
@@ -73,7 +73,7 @@ fn after_letter(f: &[u8], at: usize, c: u8) -> usize
     at
 }
 
-#[derive(Drop)]
+#[derive(Clone, Copy)]
 pub enum Letters {
     Set(Modifiers),
     Ill,
@@ -123,7 +123,7 @@ fn modifiers_of(f: &[u8]) -> Letters
     letters_of(f)
 }
 
-#[derive(Drop)]
+#[derive(Clone, Copy)]
 pub enum GotModifiers {
     Got(Modifiers, usize),
     Ill,
@@ -142,7 +142,7 @@ fn read_modifiers(line: &[u8], at: usize) -> GotModifiers
     GotModifiers::Got(m, at + f.len() + 1)
 }
 
-#[derive(Drop)]
+#[derive(Clone, Copy)]
 pub enum GotComponent {
     Got(ComponentView, usize),
     Ill,
@@ -186,7 +186,7 @@ pub fn read_component(line: &[u8], at: usize) -> GotComponent
     )
 }
 
-#[derive(Drop)]
+#[derive(Clone, Copy)]
 pub enum GotSigned {
     Got(SignedView, usize),
     Ill,
@@ -236,7 +236,7 @@ fn read_reference(line: &[u8], at: usize) -> parts::GotFlag
     parts::GotFlag::Ill
 }
 
-#[derive(Drop)]
+#[derive(Clone, Copy)]
 pub enum GotTarget {
     Got(Target, usize),
     Ill,
@@ -258,7 +258,7 @@ fn read_target(line: &[u8], at: usize) -> GotTarget
     GotTarget::Ill
 }
 
-#[derive(Drop)]
+#[derive(Clone, Copy)]
 pub enum GotIntermediate {
     Got(Intermediate, usize),
     Ill,
@@ -290,7 +290,7 @@ fn read_intermediate(line: &[u8], at: usize) -> GotIntermediate
     )
 }
 
-#[derive(Drop)]
+#[derive(Clone, Copy)]
 pub enum GotOptIntermediate {
     Got(OptIntermediate, usize),
     Ill,

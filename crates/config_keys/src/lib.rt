@@ -12,7 +12,7 @@ ghost use Rattle.config_keys.specs.Keys.{key_in, HeededKey};
 use sheet::{DefineWord, DuplicateWord};
 
 // `[mode]` and `[define]`; `[duplicate]`; another key in brackets; any other.
-#[derive(Drop)]
+#[derive(Clone, Copy)]
 pub enum Key {
     Define,
     Duplicate,

@@ -240,7 +240,7 @@ fn is_path(f: &[u8]) -> bool
 }
 
 // Where the path before a name ends, and where the name starts; without a path both are 0.
-#[derive(Drop)]
+#[derive(Clone, Copy)]
 pub struct NamePlace {
     pub end: usize,
     pub start: usize,

@@ -21,7 +21,7 @@ use Rattle.model.specs.declared.RelationRecord.{RelationRecord}
 use Rattle.model.specs.declared.Next.{Next}
 use Rattle.model.specs.declared.Next.TheVariants.{Referrer, NoMore}
 use Rattle.model.specs.Rows.{referrers_in, referrers_from, relation_as, relation_in}
-use Rattle.model.specs.Contracts.{NextAs, NextReferrer}
+use Rattle.model.specs.Searches.{NextAs, NextReferrer}
 use Rattle.model.proofs.Searches.{referrers_oldest}
 use Rattle.lookup.specs.Names.{kind_of}
 use Rattle.page_fields.proofs.Letters.{escape_both}

@@ -3,21 +3,21 @@ ghost use Rattle.rules.specs.Read.{read_meta, read_section, read_start, read_end
 ghost use Rattle.events.specs.Views.{severity_in};
 ghost use Rattle.events.specs.Got.{BlockRead, EventRead};
 
-#[derive(Drop)]
+#[derive(Clone, Copy)]
 pub enum BlockKind {
     Step,
     Text,
 }
 
 // Lines that stand between blocks.
-#[derive(Drop)]
+#[derive(Clone, Copy)]
 pub enum Between {
     Meta(parts::TextView, parts::TextView),
     Section(parts::OptText),
     Start(BlockKind),
 }
 
-#[derive(Drop)]
+#[derive(Clone, Copy)]
 pub enum ComponentEvent {
     Ingredient(components::ComponentView, components::OptIntermediate),
     Cookware(components::ComponentView),
@@ -25,27 +25,27 @@ pub enum ComponentEvent {
 }
 
 // Lines that stand in a block.
-#[derive(Drop)]
+#[derive(Clone, Copy)]
 pub enum Inside {
     End(BlockKind),
     Text(parts::TextView),
     Component(ComponentEvent),
 }
 
-#[derive(Drop)]
+#[derive(Clone, Copy)]
 pub enum Severity {
     Severe,
     Mild,
 }
 
-#[derive(Drop)]
+#[derive(Clone, Copy)]
 pub enum EventView {
     Between(Between),
     Inside(Inside),
     Finding(Severity, u32),
 }
 
-#[derive(Drop)]
+#[derive(Clone, Copy)]
 pub enum GotBlock {
     Got(BlockKind, usize),
     Ill,
@@ -67,7 +67,7 @@ fn read_block(line: &[u8], at: usize) -> GotBlock
 }
 
 // What the readers of the events answer, after the line's first word.
-#[derive(Drop)]
+#[derive(Clone, Copy)]
 pub enum GotEvent {
     Got(EventView, usize),
     Ill,

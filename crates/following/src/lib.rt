@@ -14,7 +14,7 @@ use sheet::DefineWord;
 
 // The parts of the page that are drawn by a second walk: sections with their blocks and items; timers; inline
 // quantities; the spans of finding 3.
-#[derive(Drop)]
+#[derive(Clone, Copy)]
 pub enum Part {
     Sections,
     Timers,
@@ -23,7 +23,7 @@ pub enum Part {
 }
 
 // `shown`: the current section has its line already; `old`: some line counted for finding 3.
-#[derive(Drop)]
+#[derive(Clone, Copy)]
 pub struct Follow {
     pub define: Define,
     pub block: Open,
@@ -37,7 +37,7 @@ pub struct Follow {
 }
 
 // What a `meta` line does: it sets the define mode, counts for finding 3, or neither.
-#[derive(Drop)]
+#[derive(Clone, Copy)]
 pub enum Meta {
     Defines(Define),
     Ordinary,

@@ -18,7 +18,7 @@ ghost use Rattle.inline.specs.Items.{CountsOf, text_items};
 use text::Dropped;
 
 // A part of a text, from a place to a place.
-#[derive(Drop)]
+#[derive(Clone, Copy)]
 struct Span {
     from: usize,
     to: usize,
@@ -235,7 +235,7 @@ fn unit_part(t: &[u32], s: &[u8], from: usize, to: usize) -> Span
 }
 
 // The first quantity of a text whose unit is known.
-#[derive(Drop)]
+#[derive(Clone, Copy)]
 pub enum Inline {
     // Where its number starts, with its sign, and ends; where its unit's name starts and ends; where the search goes on.
     Found {
@@ -290,7 +290,7 @@ pub fn find_inline_quantity(t: &[u32], units: &[u8], index: &[u32], s: &[u8], fr
 }
 
 // How many items a text is split into, and how many of them are quantities.
-#[derive(Drop)]
+#[derive(Clone, Copy)]
 pub struct Counts {
     pub items: usize,
     pub quantities: usize,

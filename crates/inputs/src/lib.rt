@@ -8,7 +8,7 @@ pub const WORDS: usize = 45661;
 
 pub const BYTES: usize = 65536;
 
-#[derive(Drop)]
+#[derive(Clone, Copy)]
 pub enum Inputs {
     Good,
     // The number of the refusal, and of the line.

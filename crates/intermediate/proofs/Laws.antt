@@ -21,7 +21,7 @@ use Rattle.components.specs.declared.Intermediate.{Intermediate}
 use Rattle.components.specs.declared.OptIntermediate.{OptIntermediate}
 use Rattle.components.specs.declared.OptIntermediate.TheVariants as intermediate
 use Rattle.model.specs.Blank.{blank_section}
-use Rattle.model.specs.Contracts.{found_of, TargetFound}
+use Rattle.model.specs.Searches.{found_of, TargetFound}
 use Rattle.model.specs.Rows.{relation_in, relation_as, blocks_in}
 use Rattle.model.specs.Memory.{state_in, state_of, windows_of}
 use Rattle.model.specs.declared.Found.{Found}

@@ -12,7 +12,7 @@ use Rattle.components.specs.Views.{modifiers_in, intermediate_in, opt_intermedia
 use Rattle.components.specs.declared.Modifiers.{Modifiers}
 use Rattle.components.specs.declared.Intermediate.{Intermediate}
 use Rattle.components.specs.declared.OptIntermediate.{OptIntermediate}
-use Rattle.model.specs.Contracts.{found_of}
+use Rattle.model.specs.Searches.{found_of}
 use Rattle.model.specs.Rows.{relation_in}
 use Rattle.model.specs.Memory.{state_in}
 use Rattle.model.specs.declared.Found.{Found}

@@ -3,7 +3,7 @@
 ghost use Rattle.std.specs.Prelude.{◌<◌};
 ghost use Rattle.rules.specs.Checks.{intermediate_findings};
 ghost use Rattle.components.specs.Views.{intermediate_in};
-ghost use Rattle.model.specs.Contracts.{found_of};
+ghost use Rattle.model.specs.Searches.{found_of};
 ghost use Rattle.model.specs.Memory.{Sound};
 ghost use Rattle.checks.specs.Reports.{Reported};
 ghost use Rattle.intermediate.specs.Intermediates.{Faulted, ModifiersReported, Resolved, Related};

@@ -18,7 +18,7 @@ use model::{Define, Duplicate, Held};
 use text::Dropped;
 
 // The row that the same-name search finds.
-#[derive(Drop)]
+#[derive(Clone, Copy)]
 pub enum Same {
     At(usize),
     Nothing,
@@ -132,7 +132,7 @@ pub fn same_cookware(
 // ---- the name of a new component
 
 // Where a name stands.
-#[derive(Drop)]
+#[derive(Clone, Copy)]
 pub struct NamePart {
     pub at: usize,
     pub end: usize,

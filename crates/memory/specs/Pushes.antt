@@ -12,7 +12,7 @@ use Rattle.model.specs.Blank.{blank, refusal_of}
 use Rattle.model.specs.Rows.{row_words, entry_as, noted_words, finding_of, block_of}
 use Rattle.model.specs.Memory.{state_in, Sound}
 use Rattle.model.specs.Fits.{Fits, AllFit}
-use Rattle.model.specs.Contracts.{found_of}
+use Rattle.model.specs.Searches.{found_of}
 use Rattle.model.specs.Small.{with_block, with_counter, with_here, with_blocks, with_ingredients, with_cookware, with_ingredient_pairs, with_cookware_pairs, with_findings}
 use Rattle.model.specs.declared.Open.{Open}
 use Rattle.model.specs.declared.Open.TheVariants.{Nothing, Step, Text as TextBlock, TextMode}

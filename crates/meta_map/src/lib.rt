@@ -20,7 +20,7 @@ use parts::{Part, TextView};
 use text::Dropped;
 
 // The row of a key.
-#[derive(Drop)]
+#[derive(Clone, Copy)]
 pub enum KeyRow {
     At(usize),
     Nothing,

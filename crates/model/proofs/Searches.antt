@@ -17,7 +17,7 @@ use Rattle.rules.specs.Words.{target_step, targetSection}
 use Rattle.rules.specs.Event.{Intermediate}
 use Rattle.rules.specs.Checks.{step_indices, section_indices, candidates, nth, resolve_intermediate_ref}
 use Rattle.model.specs.Rows.{referrers_in, referrers_from, block_of, blocks_in, steps_from}
-use Rattle.model.specs.Contracts.{NextReferrer, found_of, TargetFound}
+use Rattle.model.specs.Searches.{NextReferrer, found_of, TargetFound}
 use Rattle.model.specs.declared.Found.{Found}
 use Rattle.model.specs.declared.Found.TheVariants.{At, Nothing}
 use Rattle.rules.proofs.Basics.{by_order}

@@ -2,5 +2,5 @@ pub mod Blank
 pub mod Rows
 pub mod Memory
 pub mod Small
-pub mod Contracts
+pub mod Searches
 pub mod Fits

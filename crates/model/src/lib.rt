@@ -7,9 +7,9 @@ ghost use Rattle.rules.specs.Checks.{step_indices, section_indices, nth};
 ghost use Rattle.rules.specs.Words.{severe, mild};
 ghost use Rattle.rules.specs.Finding.{diag, parsed};
 ghost use Rattle.model.specs.Rows.{finding_of, row_at, bit_of, relation_word, relation_of, row_words, row_of, noted_words, noted_of, blocks_in};
-ghost use Rattle.model.specs.Contracts.{found_of, TargetFound, NextReferrer};
+ghost use Rattle.model.specs.Searches.{found_of, TargetFound, NextReferrer};
 
-#[derive(Drop)]
+#[derive(Clone, Copy)]
 pub enum Define {
     All,
     Components,
@@ -17,14 +17,14 @@ pub enum Define {
     Text,
 }
 
-#[derive(Drop)]
+#[derive(Clone, Copy)]
 pub enum Duplicate {
     New,
     Reference,
 }
 
 // The open block.
-#[derive(Drop)]
+#[derive(Clone, Copy)]
 pub enum Open {
     Nothing,
     Step,
@@ -32,7 +32,7 @@ pub enum Open {
     TextMode,
 }
 
-#[derive(Drop)]
+#[derive(Clone, Copy)]
 pub struct Counts {
     pub counter: usize,
     pub here: usize,
@@ -49,7 +49,7 @@ pub struct Counts {
     pub old: usize,
 }
 
-#[derive(Drop)]
+#[derive(Clone, Copy)]
 pub struct Held {
     pub define: Define,
     pub duplicate: Duplicate,
@@ -58,27 +58,27 @@ pub struct Held {
     pub counts: Counts,
 }
 
-#[derive(Drop)]
+#[derive(Clone, Copy)]
 pub enum Target {
     Ingredient,
     Step,
     Section,
 }
 
-#[derive(Drop)]
+#[derive(Clone, Copy)]
 pub enum Relation {
     Definition,
     Reference(Target),
 }
 
-#[derive(Drop)]
+#[derive(Clone, Copy)]
 pub struct RelationRecord {
     pub relation: Relation,
     pub in_step: bool,
     pub index: u32,
 }
 
-#[derive(Drop)]
+#[derive(Clone, Copy)]
 pub struct Row {
     pub line_at: u32,
     pub line_end: u32,
@@ -93,7 +93,7 @@ pub struct Row {
 }
 
 // A finding. `flag` is `implicit` of a finding of the pass, and marks an error of the parser.
-#[derive(Drop)]
+#[derive(Clone, Copy)]
 pub struct Noted {
     pub parse: bool,
     pub code: u32,
@@ -105,14 +105,14 @@ pub struct Noted {
     pub flag: bool,
 }
 
-#[derive(Drop)]
+#[derive(Clone, Copy)]
 pub enum Found {
     At(u32),
     Nothing,
 }
 
 // The next referrer of a definition, and the pair after it.
-#[derive(Drop)]
+#[derive(Clone, Copy)]
 pub enum Next {
     Referrer(u32, usize),
     NoMore,

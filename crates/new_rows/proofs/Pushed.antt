@@ -14,7 +14,7 @@ use Rattle.rules.specs.State.{State, table_of, set_table, set_tables, set_block,
 use Rattle.rules.specs.Components.{Made, referred, pushed, refers_to_reference}
 use Rattle.rules.specs.Pass.{push_items, item_of, push_component, unless_chained, on_made}
 use Rattle.model.specs.Blank.{blank}
-use Rattle.model.specs.Contracts.{found_of}
+use Rattle.model.specs.Searches.{found_of}
 use Rattle.model.specs.Memory.{state_in, Sound}
 use Rattle.model.specs.Rows.{entry_as}
 use Rattle.model.specs.declared.Row.{Row}

@@ -10,7 +10,7 @@ ghost use Rattle.page_walk.specs.Walk.{LineReady, LineTaken, is_aside, is_idle, 
 use following::{Follow, Part};
 
 // How many bytes a line's part took, or one more than there is room for; and the state after the line.
-#[derive(Drop)]
+#[derive(Clone, Copy)]
 pub struct Turn {
     pub count: usize,
     pub follow: Follow,

@@ -8,39 +8,39 @@ ghost use Rattle.parts.specs.Views.{part_of};
 ghost use Rattle.parts.specs.Near.{figure_of, end_of, NearRead};
 ghost use Rattle.parts.specs.Got.{DashAt, NumberRead, SpanRead, ContentRead, TextRead, OptTextRead, KindRead, LockRead, QuantityRead, OptQuantityRead};
 
-#[derive(Drop)]
+#[derive(Clone, Copy)]
 pub struct Span {
     pub start: u32,
     pub end: u32,
 }
 
 // A part of a line, still escaped.
-#[derive(Drop)]
+#[derive(Clone, Copy)]
 pub struct Part {
     pub from: usize,
     pub to: usize,
 }
 
-#[derive(Drop)]
+#[derive(Clone, Copy)]
 pub struct TextView {
     pub span: Span,
     pub content: Part,
 }
 
-#[derive(Drop)]
+#[derive(Clone, Copy)]
 pub enum OptText {
     Absent,
     Present(TextView),
 }
 
-#[derive(Drop)]
+#[derive(Clone, Copy)]
 pub enum ValueKind {
     Number,
     Range,
     Textual,
 }
 
-#[derive(Drop)]
+#[derive(Clone, Copy)]
 pub struct QuantityView {
     pub span: Span,
     pub kind: ValueKind,
@@ -50,7 +50,7 @@ pub struct QuantityView {
     pub unit: OptText,
 }
 
-#[derive(Drop)]
+#[derive(Clone, Copy)]
 pub enum OptQuantity {
     Absent,
     Present(QuantityView),
@@ -102,7 +102,7 @@ fn is_alone(line: &[u8], at: usize, c: u8) -> bool
 }
 
 // Whether an opt part is there.
-#[derive(Drop)]
+#[derive(Clone, Copy)]
 pub enum Dash {
     // `-`; the next field starts at the position.
     Absent(usize),
@@ -123,7 +123,7 @@ pub fn opt_dash(line: &[u8], at: usize) -> Dash
 }
 
 // What a reader answers: what it read, and where the next field starts.
-#[derive(Drop)]
+#[derive(Clone, Copy)]
 pub enum GotNumber {
     Got(u32, usize),
     Ill,
@@ -231,7 +231,7 @@ fn near_number(line: &[u8], at: usize) -> GotNumber
     number_end(y, q, x + 1)
 }
 
-#[derive(Drop)]
+#[derive(Clone, Copy)]
 pub enum GotSpan {
     Got(Span, usize),
     Ill,
@@ -260,7 +260,7 @@ pub fn read_span(line: &[u8], at: usize) -> GotSpan
     GotSpan::Got(Span { start, end }, a2)
 }
 
-#[derive(Drop)]
+#[derive(Clone, Copy)]
 pub enum GotContent {
     Got(Part, usize),
     Ill,
@@ -330,7 +330,7 @@ fn read_content(line: &[u8], at: usize) -> GotContent
     GotContent::Got(Part { from: at, to: i }, i + 1)
 }
 
-#[derive(Drop)]
+#[derive(Clone, Copy)]
 pub enum GotText {
     Got(TextView, usize),
     Ill,
@@ -348,7 +348,7 @@ pub fn read_text(line: &[u8], at: usize) -> GotText
     GotText::Got(TextView { span, content }, a2)
 }
 
-#[derive(Drop)]
+#[derive(Clone, Copy)]
 pub enum GotOptText {
     Got(OptText, usize),
     Ill,
@@ -369,7 +369,7 @@ pub fn read_opt_text(line: &[u8], at: usize) -> GotOptText
     }
 }
 
-#[derive(Drop)]
+#[derive(Clone, Copy)]
 pub enum GotKind {
     Got(ValueKind, usize),
     Ill,
@@ -391,7 +391,7 @@ fn read_kind(line: &[u8], at: usize) -> GotKind
     }
 }
 
-#[derive(Drop)]
+#[derive(Clone, Copy)]
 pub enum GotFlag {
     Got(bool, usize),
     Ill,
@@ -414,7 +414,7 @@ fn read_lock(line: &[u8], at: usize) -> GotFlag
     GotFlag::Ill
 }
 
-#[derive(Drop)]
+#[derive(Clone, Copy)]
 pub enum GotQuantity {
     Got(QuantityView, usize),
     Ill,
@@ -454,7 +454,7 @@ fn read_quantity(line: &[u8], at: usize) -> GotQuantity
     )
 }
 
-#[derive(Drop)]
+#[derive(Clone, Copy)]
 pub enum GotOptQuantity {
     Got(OptQuantity, usize),
     Ill,

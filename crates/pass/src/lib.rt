@@ -166,7 +166,7 @@ pub fn is_error(v: EventView) -> bool
     }
 }
 
-#[derive(Drop)]
+#[derive(Clone, Copy)]
 pub enum Walked {
     Going(Held),
     // An `error` line: there will be no recipe.
@@ -208,7 +208,7 @@ fn step(
     }
 }
 
-#[derive(Drop)]
+#[derive(Clone, Copy)]
 pub enum Ran {
     Recipe(Held),
     Failed,

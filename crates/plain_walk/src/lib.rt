@@ -136,7 +136,7 @@ fn line_fault(t: &[u32], sheet: &[u8], words: &[u32], e: EventView, f: Follow) -
 
 // ---- what a line becomes
 
-#[derive(Drop)]
+#[derive(Clone, Copy)]
 pub enum Plain {
     Dropped,
     Copied,
@@ -297,7 +297,7 @@ fn put_plain(out: &mut [u8], at: usize, text: &[u8], line: &[u8], p: Plain) -> u
 
 // ---- the form
 
-#[derive(Drop)]
+#[derive(Clone, Copy)]
 pub enum Formed {
     // The number of the first fault, and of its line.
     Fault(u32, u32),

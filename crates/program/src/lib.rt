@@ -74,7 +74,7 @@ fn print_answer(plain: bool, sheet: &[u8], text: &[u8], units: &[u8], flags: u32
     }
 }
 
-#[derive(Drop)]
+#[derive(Clone, Copy)]
 enum Got {
     // How many bytes at the front of the room.
     Bytes(usize),

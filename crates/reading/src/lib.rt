@@ -2,7 +2,7 @@
 ghost use Rattle.std.specs.Prelude.{◌≡◌, length};
 ghost use Rattle.reading.specs.Answers.{leads_with, WordRead, ended_as, EventOf, LineOf, LineChecked, SheetChecked};
 
-#[derive(Drop)]
+#[derive(Clone, Copy)]
 pub enum ReadEvent {
     Event(events::EventView),
     Ill,
@@ -39,7 +39,7 @@ fn leads(line: &[u8], word: &[u8]) -> bool
 }
 
 // A line's first word, and where its next field starts.
-#[derive(Drop)]
+#[derive(Clone, Copy)]
 struct FirstWord {
     word: sheet::Word,
     next: usize,
@@ -136,7 +136,7 @@ fn event_at(line: &[u8]) -> ReadEvent
     }
 }
 
-#[derive(Drop)]
+#[derive(Clone, Copy)]
 pub enum LineFault {
     Nothing,
     Fault(u32),
@@ -158,7 +158,7 @@ fn line_fault(text: &[u8], number: u32, line: &[u8]) -> LineFault
     LineFault::Fault(10)
 }
 
-#[derive(Drop)]
+#[derive(Clone, Copy)]
 pub enum SheetRead {
     Good,
     // The number of the refusal, and of the line.

@@ -162,7 +162,7 @@ fn after_text(line: &[u8], at: usize) -> usize
 }
 
 // Where the unit of a quantity stands in its line.
-#[derive(Drop)]
+#[derive(Clone, Copy)]
 pub enum UnitPlace {
     // There is no quantity.
     NoQuantity,

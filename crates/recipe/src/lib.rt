@@ -12,7 +12,7 @@ use model::Held;
 use pass::Ran;
 use plain_walk::Formed;
 
-#[derive(Drop)]
+#[derive(Clone, Copy)]
 pub enum Answer {
     // The length of the page, or of the form.
     Page(usize),

@@ -10,7 +10,7 @@ use inputs::Inputs;
 use model::Held;
 use pass::Ran;
 
-#[derive(Drop)]
+#[derive(Clone, Copy)]
 pub enum Components {
     // How many ingredients, pieces of cookware, and pairs of each kind.
     Recipe {

@@ -16,7 +16,7 @@ use model::{Define, Duplicate, Held};
 use parts::Span;
 
 // The modifiers of the definition that the search found.
-#[derive(Drop)]
+#[derive(Clone, Copy)]
 pub enum Old {
     Of(Modifiers),
     Nothing,

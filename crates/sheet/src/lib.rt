@@ -11,7 +11,7 @@ ghost use Rattle.sheet.specs.Numbers.{number_as, signed_number_as};
 ghost use Rattle.sheet.specs.Escapes.{or_zero, length_as, Unescapes};
 
 // Where a line ends.
-#[derive(Drop)]
+#[derive(Clone, Copy)]
 pub enum LineEnd {
     // The position of its LF.
     At(usize),
@@ -130,7 +130,7 @@ pub fn same_bytes(a: &[u8], b: &[u8]) -> bool
     true
 }
 
-#[derive(Drop)]
+#[derive(Clone, Copy)]
 pub enum Word {
     Meta,
     Section,
@@ -182,7 +182,7 @@ pub fn event_word(f: &[u8]) -> Word
     Word::Unknown
 }
 
-#[derive(Drop)]
+#[derive(Clone, Copy)]
 pub enum BlockWord {
     Step,
     Text,
@@ -202,7 +202,7 @@ pub fn block_kind(f: &[u8]) -> BlockWord
     BlockWord::Unknown
 }
 
-#[derive(Drop)]
+#[derive(Clone, Copy)]
 pub enum ValueWord {
     Number,
     Range,
@@ -226,7 +226,7 @@ pub fn value_kind(f: &[u8]) -> ValueWord
     ValueWord::Unknown
 }
 
-#[derive(Drop)]
+#[derive(Clone, Copy)]
 pub enum KeyWord {
     Define,
     Duplicate,
@@ -249,7 +249,7 @@ pub fn config_key(f: &[u8]) -> KeyWord
     KeyWord::Unknown
 }
 
-#[derive(Drop)]
+#[derive(Clone, Copy)]
 pub enum DefineWord {
     All,
     Components,
@@ -283,7 +283,7 @@ pub fn define_mode(f: &[u8]) -> DefineWord
     DefineWord::Unknown
 }
 
-#[derive(Drop)]
+#[derive(Clone, Copy)]
 pub enum DuplicateWord {
     New,
     Reference,
@@ -309,7 +309,7 @@ pub fn duplicate_mode(f: &[u8]) -> DuplicateWord
     DuplicateWord::Unknown
 }
 
-#[derive(Drop)]
+#[derive(Clone, Copy)]
 pub enum Number {
     Value(u32),
     Bad,
@@ -356,7 +356,7 @@ pub fn read_number(f: &[u8]) -> Number
 }
 
 // A number with a sign, from -32768 to 32767: its size, and the sign as the variant.
-#[derive(Drop)]
+#[derive(Clone, Copy)]
 pub enum Signed {
     Plus(u32),
     Minus(u32),
@@ -400,7 +400,7 @@ pub fn letter(c: u8) -> u8
     0
 }
 
-#[derive(Drop)]
+#[derive(Clone, Copy)]
 pub enum Length {
     Len(usize),
     // A backslash in the field stands before no letter of an escape.
@@ -441,7 +441,7 @@ pub fn is_well_escaped(f: &[u8]) -> bool
     }
 }
 
-#[derive(Drop)]
+#[derive(Clone, Copy)]
 pub enum Unescaped {
     // The field's text stands at the front of the buffer, so many bytes of it.
     Done(usize),

@@ -24,7 +24,7 @@ ghost use Rattle.step_lines.specs.Lines.{kind_word, item_as, PutItem, quantity_a
 use parts::{OptQuantity, OptText, Span, TextView};
 
 // What an item refers to by its index.
-#[derive(Drop)]
+#[derive(Clone, Copy)]
 pub enum ItemKind {
     Ingredient,
     Cookware,
@@ -88,7 +88,7 @@ fn put_text(out: &mut [u8], at: usize, f: &[u8]) -> usize
 }
 
 // How many bytes the lines of a text took, or one more than there is room for; and how many quantities it has.
-#[derive(Drop)]
+#[derive(Clone, Copy)]
 pub struct TextItems {
     pub count: usize,
     pub inline: u32,

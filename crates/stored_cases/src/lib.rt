@@ -6,13 +6,13 @@ ghost use Rattle.stored_cases.specs.Cases.{part_of, after_of, starts_with, numbe
 use libc::STDOUT_FILENO;
 
 // A number, and the place after the byte that ends it.
-#[derive(Drop)]
+#[derive(Clone, Copy)]
 struct Number {
     value: u32,
     next: usize,
 }
 
-#[derive(Drop)]
+#[derive(Clone, Copy)]
 enum Read {
     At(Number),
     // Not as the format says.
@@ -20,7 +20,7 @@ enum Read {
 }
 
 // How many bytes of output are lent, and where the parts of a case start in its file; each ends where the next starts.
-#[derive(Drop)]
+#[derive(Clone, Copy)]
 pub struct Case {
     pub room: usize,
     pub name: usize,
@@ -33,7 +33,7 @@ pub struct Case {
     pub end: usize,
 }
 
-#[derive(Drop)]
+#[derive(Clone, Copy)]
 pub enum Stored {
     At(Case),
     // Not as the format says.

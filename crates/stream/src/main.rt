@@ -9,7 +9,7 @@ ghost use Rattle.unicode.specs.Tables.{unicode_tables};
 use libc::{STDIN_FILENO, STDOUT_FILENO};
 use text::Step;
 
-#[derive(Drop)]
+#[derive(Clone, Copy)]
 struct Counts {
     points: u64,
     white: u64,
@@ -18,7 +18,7 @@ struct Counts {
 }
 
 // How many code points, and their checksum: the checksum before them times 31, plus each, modulo 2 ^ 32.
-#[derive(Drop)]
+#[derive(Clone, Copy)]
 struct Sum {
     count: u64,
     total: u64,

@@ -6,7 +6,7 @@ ghost use Rattle.text.specs.Trims.{drops_of, EndAt, LastOf};
 use super::Dropped;
 
 // What the last bytes of a field tell without those before them: the last character stays, or it goes and starts at a place.
-#[derive(Drop)]
+#[derive(Clone, Copy)]
 pub(crate) enum Last {
     Stays,
     Goes(usize),

@@ -22,7 +22,7 @@ use meets::Meeting;
 use unicode::Folded;
 
 // Which characters a trimming drops at both ends.
-#[derive(Drop)]
+#[derive(Clone, Copy)]
 pub enum Dropped {
     White,
     NotAlphabetic,
@@ -247,7 +247,7 @@ pub fn has_alphanumeric(t: &[u32], s: &[u8]) -> bool
 }
 
 // Folded code points that were not given yet.
-#[derive(Drop)]
+#[derive(Clone, Copy)]
 pub enum Pending {
     Nothing,
     One(u32),
@@ -255,14 +255,14 @@ pub enum Pending {
 }
 
 // A place in a field that is folded as it is read, its blanks collapsed.
-#[derive(Drop)]
+#[derive(Clone, Copy)]
 pub struct Cursor {
     pub at: usize,
     pub pending: Pending,
 }
 
 // A folded code point and where to go on, or the end of the text.
-#[derive(Drop)]
+#[derive(Clone, Copy)]
 pub enum Step {
     Code(u32, Cursor),
     End,

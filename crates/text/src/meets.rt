@@ -6,7 +6,7 @@ ghost use Rattle.text.specs.Seams.{Seam, pair_of, Following, Settled, LetterS, S
 use unicode::Folded;
 
 // The answer, or where to go on.
-#[derive(Drop)]
+#[derive(Clone, Copy)]
 pub(crate) enum Meeting {
     Answer(bool),
     On(usize, usize),
@@ -15,7 +15,7 @@ pub(crate) enum Meeting {
 
 // By the two alone: they are not the same; or both are passed; or one more code point is to follow in the first name, or in the
 // second; or several are.
-#[derive(Drop)]
+#[derive(Clone, Copy)]
 pub(crate) enum Pair {
     Apart,
     Level,
@@ -51,7 +51,7 @@ pub(crate) fn paired(f: Folded, g: Folded) -> Pair
 }
 
 // Whether a code point follows in a name: another one does, or it, up to a place; or a character that folds to several.
-#[derive(Drop)]
+#[derive(Clone, Copy)]
 enum Next {
     Other,
     Past(usize),

@@ -32,7 +32,7 @@ const THIRD: usize = 6493;
 const NEAR: usize = 8050;
 
 // What a code point folds to.
-#[derive(Drop)]
+#[derive(Clone, Copy)]
 pub enum Folded {
     One(u32),
     Two(u32, u32),

@@ -24,7 +24,7 @@ use Rattle.compatible.specs.Fitting.{trimmed_in}
 use Rattle.model.specs.Rows.{row_at, row_of, component_of_line, entry_as, relation_in, relation_as, referrers_in, referrers_from}
 use Rattle.model.specs.Memory.{windows_of, state_in, Sound}
 use Rattle.model.specs.Fits.{Fits, AllFit}
-use Rattle.model.specs.Contracts.{NextReferrer, NextAs}
+use Rattle.model.specs.Searches.{NextReferrer, NextAs}
 use Rattle.model.specs.declared.Next.{Next}
 use Rattle.model.specs.declared.Next.TheVariants.{Referrer, NoMore}
 use Rattle.model.specs.declared.Target.{Target}

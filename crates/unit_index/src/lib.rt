@@ -50,7 +50,7 @@ fn longest_in(index: &[u32]) -> usize
 }
 
 // A line of the list: where its name ends, and its physical quantity.
-#[derive(Drop)]
+#[derive(Clone, Copy)]
 struct Line {
     to: usize,
     physical: Physical,

@@ -7,7 +7,7 @@ ghost use Rattle.units.specs.declared.UnitAt.TheVariants.{Unit};
 ghost use Rattle.units.specs.Quantities.{physical_as, is_known, unit_line_as};
 ghost use Rattle.units.specs.Lists.{is_list_from, part, UnitHere};
 
-#[derive(Drop)]
+#[derive(Clone, Copy)]
 pub enum Physical {
     Volume,
     Mass,
@@ -52,7 +52,7 @@ fn physical_word(f: &[u8]) -> Physical
     Physical::Unknown
 }
 
-#[derive(Drop)]
+#[derive(Clone, Copy)]
 pub enum UnitLine {
     // How many bytes the name takes, at the front of the line.
     Unit { name_len: usize, physical: Physical },
@@ -118,7 +118,7 @@ pub fn is_list(units: &[u8]) -> bool
     true
 }
 
-#[derive(Drop)]
+#[derive(Clone, Copy)]
 pub enum UnitAt {
     // Where the name ends, and where the next line starts.
     Unit {
@@ -180,7 +180,7 @@ pub fn is_named(units: &[u8], at: usize, end: usize, name: &[u8]) -> bool
     sheet::same_bytes(name, &units[at..e])
 }
 
-#[derive(Drop)]
+#[derive(Clone, Copy)]
 pub enum UnitsChecked {
     Good,
     Ill,

@@ -5,21 +5,21 @@ ghost use Rattle.utf8.specs.Reading.{char_of};
 ghost use Rattle.utf8.specs.Checking.{checked_of, ascii_for, AsciiTo};
 
 // The character that bytes start with, and how many bytes it takes.
-#[derive(Drop)]
+#[derive(Clone, Copy)]
 pub enum Decoded {
     Char { code: u32, size: usize },
     Fault,
 }
 
 // A code point, U+FFFD for a byte where no character starts, and how many bytes it takes.
-#[derive(Drop)]
+#[derive(Clone, Copy)]
 pub struct Char {
     pub code: u32,
     pub size: usize,
 }
 
 // Whether bytes are UTF-8, and if not the place of the first byte where a character should start and none does.
-#[derive(Drop)]
+#[derive(Clone, Copy)]
 pub enum Checked {
     Valid,
     Fault(usize),
