@@ -119,8 +119,11 @@ module _ (text : List ℕ) (units : List NamedUnit) (flags : ℕ) where
   intermediate_sound c i st r = record { entry_is = λ q. no_truth (sym q ∙ r); to_is = refl }
 
   made_sound : (k : Kind) (m : Made) (st : State) → MadeBy units flags st k m → Sound (table_of k st) → SoundMade m
-  made_sound k m st (by_name x c) s = by_name_sound x c st s
-  made_sound k m st (by_place c i r) s = intermediate_sound c i st r
+  made_sound k m st h s = by st k m h s
+    where
+      by : (st : State) (k : Kind) (m : Made) → MadeBy units flags st k m → Sound (table_of k st) → SoundMade m
+      by st k m (by_name x c) s = by_name_sound x c st s
+      by st k m (by_place c i r) s = intermediate_sound c i st r
 
   -- ---- every line, and the walk
 

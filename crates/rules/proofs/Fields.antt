@@ -169,6 +169,7 @@ module _ (b : ℕ) where
   join_sep l = more_sep (split_at b l) (split_some l)
     where
       more_sep : (fs : List (List ℕ)) → Parts fs → join_by b ([] ∷ fs) ≡ b ∷ join_by b fs
+      more_sep [] x' = elim x' [ ]
       more_sep (f ∷ fs) parts = unfold join_by in refl
 
 -- fields without a tab, joined and split again

@@ -373,8 +373,11 @@ module _ (units : List NamedUnit) (flags : ℕ) where
 
   pub made_linked : (k : Kind) (m : Made) (st : State) → MadeBy units flags st k m → refers_to_reference m.refers_to ≡ false
       → MadeLinked k (table_of k st) m.entry.relation m.refers_to
-  made_linked k m st (by_name x c) n = by_name_linked x c st n
-  made_linked k m st (by_place c i r) n = intermediate_linked c i st
+  made_linked k m st h n = by st k m h n
+    where
+      by : (st : State) (k : Kind) (m : Made) → MadeBy units flags st k m → refers_to_reference m.refers_to ≡ false → MadeLinked k (table_of k st) m.entry.relation m.refers_to
+      by st k m (by_name x c) n = by_name_linked x c st n
+      by st k m (by_place c i r) n = intermediate_linked c i st
 
   -- linked tables stay linked
   pub linked_onward : Onward units flags LinkedAfter
