@@ -1,5 +1,7 @@
 // Lines that begin and end sections and blocks, texts and components outside steps, and the parser's findings.
 // The functions stand for the rules' of the same lines; work memory keeps no texts.
+#![tactic(auto)]
+
 ghost use Rattle.std.specs.Prelude.{◌≡◌, [], ◌∷◌, ◌+◌, ◌<◌, ◌≤◌};
 ghost use Rattle.rules.specs.Basic.{pick};
 ghost use Rattle.rules.specs.Finding.{parsed};

@@ -1,4 +1,6 @@
 // Hashes of names, by which the rows of an index are chained. A name has one hash, however its characters are spelled.
+#![tactic(auto)]
+
 ghost use Rattle.std.specs.Prelude.{◌≡◌, ◌+◌, ◌*◌, ◌%◌, ◌<◌};
 ghost use Rattle.rules.specs.Utf8.{chars};
 ghost use Rattle.content.specs.Contents.{content_in, kept_in};

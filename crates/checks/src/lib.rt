@@ -1,5 +1,7 @@
 // The checks after a reference that two components make: their notes (18), quantities (19, 20) and units (15 to 17).
 // Each pushes its findings in the order in which they come.
+#![tactic(auto)]
+
 ghost use Rattle.std.specs.Prelude.{◌≡◌, true, not, [], ◌∷◌, ◌+◌, ◌<◌};
 ghost use Rattle.rules.specs.Basic.{when};
 ghost use Rattle.rules.specs.Units.{read_units};

@@ -1,4 +1,6 @@
 // Walks all code points and writes, for each class and for the folding, how many there are and a checksum.
+#![tactic(auto)]
+
 ghost use Rattle.std.specs.Prelude.{◌≡◌, ◌≤◌, ◌*◌};
 ghost use Rattle.unicode.specs.Tables.{unicode_tables};
 

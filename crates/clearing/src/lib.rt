@@ -1,5 +1,7 @@
 // Lent memory set to zero, in pieces of at most 2 KB: those the C library clears by vector stores, and longer ones by a string
 // instruction, which a count of instructions takes for one a byte.
+#![tactic(auto)]
+
 ghost use Rattle.std.specs.Prelude.{◌≡◌, ◌++◌, ◌-◌, ◌≤◌, ◌<◌, length, take, replicate};
 
 // Where a piece ends that starts at a place before n and has at most `size` elements.

@@ -1,4 +1,6 @@
 // Prints the recipe page of the files in the folder that it runs in, or the line of a refusal (crates/program).
+#![tactic(auto)]
+
 fn main() {
     program::run(false);
 }

@@ -1,4 +1,6 @@
 // Whether the units of two quantities fit (`compatible_unit`). Units are parts of lines, still escaped.
+#![tactic(auto)]
+
 ghost use Rattle.std.specs.Prelude.{◌≡◌};
 ghost use Rattle.rules.specs.Units.{read_units};
 ghost use Rattle.rules.specs.Answer.{units_or};

@@ -1,4 +1,6 @@
 // `ingredient` and `cookware` lines in a step: what a component refers to, what is found at it, and its row in work memory.
+#![tactic(auto)]
+
 ghost use Rattle.std.specs.Prelude.{◌≡◌, true, ◌+◌, ◌≤◌, length};
 ghost use Rattle.std.proofs.Math.Seq.{slice};
 ghost use Rattle.rules.specs.Event.{inside, component_event};

@@ -1,4 +1,6 @@
 // The components of a line and their intermediate references as views. All readers take any bytes and any position.
+#![tactic(auto)]
+
 ghost use Rattle.std.specs.Prelude.{◌≡◌, drop};
 ghost use Rattle.rules.specs.Read.{leads, modifier_letters, modifiers_of};
 ghost use Rattle.components.specs.Views.{Skips, modifiers_told};

@@ -1,4 +1,6 @@
 // The keys of `meta` lines that set modes, and their values, in fields as they stand in a sheet, escaped.
+#![tactic(auto)]
+
 ghost use Rattle.std.specs.Prelude.{◌≡◌, drop};
 ghost use Rattle.rules.specs.Basic.{word_in};
 ghost use Rattle.rules.specs.Words.{define_words, duplicate_words};

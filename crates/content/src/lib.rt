@@ -1,4 +1,6 @@
 // The content of a field as it stands in a sheet: escaped bytes, read character by character. All functions take any bytes.
+#![tactic(auto)]
+
 ghost use Rattle.std.specs.Prelude.{◌≡◌, ◌≤◌, ◌<◌, length, get_or, drop};
 ghost use Rattle.rules.specs.Basic.{eq_list};
 ghost use Rattle.rules.specs.Utf8.{chars};

@@ -1,4 +1,6 @@
 // The `ingredient` and `cookware` lines of a recipe page: each row of work memory with the component of its line, read again.
+#![tactic(auto)]
+
 ghost use Rattle.std.specs.Prelude.{◌≡◌, true, [], ◌∷◌, reverse, ◌-◌, ◌*◌, ◌≤◌, length};
 ghost use Rattle.rules.specs.Basic.{pick, codes, comma, lf, decimal, join_by, each};
 ghost use Rattle.rules.specs.Utf8.{encode};

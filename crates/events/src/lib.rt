@@ -1,4 +1,6 @@
 // The event of a line as a view, read after the line's first word. All readers take any bytes and any position.
+#![tactic(auto)]
+
 ghost use Rattle.rules.specs.Read.{read_meta, read_section, read_start, read_end, read_text_line, read_ingredient, read_cookware, read_timer, read_finding};
 ghost use Rattle.events.specs.Views.{severity_in};
 ghost use Rattle.events.specs.Got.{BlockRead, EventRead};

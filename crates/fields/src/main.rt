@@ -1,4 +1,6 @@
 // Reads lines of fields from standard input, and writes what the readers and writers of the sheet say of each.
+#![tactic(auto)]
+
 use libc::{STDIN_FILENO, STDOUT_FILENO};
 use sheet::{
     BlockWord, DefineWord, DuplicateWord, KeyWord, Length, LineEnd, Number, Signed, Unescaped,

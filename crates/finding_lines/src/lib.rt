@@ -1,5 +1,7 @@
 // The findings of a page. A line's writer gets the output from the line's place on, and answers how many bytes it wrote, or
 // one more than there is room.
+#![tactic(auto)]
+
 ghost use Rattle.std.specs.Prelude.{◌≡◌, false, [], ◌∷◌};
 ghost use Rattle.rules.specs.Basic.{pick};
 ghost use Rattle.rules.specs.Words.{severe, mild};

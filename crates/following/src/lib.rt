@@ -1,5 +1,7 @@
 // The state that a second walk over an accepted sheet carries: what the bytes of the page that work memory does not hold
 // depend on. specs/Drawn.antt says what each line adds to them.
+#![tactic(auto)]
+
 ghost use Rattle.std.specs.Prelude.{◌≡◌, ◌+◌, ◌≤◌};
 ghost use Rattle.unicode.specs.Tables.{unicode_tables};
 ghost use Rattle.parts.specs.Views.{TextWithin};

@@ -1,5 +1,7 @@
 // Quantities inside a text. A text is the content of a field or of a part of one, which stands escaped; places are those
 // of the field's bytes. The Unicode tables are lent.
+#![tactic(auto)]
+
 ghost use Rattle.std.specs.Prelude.{◌≡◌, ◌≤◌, ◌<◌, length, drop};
 ghost use Rattle.rules.specs.Basic.{is_digit};
 ghost use Rattle.rules.specs.Units.{read_units};

@@ -1,4 +1,6 @@
 // Everything that is refused before the pass, in the order of document 01's table. All functions take any bytes.
+#![tactic(auto)]
+
 ghost use Rattle.std.specs.Prelude.{◌≡◌, ◌≤◌, length};
 ghost use Rattle.rules.specs.Answer.{flags_of};
 ghost use Rattle.inputs.specs.Inputs.{InputsChecked, ContentsChecked, SheetFlagsChecked, UnitsReady};

@@ -1,5 +1,7 @@
 // An intermediate reference of an ingredient: the refusals 15 and 16, the step or section that it is to, the findings 7 to 9,
 // and the relation that it gives.
+#![tactic(auto)]
+
 ghost use Rattle.std.specs.Prelude.{◌<◌};
 ghost use Rattle.rules.specs.Checks.{intermediate_findings};
 ghost use Rattle.components.specs.Views.{intermediate_in};

@@ -1,4 +1,6 @@
 // The event of a line that is known to be well formed.
+#![tactic(auto)]
+
 ghost use Rattle.std.specs.Prelude.{◌≡◌, true};
 ghost use Rattle.rules.specs.Basic.{lf, is_some};
 ghost use Rattle.rules.specs.Read.{parse_line};

@@ -1,5 +1,7 @@
 // The whole of work memory and the small state beside it: one component, referrer, finding, block or section more.
 // Rows are stored first; whether a limit was passed is asked after the line.
+#![tactic(auto)]
+
 ghost use Rattle.std.specs.Prelude.{◌≡◌, ◌+◌, ◌<◌};
 ghost use Rattle.rules.specs.Model.{ingredient, cookware};
 ghost use Rattle.model.specs.Memory.{first_held, Sound};

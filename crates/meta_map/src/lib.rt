@@ -1,5 +1,7 @@
 // The map of metadata: one row for each key, at its first arrival's place and with its last value. The rows stand in a window
 // of work memory, with the heads of their chains behind them (docs/MEMORY.md).
+#![tactic(auto)]
+
 ghost use Rattle.std.specs.Prelude.{◌≡◌, ◌≤◌, ◌<◌, length, true};
 ghost use Rattle.rules.specs.Basic.{lf, is_some};
 ghost use Rattle.rules.specs.Read.{parse_line};

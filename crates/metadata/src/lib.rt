@@ -1,4 +1,6 @@
 // `meta` lines: the modes that they set, findings 1 and 2, and the lines that count for 3.
+#![tactic(auto)]
+
 ghost use Rattle.std.specs.Prelude.{◌≡◌, ◌+◌, ◌<◌};
 ghost use Rattle.unicode.specs.Tables.{unicode_tables};
 ghost use Rattle.parts.specs.Views.{TextWithin};

@@ -1,5 +1,7 @@
 // The collector's work memory: rows of components, pairs of definition and referrer, findings, kinds of blocks; and the
 // small state beside it. Its windows stand in docs/MEMORY.md.
+#![tactic(auto)]
+
 ghost use Rattle.std.specs.Prelude.{◌≡◌, [], ◌∷◌, reverse, ◌+◌, ◌-◌, ◌*◌, ◌<◌, ◌≤◌, length, set};
 ghost use Rattle.std.proofs.lemmas.List.Edits.{sets};
 ghost use Rattle.rules.specs.Basic.{pick};

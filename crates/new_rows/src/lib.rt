@@ -1,4 +1,6 @@
 // The row of a new component, and the modifiers that it has where it refers to a definition.
+#![tactic(auto)]
+
 ghost use Rattle.std.specs.Prelude.{◌≡◌, ◌||◌};
 ghost use Rattle.rules.specs.Model.{either, both, with_ref, inherits};
 ghost use Rattle.components.specs.Views.{modifiers_in};

@@ -1,5 +1,7 @@
 // Writers that take a position and hand on the next one. A text that does not fit leaves the position one past the
 // buffer's length, where nothing is written, so writers follow one another with no test between.
+#![tactic(auto)]
+
 ghost use Rattle.std.specs.Prelude.{◌≡◌, [], ◌∷◌, ◌+◌, ◌≤◌, ◌<◌, leb, length};
 ghost use Rattle.rules.specs.Basic.{decimal};
 ghost use Rattle.rules.specs.Sheet.{escape_char, escape, refused_line};

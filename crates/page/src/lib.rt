@@ -1,5 +1,7 @@
 // The page of a recipe, and the page of a sheet with an `error` line, at the front of the output. Both answer the page's
 // length, or one more than the output's where the page does not fit.
+#![tactic(auto)]
+
 ghost use Rattle.std.specs.Prelude.{◌≡◌};
 ghost use Rattle.rules.specs.Answer.{events, events_or, read_sheet};
 ghost use Rattle.unicode.specs.Tables.{unicode_tables};

@@ -1,5 +1,7 @@
 // The fields of a recipe page, written at a position: contents of a line, which are copied as they stand escaped there,
 // optional texts, quantities, modifiers.
+#![tactic(auto)]
+
 ghost use Rattle.std.specs.Prelude.{◌≡◌, [], ◌∷◌};
 ghost use Rattle.std.proofs.Math.Option.{some};
 ghost use Rattle.rules.specs.Basic.{pick, codes, when, is_empty, on_some};

@@ -1,5 +1,7 @@
 // What a line of the sheet adds to the page's sections. A writer gets the output from the cursor on and returns how many
 // bytes it wrote, or one more than there is room for.
+#![tactic(auto)]
+
 ghost use Rattle.std.specs.Prelude.{◌≡◌, true, [], ◌+◌, ◌^◌, ◌<◌, length};
 ghost use Rattle.rules.specs.Basic.{pick, all, is_some, on_some};
 ghost use Rattle.rules.specs.Utf8.{is_utf8};

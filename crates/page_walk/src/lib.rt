@@ -1,4 +1,6 @@
 // The parts of the page that work memory does not hold, drawn by a second walk over an accepted sheet.
+#![tactic(auto)]
+
 ghost use Rattle.std.specs.Prelude.{◌≡◌, true, not, eqb};
 ghost use Rattle.rules.specs.Utf8.{is_utf8};
 ghost use Rattle.rules.specs.Units.{read_units};

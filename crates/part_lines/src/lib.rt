@@ -1,5 +1,7 @@
 // What a line of the sheet adds to a part of the page: timers, inline quantities, the spans of finding 3, and any part. A
 // writer gets the output from the cursor on and returns how many bytes it wrote, or one more than there is room for.
+#![tactic(auto)]
+
 ghost use Rattle.std.specs.Prelude.{◌≡◌, true, ◌+◌, ◌^◌, ◌<◌, length};
 ghost use Rattle.rules.specs.Basic.{all};
 ghost use Rattle.rules.specs.Utf8.{is_utf8};

@@ -1,5 +1,7 @@
 // The parts of a line as views: numbers, and where the contents stand in the line. All readers take any bytes and any position;
 // `Ill` says that the part is ill-formed.
+#![tactic(auto)]
+
 ghost use Rattle.std.specs.Prelude.{◌≡◌, ◌+◌, ◌<◌, ◌≤◌, [], ◌∷◌, length};
 ghost use Rattle.rules.specs.Basic.{tab, backslash, is_empty, eq_list};
 ghost use Rattle.sheet.specs.Lines.{field_at};

@@ -1,4 +1,6 @@
 // Prints the plain form of the sheet in the folder that it runs in, or the line of a refusal (crates/program).
+#![tactic(auto)]
+
 fn main() {
     program::run(true);
 }

@@ -1,5 +1,7 @@
 // Lines of the plain form: a line as it stands, the ends of a text block, the source of a component, a component with REF added. A line's
 // writer gets the output from the cursor on and returns how many bytes it wrote, or one more than there is room for.
+#![tactic(auto)]
+
 ghost use Rattle.std.specs.Prelude.{◌≡◌, true, false, [], ◌∷◌, ◌++◌, length};
 ghost use Rattle.rules.specs.Basic.{pick, codes, lf};
 ghost use Rattle.rules.specs.Utf8.{is_utf8};

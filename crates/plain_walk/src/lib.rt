@@ -1,4 +1,6 @@
 // The plain form of a sheet that the pass accepted: a second walk, over the component rows that the pass left in work memory.
+#![tactic(auto)]
+
 ghost use Rattle.std.specs.Prelude.{◌≡◌, true, ◌&&◌, ◌+◌, ◌*◌, ◌≤◌, ◌<◌, length};
 ghost use Rattle.std.proofs.Math.Option.{some};
 ghost use Rattle.rules.specs.Utf8.{is_utf8};

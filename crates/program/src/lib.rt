@@ -2,6 +2,8 @@
 // that they run in, and print the recipe page or the plain form, or the line of a refusal. A file that cannot be read is
 // named on standard error, and nothing is printed. The output that they lend has 1,048,576 bytes (1 MiB); a longer page is
 // refused with 20.
+#![tactic(auto)]
+
 ghost use Rattle.std.specs.Prelude.{◌≤◌, ◌≡◌, length};
 ghost use Rattle.recipe.specs.Answers.{lent_of};
 ghost use Rattle.program.specs.Prints.{AnswerPrinted};

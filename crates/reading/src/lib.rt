@@ -1,4 +1,6 @@
 // The event sheet, line by line. All functions take any bytes.
+#![tactic(auto)]
+
 ghost use Rattle.std.specs.Prelude.{◌≡◌, length};
 ghost use Rattle.reading.specs.Answers.{leads_with, WordRead, ended_as, EventOf, LineOf, LineChecked, SheetChecked};
 

@@ -1,5 +1,7 @@
 // Recipe pages and plain forms from event sheets: everything is lent, nothing is kept, and what was lent is zero again but
 // for the page or the form.
+#![tactic(auto)]
+
 ghost use Rattle.std.specs.Prelude.{◌≡◌, ◌≤◌, length};
 ghost use Rattle.rules.specs.Answer.{words_needed, bytes_needed, events, events_or, read_sheet, collect_answer, error_line, form_answer, plain_answer};
 ghost use Rattle.unicode.specs.Tables.{unicode_tables};

@@ -1,4 +1,6 @@
 // The ingredients and the cookware of a recipe, lent as records.
+#![tactic(auto)]
+
 ghost use Rattle.std.specs.Prelude.{◌≡◌, ◌+◌, ◌*◌, ◌<◌, ◌≤◌, length};
 ghost use Rattle.model.specs.Memory.{Sound};
 ghost use Rattle.component_records.specs.Links.{own_at};

@@ -1,5 +1,7 @@
 // The findings 10 to 14 of a new component, in the order in which they come: NEW with REF, redundant NEW, redundant REF,
 // modifiers that its definition does not hand down, a definition that is not there.
+#![tactic(auto)]
+
 ghost use Rattle.std.specs.Prelude.{◌≡◌, ◌&&◌, not, [], ◌∷◌, ◌+◌, ◌<◌};
 ghost use Rattle.rules.specs.Basic.{is_some};
 ghost use Rattle.rules.specs.Finding.{diag};

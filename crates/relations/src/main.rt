@@ -1,6 +1,8 @@
 // Runs the pass alone on the cases of `cases.txt` (the format is that of crates/replay/data/README.md). It prints the name
 // of each case, and then the refusal, or `no recipe`, or how much the recipe has and what each ingredient and each piece of cookware
 // is: a definition with what refers to it, or a reference.
+#![tactic(auto)]
+
 ghost use Rattle.std.specs.Prelude.{◌≡◌, ◌*◌, ◌≤◌, length};
 ghost use Rattle.unicode.specs.Tables.{unicode_tables};
 ghost use Rattle.unit_index.specs.Index.{Indexed};

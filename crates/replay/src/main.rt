@@ -2,6 +2,8 @@
 // the form or the refusal, byte for byte, with what is stored; and after each call all work memory and the output past the
 // answer have to be zero. It prints how many cases there are, how many pages, how many of these without a recipe, how many
 // were refused by each number, and how many differ; then the same of the forms, and how many are other than the sheet.
+#![tactic(auto)]
+
 ghost use Rattle.std.specs.Prelude.{◌≡◌, length};
 
 use libc::STDOUT_FILENO;

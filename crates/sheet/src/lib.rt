@@ -1,4 +1,6 @@
 // Readers of the event sheet: lines, fields, words, numbers, escapes. All of them take any bytes.
+#![tactic(auto)]
+
 ghost use Rattle.std.specs.Prelude.{◌≡◌, ◌+◌, ◌≤◌, length};
 ghost use Rattle.rules.specs.Basic.{eq_list, is_some, word_in};
 ghost use Rattle.rules.specs.Words.{event_words, block_kinds, value_kinds, config_keys, define_words, duplicate_words};

@@ -1,4 +1,6 @@
 // Every span of a line against the text: not reversed, not past the text, not inside a character.
+#![tactic(auto)]
+
 ghost use Rattle.std.specs.Prelude.{◌≡◌, ◌&&◌, List, ℕ, length};
 ghost use Rattle.rules.specs.Event.{text_spans, quantity_spans, intermediate_spans, named_spans, component_spans, spans_of, between as betweenRule, inside as insideRule};
 ghost use Rattle.rules.specs.Answer.{is_good_span};

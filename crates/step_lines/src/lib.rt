@@ -1,5 +1,7 @@
 // Lines of the page: sections, steps and their items, texts, timers, inline quantities. A line's writer gets the output from the cursor on
 // and returns how many bytes it wrote, or one more than there is room for.
+#![tactic(auto)]
+
 ghost use Rattle.std.specs.Prelude.{◌≡◌, true, [], ◌∷◌, ◌++◌, ◌+◌, ◌^◌, ◌<◌, length};
 ghost use Rattle.std.proofs.Math.Option.{none};
 ghost use Rattle.rules.specs.Basic.{codes, tab, lf, decimal, on_some};

@@ -1,5 +1,7 @@
 // Reads a file of stored cases (crates/replay/data/README.md). All functions take any bytes: a case that is not as the
 // format says is seen, and nothing is read past the end.
+#![tactic(auto)]
+
 ghost use Rattle.std.specs.Prelude.{◌≡◌, length, get_or, replicate};
 ghost use Rattle.stored_cases.specs.Cases.{part_of, after_of, starts_with, number_at, read_as, laid_out, parts_at, case_at, stored_as};
 

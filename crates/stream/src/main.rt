@@ -3,6 +3,8 @@
 // many its folding has, blanks collapsed, and a checksum of it; how many bytes the line has when its ends are trimmed,
 // and when it is trimmed altogether; where a path before its name ends and where the name starts; and 1 if it has the
 // same name as the line before, and 1 if it has the same content.
+#![tactic(auto)]
+
 ghost use Rattle.std.specs.Prelude.{◌≡◌, ◌≤◌, length};
 ghost use Rattle.unicode.specs.Tables.{unicode_tables};
 

@@ -1,5 +1,7 @@
 // The contents of fields as they stand in a sheet, escaped, or of any bytes: trimming, and names that are folded as they
 // are read. The Unicode tables are lent.
+#![tactic(auto)]
+
 mod ends;
 mod fronts;
 mod meets;

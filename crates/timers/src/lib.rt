@@ -1,4 +1,6 @@
 // `timer` lines in a step: the locks of quantities (6), and a timer's value and unit (21 to 23).
+#![tactic(auto)]
+
 ghost use Rattle.std.specs.Prelude.{◌≡◌, [], ◌∷◌, ◌+◌, ◌<◌};
 ghost use Rattle.rules.specs.Basic.{when};
 ghost use Rattle.rules.specs.Units.{read_units};

@@ -1,5 +1,7 @@
 // The checks after a reference: the unit check over a definition and its references (15 to 17), then those of notes and
 // quantities (18 to 20).
+#![tactic(auto)]
+
 mod kept;
 
 ghost use Rattle.std.specs.Prelude.{◌≡◌, true, ◌+◌, ◌-◌, ◌<◌, ◌≤◌, length};

@@ -1,6 +1,8 @@
 // The index of a unit list: its names in chains by their hashes. 256 words are the heads of the chains; then each line has two, where
 // it starts in the list, and the next line of its chain (one more than its number, or 0); the last word is a number of bytes
 // that no name exceeds.
+#![tactic(auto)]
+
 ghost use Rattle.std.specs.Prelude.{◌≡◌, true, ◌-◌, ◌≤◌, ◌<◌, length};
 ghost use Rattle.rules.specs.Basic.{is_some, eq_list};
 ghost use Rattle.rules.specs.Utf8.{is_utf8, chars};

@@ -1,4 +1,6 @@
 // The unit list: lines of a name, a tab and a physical quantity. It is lent bytes; crates/unit_index has an index of it.
+#![tactic(auto)]
+
 ghost use Rattle.std.specs.Prelude.{◌≡◌, true, ◌≤◌, length};
 ghost use Rattle.rules.specs.Basic.{eq_list, is_some, word_in};
 ghost use Rattle.rules.specs.Sheet.{fields_of};

@@ -1,3 +1,5 @@
+#![tactic(auto)]
+
 ghost use Rattle.std.specs.Prelude.{◌≡◌, [], ◌∷◌, ◌+◌, ◌≤◌, ◌<◌, length, drop, get_or};
 ghost use Rattle.rules.specs.Utf8.{second, later, sized, first_fault, is_inside};
 ghost use Rattle.utf8.specs.Decoding.{decoded_as, decoded_of, decoded_size};

@@ -1,0 +1,12 @@
+use native.Mathlib.Omega.{arith}
+use Prim.Native.Nat.{◌≤◌}
+use mathlib.Core.Path.{sym}
+use lib.ListN.{length}
+use lib.Seq.{length-take-le}
+use Rattle.fields.proofs.main.Goals as goal
+
+pub slice_bounds-write_all-end : goal.slice_bounds-write_all-end
+slice_bounds-write_all-end c =
+    let p = c in
+    let h : p.put_refusals.result ≤ length p.put_refusals.new.0 = omega (arith, c.if-b-le65536.true, p.put_refusals.auto.0, c.put_lines-a.auto.0, c.large_buffer-out.ensures) in
+    sym (length-take-le _ _ h)

@@ -1,0 +1,22 @@
+use borrow.Author.Rules.{rules}
+use native.Mathlib.Omega.{arith}
+use Prim.Native.Nat.{◌-◌}
+use mathlib.Core.Path.{refl}
+use Rattle.output.proofs.Puts.{keeps}
+use Rattle.finding_lines.proofs.Tables.{list_starts, list_on, list_ends, window_long}
+use Rattle.finding_lines.proofs.finding_lines.Goals as goal
+
+pub loop-i-init : goal.loop-i-init
+loop-i-init c = list_starts c.begin-m.ensures
+
+pub finding_at-x-requires : goal.finding_at-x-requires
+finding_at-x-requires c = let z = c.requires in omega (arith, window_long c.args.words.now z.long, c.loop-i-test.true, z.room.findings)
+
+pub loop-i-preserved : goal.loop-i-preserved
+loop-i-preserved c = list_on c.loop-i.invariant c.loop-i-test.true c.finding_at-x.ensures c.put_finding-m.ensures
+
+pub shape_of-out : goal.shape_of-out
+shape_of-out c = search (rules, keeps c.loop-i.invariant.put)
+
+pub returns : goal.returns
+returns c = list_ends c.loop-i.invariant c.args.h refl c.loop-i-test.false

@@ -1,0 +1,8 @@
+use Rattle.finding_lines.proofs.Parsers.{severe_yes, severe_no}
+use Rattle.finding_lines.proofs.is_severe.Goals as goal
+
+pub returns-in-Severe : goal.returns-in-Severe
+returns-in-Severe c = severe_yes c.in-Severe.is
+
+pub returns-in-Mild : goal.returns-in-Mild
+returns-in-Mild c = severe_no c.in-Mild.is

@@ -1,0 +1,10 @@
+use Prim.Native.Nat.{◌-◌}
+use lib.ListN.{length}
+use Rattle.finding_lines.proofs.Parsers.{Writing}
+use Rattle.finding_lines.proofs.parsed_lines.Given as goal
+
+abbrev pub invariant-loop-from : goal.invariant-loop-from
+invariant-loop-from l = Writing l.text l.sheet l.initial.out l.at l.out l.m l.from
+
+abbrev pub decreases-loop-from : goal.decreases-loop-from
+decreases-loop-from l = length l.sheet - l.from

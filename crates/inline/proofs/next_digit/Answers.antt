@@ -1,0 +1,37 @@
+use native.Mathlib.Omega.{arith}
+use Prim.Native.Nat.{◌-◌}
+use Rattle.content.proofs.Chars.{content_step}
+use Rattle.inline.proofs.Scans.{going_start, going_stop, going_on, going_end, digit_stops, digit_none}
+use Rattle.inline.proofs.Wide.{wide_passed}
+use Rattle.inline.proofs.next_digit.Goals as goal
+
+pub loop-i-init : goal.loop-i-init
+loop-i-init c = going_start _ _ _ c.requires.0 c.requires.1
+
+pub overflow_add-i : goal.overflow_add-i
+overflow_add-i c = omega (arith, (wide_passed c.loop-i.invariant c.loop-i-test.true c.if-a-ge128.true c.lead_size-i.ensures).most)
+
+pub loop-i-smaller-then-a-ge128 : goal.loop-i-smaller-then-a-ge128
+loop-i-smaller-then-a-ge128 c =
+    let k = wide_passed c.loop-i.invariant c.loop-i-test.true c.if-a-ge128.true c.lead_size-i.ensures in
+    omega (arith, k.least, k.most)
+
+pub loop-i-preserved-then-a-ge128 : goal.loop-i-preserved-then-a-ge128
+loop-i-preserved-then-a-ge128 c = (wide_passed c.loop-i.invariant c.loop-i-test.true c.if-a-ge128.true c.lead_size-i.ensures).still
+
+pub returns-then-is_digit : goal.returns-then-is_digit
+returns-then-is_digit c = going_stop c.loop-i.invariant _ c.loop-i-test.true c.char_in-c.ensures (digit_stops _ c.is_digit.ensures c.if-is_digit.true)
+
+pub overflow_add-i-else-a-ge128 : goal.overflow_add-i-else-a-ge128
+overflow_add-i-else-a-ge128 c = omega (arith, (content_step _ _ _ c.loop-i-test.true c.char_in-c.ensures).most)
+
+pub loop-i-smaller : goal.loop-i-smaller
+loop-i-smaller c =
+    let k = content_step _ _ _ c.loop-i-test.true c.char_in-c.ensures in
+    omega (arith, k.most, k.least)
+
+pub loop-i-preserved : goal.loop-i-preserved
+loop-i-preserved c = going_on c.loop-i.invariant _ c.loop-i-test.true c.char_in-c.ensures (digit_none _ c.is_digit.ensures c.if-is_digit.false)
+
+pub returns : goal.returns
+returns c = going_end c.loop-i.invariant c.loop-i-test.false

@@ -1,0 +1,5 @@
+use Rattle.lookup.proofs.Parts.{trimmed_at}
+use Rattle.lookup.proofs.trimmed_place.Goals as goal
+
+pub returns : goal.returns
+returns c = trimmed_at _ _ _ c.start_of_lem.ensures c.end_of_lem.ensures

@@ -1,0 +1,7 @@
+use mathlib.Core.Path.{refl}
+use Rattle.model.specs.Rows.{finding_of, spans_in}
+use Rattle.model.proofs.of_parser.Goals as goal
+
+pub returns : goal.returns
+unfolding finding_of spans_in
+returns c = refl

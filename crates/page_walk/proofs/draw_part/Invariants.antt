@@ -1,0 +1,10 @@
+use Prim.Native.Nat.{◌-◌}
+use lib.ListN.{length}
+use Rattle.page_walk.proofs.Drawing.{Walked}
+use Rattle.page_walk.proofs.draw_part.Given as goal
+
+abbrev pub invariant-loop-from : goal.invariant-loop-from
+invariant-loop-from l = Walked l.sheet l.text l.units l.flags l.p l.initial.out l.at l.from l.f l.out l.n
+
+abbrev pub decreases-loop-from : goal.decreases-loop-from
+decreases-loop-from l = length l.sheet - l.from

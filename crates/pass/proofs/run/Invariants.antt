@@ -1,0 +1,13 @@
+use Rattle.unit_checks.specs.Codes.{CodesKept}
+use Rattle.rules.specs.Answer.{units_or}
+use Rattle.rules.specs.Units.{read_units}
+use lib.ListN.{length}
+use Prim.Native.Nat.{◌-◌}
+use Rattle.pass.proofs.Loops.{Passing}
+use Rattle.pass.proofs.run.Given as goal
+
+abbrev pub invariant-loop-at : goal.invariant-loop-at
+invariant-loop-at l = Passing (units_or (read_units l.units)) l.flags l.sheet l.text l.initial.words l.words l.h l.at l.number × CodesKept l.units l.sheet l.codes
+
+abbrev pub decreases-loop-at : goal.decreases-loop-at
+decreases-loop-at l = length l.sheet - l.at

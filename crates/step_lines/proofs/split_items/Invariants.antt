@@ -1,0 +1,13 @@
+use Prim.Native.Nat.{◌-◌}
+use lib.ListN.{length}
+use Rattle.rules.specs.Units.{read_units}
+use Rattle.rules.specs.Answer.{units_or}
+use Rattle.step_lines.specs.Lines.{item_text}
+use Rattle.step_lines.proofs.Splits.{Splitting}
+use Rattle.step_lines.proofs.split_items.Given as goal
+
+abbrev pub invariant-loop-rest : goal.invariant-loop-rest
+invariant-loop-rest l = Splitting item_text (units_or (read_units l.units)) l.s l.first l.initial.rest l.rest l.at l.n l.quantities
+
+abbrev pub decreases-loop-rest : goal.decreases-loop-rest
+decreases-loop-rest l = length l.s - l.at
