@@ -10,7 +10,7 @@ ghost use Rattle.unit_index.specs.Index.{Indexed};
 ghost use Rattle.rules.specs.Finding.{found_two};
 ghost use Rattle.rules.specs.Model.{is_textual};
 ghost use Rattle.rules.specs.Checks.{text_check, widened};
-ghost use Rattle.unicode.specs.Tables.{unicode_tables};
+ghost use Rattle.letters.specs.Tables.{unicode_tables};
 ghost use Rattle.parts.specs.Views.{span_in, kind_in, SpanWithin, OptQuantityWithin};
 ghost use Rattle.model.specs.Memory.{Sound};
 ghost use Rattle.checks.specs.Reports.{Reported, place_of, NoteWithin, NoteChecked, PairChecked, QuantityChecked, UnitsChecked, ReferenceChecked};

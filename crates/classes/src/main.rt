@@ -2,10 +2,10 @@
 #![tactic(auto)]
 
 ghost use Rattle.std.specs.Prelude.{◌≡◌, ◌≤◌, ◌*◌};
-ghost use Rattle.unicode.specs.Tables.{unicode_tables};
+ghost use Rattle.letters.specs.Tables.{unicode_tables};
 
 use libc::STDOUT_FILENO;
-use unicode::Folded;
+use letters::Folded;
 
 const POINTS: u32 = 1114112;
 
@@ -57,10 +57,10 @@ fn is_in(t: &[u32], class: Class, c: u32) -> bool
     requires { t.now ≡ unicode_tables }
 {
     match class {
-        Class::White => unicode::is_white_space(t, c),
-        Class::Alphabetic => unicode::is_alphabetic(t, c),
-        Class::Numeric => unicode::is_numeric(t, c),
-        Class::Alphanumeric => unicode::is_alphanumeric(t, c),
+        Class::White => letters::is_white_space(t, c),
+        Class::Alphabetic => letters::is_alphabetic(t, c),
+        Class::Numeric => letters::is_numeric(t, c),
+        Class::Alphanumeric => letters::is_alphanumeric(t, c),
     }
 }
 
@@ -84,7 +84,7 @@ fn foldings(t: &[u32]) -> Sum
     let mut s = Sum { count: 0, total: 0 };
     let mut c: u32 = 0;
     while c < POINTS {
-        s = and_all(s, unicode::fold(t, c));
+        s = and_all(s, letters::fold(t, c));
         c += 1;
     }
     s
@@ -103,7 +103,7 @@ fn changed(t: &[u32]) -> u32
     let mut n: u32 = 0;
     let mut c: u32 = 0;
     while c < POINTS {
-        if is_changed(unicode::fold(t, c), c) {
+        if is_changed(letters::fold(t, c), c) {
             n += 1;
         }
         c += 1;
@@ -141,7 +141,7 @@ fn show_folding(t: &[u32])
 }
 
 fn main() {
-    let tables = unicode::unicode_tables();
+    let tables = letters::unicode_tables();
     show_classes(&tables);
     show_folding(&tables);
 }

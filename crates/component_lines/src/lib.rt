@@ -8,7 +8,7 @@ ghost use Rattle.rules.specs.Units.{read_units};
 ghost use Rattle.rules.specs.Answer.{units_or};
 ghost use Rattle.unit_index.specs.Index.{Indexed};
 ghost use Rattle.rules.specs.Model.{ingredient};
-ghost use Rattle.unicode.specs.Tables.{unicode_tables};
+ghost use Rattle.letters.specs.Tables.{unicode_tables};
 ghost use Rattle.components.specs.Views.{modifiers_in};
 ghost use Rattle.events.specs.Views.{component_event_in, ComponentEventWithin};
 ghost use Rattle.events.specs.declared.ComponentEvent.TheVariants as event;

@@ -8,7 +8,7 @@ ghost use Rattle.rules.specs.Text.{text_trimmed, text_outer_trimmed};
 ghost use Rattle.rules.specs.Modes.{key_of, is_bracketed, ends_with_bracket};
 ghost use Rattle.sheet.specs.Words.{define_as, duplicate_as};
 ghost use Rattle.content.specs.Contents.{content_in};
-ghost use Rattle.unicode.specs.Tables.{unicode_tables};
+ghost use Rattle.letters.specs.Tables.{unicode_tables};
 ghost use Rattle.config_keys.specs.Keys.{key_in, HeededKey};
 
 use sheet::{DefineWord, DuplicateWord};

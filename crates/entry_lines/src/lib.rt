@@ -9,7 +9,7 @@ ghost use Rattle.rules.specs.Model.{ingredient, cookware, name_of, path_of, refe
 ghost use Rattle.rules.specs.Page.{or_minus, target_word, relation_fields, ingredient_line, cookware_line, table_lines};
 ghost use Rattle.rules.specs.State.{table_of};
 ghost use Rattle.rules.proofs.Fields.{Without};
-ghost use Rattle.unicode.specs.Tables.{unicode_tables};
+ghost use Rattle.letters.specs.Tables.{unicode_tables};
 ghost use Rattle.output.specs.Put.{Put, tabbed};
 ghost use Rattle.content.specs.Contents.{kept_in};
 ghost use Rattle.content.specs.Parts.{Field};

@@ -12,7 +12,7 @@ use Rattle.rules.specs.WhiteSpace.{white_space}
 use Rattle.rules.specs.Unicode.{is_white_space}
 use Rattle.rules.specs.Inline.{front, behind, is_digit_or_point}
 use Rattle.rules.proofs.Basics.{within_from, within_to, within_high}
-use Rattle.unicode.proofs.Ascii.{ascii_white_lem}
+use Rattle.letters.proofs.Ascii.{ascii_white_lem}
 use Rattle.inline.specs.Scans.{is_not_white}
 
 module _ (p : ℕ → Bool) where

@@ -17,8 +17,8 @@ use Rattle.rules.proofs.Basics.{pick_either, by_order, no_truth, within_high}
 use Rattle.rules.proofs.Begins.{Begins, one, two, three, four, first_some, size_1, size_2, size_3, size_4, second_from, second_to, later_from, later_to}
 use Rattle.rules.proofs.Chars.{starts, well_utf8}
 use Rattle.rules.proofs.Encodes.{least_3, least_4}
-use Rattle.unicode.proofs.Ascii.{ascii_white_lem}
-use Rattle.unicode.proofs.Still.{no_white, past_white}
+use Rattle.letters.proofs.Ascii.{ascii_white_lem}
+use Rattle.letters.proofs.Still.{no_white, past_white}
 use Rattle.utf8.specs.declared.Char.{Char}
 use Rattle.utf8.specs.Reading.{char_of}
 use Rattle.content.specs.Readings.{char_in}

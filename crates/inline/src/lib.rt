@@ -11,7 +11,7 @@ ghost use Rattle.content.specs.Contents.{content_in};
 ghost use Rattle.content.specs.Parts.{Field};
 ghost use Rattle.rules.specs.Text.{is_not_alphabetic};
 ghost use Rattle.rules.specs.Inline.{is_no_digit, is_digit_or_point, points as pointsIn};
-ghost use Rattle.unicode.specs.Tables.{unicode_tables};
+ghost use Rattle.letters.specs.Tables.{unicode_tables};
 ghost use Rattle.unit_index.specs.Index.{Indexed};
 ghost use Rattle.inline.specs.Scans.{is_not_white, lead_size, is_solid, is_solid_e3, part, Front, SignAt, UnitPart};
 ghost use Rattle.inline.specs.Found.{InlineAt};
@@ -145,7 +145,7 @@ fn blanks_end(t: &[u32], s: &[u8], at: usize) -> usize
             return i;
         }
         let c = content::char_in(s, i);
-        if !unicode::is_white_space(t, c.code) {
+        if !letters::is_white_space(t, c.code) {
             return i;
         }
         i += c.size;
@@ -167,7 +167,7 @@ fn word_end(t: &[u32], s: &[u8], at: usize) -> usize
             i += 3;
         } else {
             let c = content::char_in(s, i);
-            if unicode::is_white_space(t, c.code) {
+            if letters::is_white_space(t, c.code) {
                 return i;
             }
             i += c.size;
@@ -184,7 +184,7 @@ fn letters_start(t: &[u32], s: &[u8]) -> usize
     let mut i = 0;
     while i < s.len() {
         let c = content::char_in(s, i);
-        if unicode::is_alphabetic(t, c.code) {
+        if letters::is_alphabetic(t, c.code) {
             return i;
         }
         i += c.size;

@@ -8,7 +8,7 @@ ghost use Rattle.rules.specs.Unicode.{fold_name, same_name};
 ghost use Rattle.rules.specs.Modes.{is_steps, is_reference};
 ghost use Rattle.rules.specs.Model.{ingredient, cookware};
 ghost use Rattle.rules.specs.Reference.{eq_bool};
-ghost use Rattle.unicode.specs.Tables.{unicode_tables};
+ghost use Rattle.letters.specs.Tables.{unicode_tables};
 ghost use Rattle.content.specs.Contents.{kept_in};
 ghost use Rattle.model.specs.Rows.{row_at, row_of};
 ghost use Rattle.model.specs.Memory.{define_of, duplicate_of, Sound};

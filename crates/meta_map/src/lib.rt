@@ -9,7 +9,7 @@ ghost use Rattle.rules.specs.Answer.{events, events_or, read_sheet};
 ghost use Rattle.rules.proofs.Fields.{Without};
 ghost use Rattle.content.specs.Contents.{kept_in};
 ghost use Rattle.content.specs.Parts.{Field};
-ghost use Rattle.unicode.specs.Tables.{unicode_tables};
+ghost use Rattle.letters.specs.Tables.{unicode_tables};
 ghost use Rattle.parts.specs.Views.{TextWithin};
 ghost use Rattle.known_events.specs.Fields.{TextField};
 ghost use Rattle.known_events.specs.Known.{KnownEvent};

@@ -13,7 +13,7 @@ use Rattle.rules.specs.State.{State, table_of, recipe, going}
 use Rattle.rules.specs.Pass.{is_open, ended}
 use Rattle.rules.specs.Page.{table_lines, ingredient_line, cookware_line, recipe_page, failed_page}
 use Rattle.rules.specs.Answer.{words_needed, events, read_sheet, events_or, units_or}
-use Rattle.unicode.specs.Tables.{unicode_tables}
+use Rattle.letters.specs.Tables.{unicode_tables}
 use Rattle.output.specs.Put.{Put}
 use Rattle.output.proofs.Puts.{put_seq}
 use Rattle.output.proofs.Texts.{text_is}

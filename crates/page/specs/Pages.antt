@@ -6,7 +6,7 @@ use Rattle.rules.specs.State.{State, recipe, no_recipe}
 use Rattle.rules.specs.Pass.{parse_events}
 use Rattle.rules.specs.Page.{recipe_page, failed_page}
 use Rattle.rules.specs.Answer.{bytes_needed, read_sheet, events_or, units_or}
-use Rattle.unicode.specs.Tables.{unicode_tables}
+use Rattle.letters.specs.Tables.{unicode_tables}
 use Rattle.output.specs.Put.{Put}
 use Rattle.unit_index.specs.Index.{Indexed}
 use Rattle.inputs.specs.Inputs.{GoodInputs}

@@ -4,7 +4,7 @@
 
 ghost use Rattle.std.specs.Prelude.{◌≡◌};
 ghost use Rattle.rules.specs.Answer.{events, events_or, read_sheet};
-ghost use Rattle.unicode.specs.Tables.{unicode_tables};
+ghost use Rattle.letters.specs.Tables.{unicode_tables};
 ghost use Rattle.output.specs.Put.{Put};
 ghost use Rattle.finding_lines.specs.Lines.{old_open, old_close};
 ghost use Rattle.page_walk.specs.Walk.{PassInputs};

@@ -9,7 +9,7 @@ ghost use Rattle.rules.specs.Utf8.{encode};
 ghost use Rattle.rules.specs.Model.{trimmed_text, amount_of};
 ghost use Rattle.rules.specs.Page.{optional, amount_fields};
 ghost use Rattle.rules.specs.Write.{kind_field, modifiers_field};
-ghost use Rattle.unicode.specs.Tables.{unicode_tables};
+ghost use Rattle.letters.specs.Tables.{unicode_tables};
 ghost use Rattle.output.specs.Put.{Put, tabbed};
 ghost use Rattle.content.specs.Parts.{Field};
 ghost use Rattle.parts.specs.Views.{part_of, content_in, text_in, opt_text_in, kind_in, quantity_in, opt_quantity_in};

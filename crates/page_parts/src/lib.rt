@@ -9,7 +9,7 @@ ghost use Rattle.rules.specs.Event.{component_span, spans_of, inside};
 ghost use Rattle.rules.specs.Units.{read_units};
 ghost use Rattle.rules.specs.Answer.{units_or, is_good_span};
 ghost use Rattle.rules.specs.Model.{trimmed_text};
-ghost use Rattle.unicode.specs.Tables.{unicode_tables};
+ghost use Rattle.letters.specs.Tables.{unicode_tables};
 ghost use Rattle.output.specs.Put.{Put};
 ghost use Rattle.unit_index.specs.Index.{Indexed};
 ghost use Rattle.parts.specs.Views.{opt_text_in};

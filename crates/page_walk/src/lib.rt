@@ -5,7 +5,7 @@ ghost use Rattle.std.specs.Prelude.{◌≡◌, true, not, eqb};
 ghost use Rattle.rules.specs.Utf8.{is_utf8};
 ghost use Rattle.rules.specs.Units.{read_units};
 ghost use Rattle.rules.specs.Answer.{units_or};
-ghost use Rattle.unicode.specs.Tables.{unicode_tables};
+ghost use Rattle.letters.specs.Tables.{unicode_tables};
 ghost use Rattle.unit_index.specs.Index.{Indexed};
 ghost use Rattle.page_walk.specs.Walk.{LineReady, LineTaken, is_aside, is_idle, TurnTaken, PassInputs, PartDrawn};
 

@@ -8,7 +8,7 @@ ghost use Rattle.rules.specs.Utf8.{is_utf8};
 ghost use Rattle.rules.specs.Event.{spans_of};
 ghost use Rattle.rules.specs.Units.{read_units};
 ghost use Rattle.rules.specs.Answer.{units_or, is_good_span};
-ghost use Rattle.unicode.specs.Tables.{unicode_tables};
+ghost use Rattle.letters.specs.Tables.{unicode_tables};
 ghost use Rattle.unit_index.specs.Index.{Indexed};
 ghost use Rattle.parts.specs.Views.{TextWithin};
 ghost use Rattle.events.specs.Views.{event_in, EventWithin};

@@ -5,7 +5,7 @@ use mathlib.Core.List.{List}
 use native.Mathlib.Omega.{arith}
 use lib.ListN.{length}
 use Rattle.rules.specs.Answer.{words_needed, events, read_sheet, events_or}
-use Rattle.unicode.specs.Tables.{unicode_tables}
+use Rattle.letters.specs.Tables.{unicode_tables}
 use Rattle.unit_index.specs.Index.{Indexed}
 use Rattle.inputs.specs.Inputs.{GoodInputs}
 use Rattle.pass.specs.Walks.{Lent}

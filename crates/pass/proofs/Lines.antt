@@ -14,7 +14,7 @@ use Rattle.rules.specs.Finding.{parsed}
 use Rattle.rules.specs.State as state
 use Rattle.rules.specs.State.{State, set_place, set_block, set_kept, report, Step, next}
 use Rattle.rules.specs.Pass.{is_empty_section, close_section, on_section, on_component, in_step_block, is_error_event, on_inside, on_between, on_event}
-use Rattle.unicode.specs.Tables.{unicode_tables}
+use Rattle.letters.specs.Tables.{unicode_tables}
 use Rattle.content.specs.Parts.{Field}
 use Rattle.parts.specs.Views.{part_of, TextWithin, OptQuantityWithin}
 use Rattle.parts.specs.declared.Span.{Span}

@@ -7,7 +7,7 @@ use Rattle.rules.specs.Finding.{Finding}
 use Rattle.rules.specs.State.{State, first_state, Step, going, refused, recipe, no_recipe, refusal}
 use Rattle.rules.specs.Pass as rules
 use Rattle.rules.specs.Pass.{is_error_event, walk, ended, finish, parse_events}
-use Rattle.unicode.specs.Tables.{unicode_tables}
+use Rattle.letters.specs.Tables.{unicode_tables}
 use Rattle.events.specs.Views.{between_in, inside_in, event_in, EventWithin}
 use Rattle.events.specs.declared.Between.{Between}
 use Rattle.events.specs.declared.Inside.{Inside}

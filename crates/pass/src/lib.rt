@@ -4,7 +4,7 @@
 ghost use Rattle.std.specs.Prelude.{◌≡◌, ◌≤◌, ◌<◌, length};
 ghost use Rattle.rules.specs.Units.{read_units};
 ghost use Rattle.rules.specs.Answer.{units_or, events_or, read_sheet, events};
-ghost use Rattle.unicode.specs.Tables.{unicode_tables};
+ghost use Rattle.letters.specs.Tables.{unicode_tables};
 ghost use Rattle.events.specs.Views.{BetweenWithin};
 ghost use Rattle.events.specs.declared.EventView.TheVariants as event;
 ghost use Rattle.events.specs.declared.Inside.TheVariants as inside;

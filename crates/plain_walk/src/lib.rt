@@ -8,7 +8,7 @@ ghost use Rattle.rules.specs.Units.{read_units};
 ghost use Rattle.rules.specs.Answer.{units_or, events_or, read_sheet, events};
 ghost use Rattle.rules.specs.Modes.{has_modes, key_of, key_text};
 ghost use Rattle.rules.specs.Plain.{is_mode_key};
-ghost use Rattle.unicode.specs.Tables.{unicode_tables};
+ghost use Rattle.letters.specs.Tables.{unicode_tables};
 ghost use Rattle.parts.specs.Views.{text_in, TextWithin};
 ghost use Rattle.events.specs.declared.EventView.TheVariants as event;
 ghost use Rattle.events.specs.Views.{BetweenWithin, EventWithin};

@@ -18,7 +18,7 @@ use Rattle.rules.specs.Answer.{declined, Lent, bytes_needed, events, events_or, 
 use Rattle.rules.proofs.Basics.{by_order}
 use Rattle.rules.proofs.Collected.{Begins, collected_is}
 use Rattle.rules.proofs.Kept.{form_reads}
-use Rattle.unicode.specs.Tables.{unicode_tables}
+use Rattle.letters.specs.Tables.{unicode_tables}
 use Rattle.output.specs.Put.{Put}
 use Rattle.output.proofs.Puts.{keeps, put_room, put_fit, put_fits}
 use Rattle.inputs.specs.Inputs.{InputsChecked, GoodInputs}

@@ -9,7 +9,7 @@ use Rattle.rules.specs.Units.{read_units}
 use Rattle.rules.specs.State.{Outcome, refusal}
 use Rattle.rules.specs.Pass.{parse_events, ended}
 use Rattle.rules.specs.Answer.{Lent, words_needed, bytes_needed, is_short, hand_out, written, collect_answer, events, events_or, read_sheet, units_or}
-use Rattle.unicode.specs.Tables.{unicode_tables}
+use Rattle.letters.specs.Tables.{unicode_tables}
 use Rattle.inputs.specs.Inputs.{InputsChecked, GoodInputs, UnitsReady}
 use Rattle.inputs.specs.declared.Inputs.{Inputs}
 use Rattle.inputs.specs.declared.Inputs.TheVariants as inputs

@@ -3,7 +3,7 @@ use Rattle.std.specs.Prelude.{ℕ, ◌+◌, ◌*◌, ◌≤◌, ◌<◌, ◌≡�
 use Rattle.rules.specs.Basic.{pick}
 use Rattle.rules.specs.Answer as rules
 use Rattle.rules.specs.Answer.{answered, declined, Lent, collect_answer, plain_answer, out_after, work_after, printed}
-use Rattle.unicode.specs.Tables.{unicode_tables}
+use Rattle.letters.specs.Tables.{unicode_tables}
 use Rattle.unit_index.specs.Index.{Indexed}
 use Rattle.inputs.specs.Inputs.{GoodInputs}
 use Rattle.recipe.specs.declared.Answer.{Answer}

@@ -4,7 +4,7 @@
 
 ghost use Rattle.std.specs.Prelude.{◌≡◌, ◌≤◌, length};
 ghost use Rattle.rules.specs.Answer.{words_needed, bytes_needed, events, events_or, read_sheet, collect_answer, error_line, form_answer, plain_answer};
-ghost use Rattle.unicode.specs.Tables.{unicode_tables};
+ghost use Rattle.letters.specs.Tables.{unicode_tables};
 ghost use Rattle.page.specs.Pages.{RecipeGiven};
 ghost use Rattle.recipe.specs.Answers.{used_of, answer_code, usable_of, usable_lent, lengths, lent_of, page_or20, Given, Answered, Collected, PlainFormed, Coded, PrintedAt};
 ghost use Rattle.recipe.specs.Forms.{tells17, form_given};
@@ -103,7 +103,7 @@ pub fn collect(
 ) -> Answer
     ensures { Collected sheet.now text.now units.now flags (lent_of words.old bytes.old out.old) words.new bytes.new out.new result }
 {
-    let t = unicode::unicode_tables();
+    let t = letters::unicode_tables();
     let mut index = [0u32; 2305];
     let r = collected(
         &t,
@@ -268,7 +268,7 @@ pub fn plain_form(
 ) -> Answer
     ensures { PlainFormed sheet.now text.now units.now flags (lent_of words.old bytes.old out.old) words.new bytes.new out.new result }
 {
-    let t = unicode::unicode_tables();
+    let t = letters::unicode_tables();
     let mut index = [0u32; 2305];
     let f = formed(&t, sheet, text, units, &mut index, flags, words, bytes, out);
     clearing::clear_words(words);

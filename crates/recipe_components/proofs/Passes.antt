@@ -18,7 +18,7 @@ use Rattle.rules.specs.Answer.{words_needed, bytes_needed, is_short, events, eve
 use Rattle.rules.proofs.Basics.{pick_either, no_some, and_left, and_right}
 use Rattle.rules.proofs.Referrers.{Linked, walk_linked}
 use Rattle.rules.proofs.LinkedRecipe.{own_references}
-use Rattle.unicode.specs.Tables.{unicode_tables}
+use Rattle.letters.specs.Tables.{unicode_tables}
 use Rattle.inputs.specs.Inputs.{InputsChecked, UnitsReady}
 use Rattle.inputs.specs.declared.Inputs.{Inputs}
 use Rattle.inputs.specs.declared.Inputs.TheVariants as inputs

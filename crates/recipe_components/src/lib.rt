@@ -181,7 +181,7 @@ fn collect_rows(
     ) {
         Inputs::Refused(n, l) => Components::Refused(n, l),
         Inputs::Good => {
-            let t = unicode::unicode_tables();
+            let t = letters::unicode_tables();
             pass_rows(
                 &t,
                 sheet,

@@ -6,7 +6,7 @@ use native.Mathlib.Omega.{arith}
 use lib.ListN.{length, take, drop}
 use Rattle.rules.specs.Event.{Event}
 use Rattle.rules.specs.Units.{NamedUnit}
-use Rattle.unicode.specs.Tables.{unicode_tables}
+use Rattle.letters.specs.Tables.{unicode_tables}
 use Rattle.unit_index.specs.Index.{Indexed}
 use Rattle.inputs.specs.Inputs.{InputsChecked, GoodInputs, UnitsReady}
 use Rattle.inputs.specs.declared.Inputs.{Inputs}

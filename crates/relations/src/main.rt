@@ -4,7 +4,7 @@
 #![tactic(auto)]
 
 ghost use Rattle.std.specs.Prelude.{◌≡◌, ◌*◌, ◌≤◌, length};
-ghost use Rattle.unicode.specs.Tables.{unicode_tables};
+ghost use Rattle.letters.specs.Tables.{unicode_tables};
 ghost use Rattle.unit_index.specs.Index.{Indexed};
 ghost use Rattle.inputs.specs.Inputs.{GoodInputs};
 ghost use Rattle.model.specs.Memory.{Sound};
@@ -191,7 +191,7 @@ fn words_room() -> [u32; 45661]
 }
 
 fn main() {
-    let t = unicode::unicode_tables();
+    let t = letters::unicode_tables();
     let mut words = words_room();
     let mut space = stored_cases::room();
     let n = stored_cases::read_file(b"cases.txt", &mut space);

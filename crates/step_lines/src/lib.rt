@@ -14,7 +14,7 @@ ghost use Rattle.rules.specs.Model.{text_item, trimmed_text};
 ghost use Rattle.rules.specs.Components.{timer_of};
 ghost use Rattle.rules.specs.Pass.{pieces, source_text};
 ghost use Rattle.rules.specs.Page.{optional, item_line, timer_line, inline_line};
-ghost use Rattle.unicode.specs.Tables.{unicode_tables};
+ghost use Rattle.letters.specs.Tables.{unicode_tables};
 ghost use Rattle.output.specs.Put.{Put, tabbed};
 ghost use Rattle.content.specs.Contents.{content_in, spell};
 ghost use Rattle.content.specs.Parts.{Field};

@@ -6,7 +6,7 @@
 #![tactic(auto)]
 
 ghost use Rattle.std.specs.Prelude.{◌≡◌, ◌≤◌, length};
-ghost use Rattle.unicode.specs.Tables.{unicode_tables};
+ghost use Rattle.letters.specs.Tables.{unicode_tables};
 
 use libc::{STDIN_FILENO, STDOUT_FILENO};
 use text::Step;
@@ -49,9 +49,9 @@ fn count(t: &[u32], s: &[u8]) -> Counts
     while at < s.len() {
         let c = content::char_in(s, at);
         points += 1;
-        white += one(unicode::is_white_space(t, c.code));
-        alphabetic += one(unicode::is_alphabetic(t, c.code));
-        alphanumeric += one(unicode::is_alphanumeric(t, c.code));
+        white += one(letters::is_white_space(t, c.code));
+        alphabetic += one(letters::is_alphabetic(t, c.code));
+        alphanumeric += one(letters::is_alphanumeric(t, c.code));
         at += c.size;
     }
     Counts {
@@ -175,7 +175,7 @@ fn show_lines(t: &[u32], s: &[u8], work: &mut [u8])
 }
 
 fn main() {
-    let tables = unicode::unicode_tables();
+    let tables = letters::unicode_tables();
     let mut space = io::large_buffer();
     let mut work = io::large_buffer();
     let n = io::read_full(STDIN_FILENO, &mut space);

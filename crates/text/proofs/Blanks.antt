@@ -15,7 +15,7 @@ use Rattle.rules.proofs.Begins.{later_ascii}
 use Rattle.content.specs.Contents.{content_in}
 use Rattle.content.proofs.Chars.{content_step, in_ascii, no_content}
 use Rattle.content.proofs.Cuts.{cut_content}
-use Rattle.unicode.proofs.Ascii.{white_blank, letter_upper}
+use Rattle.letters.proofs.Ascii.{white_blank, letter_upper}
 use Rattle.text.specs.declared.Dropped.{Dropped}
 use Rattle.text.specs.declared.Dropped.TheVariants.{White, NotAlphabetic}
 use Rattle.text.specs.Trims.{drops_of, CharStarts, Blanks, no_blanks, more_blanks, BlankFrom}

@@ -16,7 +16,7 @@ use Rattle.content.specs.Readings.{plain_byte}
 use Rattle.content.proofs.Compare.{plain}
 use Rattle.content.proofs.Kept.{kept_none}
 use Rattle.content.proofs.Seams.{Opens, kept_join}
-use Rattle.unicode.proofs.Ascii.{ascii_fold_lem}
+use Rattle.letters.proofs.Ascii.{ascii_fold_lem}
 use Rattle.text.specs.Plain.{lowered}
 use Rattle.text.proofs.Plain.{plain_stands, case_apart}
 

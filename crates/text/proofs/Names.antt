@@ -11,9 +11,9 @@ use Rattle.rules.specs.Unicode.{fold, fold_name, same_name}
 use Rattle.content.specs.Contents.{kept_in}
 use Rattle.content.specs.Kept.{KeptStep}
 use Rattle.content.proofs.Kept.{kept_none}
-use Rattle.unicode.specs.declared.Folded.{Folded}
-use Rattle.unicode.specs.declared.Folded.TheVariants as folded
-use Rattle.unicode.specs.Folded.{folded_of}
+use Rattle.letters.specs.declared.Folded.{Folded}
+use Rattle.letters.specs.declared.Folded.TheVariants as folded
+use Rattle.letters.specs.Folded.{folded_of}
 use Rattle.utf8.specs.declared.Char.{Char}
 use Rattle.text.specs.declared.Pending.TheVariants.{Nothing, One, Two}
 use Rattle.text.specs.declared.Cursor.{Cursor}

@@ -18,10 +18,10 @@ use Rattle.content.specs.Contents.{kept_in}
 use Rattle.content.specs.Kept.{KeptStep}
 use Rattle.content.specs.Readings.{plain_byte}
 use Rattle.content.proofs.Kept.{kept_none, kept_some}
-use Rattle.unicode.proofs.Ascii.{ascii_fold_lem}
-use Rattle.unicode.specs.declared.Folded.{Folded}
-use Rattle.unicode.specs.declared.Folded.TheVariants.{One, Two, Three}
-use Rattle.unicode.specs.Folded.{folded_of}
+use Rattle.letters.proofs.Ascii.{ascii_fold_lem}
+use Rattle.letters.specs.declared.Folded.{Folded}
+use Rattle.letters.specs.declared.Folded.TheVariants.{One, Two, Three}
+use Rattle.letters.specs.Folded.{folded_of}
 use Rattle.text.specs.declared.meets.Meeting.{Meeting}
 use Rattle.text.specs.declared.meets.Meeting.TheVariants.{Answer, On, Unclear}
 use Rattle.text.specs.declared.meets.Pair.{Pair}

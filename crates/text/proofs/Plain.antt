@@ -13,7 +13,7 @@ use Rattle.content.specs.Contents.{kept_in}
 use Rattle.content.specs.Readings.{plain_byte}
 use Rattle.content.proofs.Kept.{kept_ascii}
 use Rattle.content.proofs.Compare.{plain}
-use Rattle.unicode.proofs.Ascii.{ascii_fold_lem}
+use Rattle.letters.proofs.Ascii.{ascii_fold_lem}
 use Rattle.text.specs.Plain.{lowered, SameLetter}
 use Rattle.text.specs.Seams.{same_at}
 

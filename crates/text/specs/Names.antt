@@ -2,8 +2,8 @@
 use Rattle.std.specs.Prelude.{ℕ, List, [], ◌∷◌, ◌++◌, drop}
 use Rattle.rules.specs.Unicode.{fold_name}
 use Rattle.content.specs.Contents.{kept_in}
-use Rattle.unicode.specs.declared.Folded.{Folded}
-use Rattle.unicode.specs.declared.Folded.TheVariants as folded
+use Rattle.letters.specs.declared.Folded.{Folded}
+use Rattle.letters.specs.declared.Folded.TheVariants as folded
 use Rattle.text.specs.declared.Pending.{Pending}
 use Rattle.text.specs.declared.Pending.TheVariants.{Nothing, One, Two}
 use Rattle.text.specs.declared.Cursor.{Cursor}

@@ -4,8 +4,8 @@ use Rattle.rules.specs.Basic.{pick, eq_list}
 use Rattle.rules.specs.Unicode.{same_name}
 use Rattle.content.specs.Contents.{kept_in}
 use Rattle.content.specs.Readings.{plain_byte}
-use Rattle.unicode.specs.declared.Folded.{Folded}
-use Rattle.unicode.specs.declared.Folded.TheVariants.{One, Two, Three}
+use Rattle.letters.specs.declared.Folded.{Folded}
+use Rattle.letters.specs.declared.Folded.TheVariants.{One, Two, Three}
 use Rattle.text.specs.Names.{fold_from}
 use Rattle.text.specs.Plain.{lowered}
 use Rattle.text.specs.declared.meets.Meeting.{Meeting}

@@ -1,6 +1,6 @@
 // The end of a field without the characters that a trimming drops there.
 ghost use Rattle.std.specs.Prelude.{◌≡◌};
-ghost use Rattle.unicode.specs.Tables.{unicode_tables};
+ghost use Rattle.letters.specs.Tables.{unicode_tables};
 ghost use Rattle.text.specs.Trims.{drops_of, EndAt, LastOf};
 
 use super::Dropped;

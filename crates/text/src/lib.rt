@@ -11,7 +11,7 @@ ghost use Rattle.rules.specs.Basic.{blank, any};
 ghost use Rattle.rules.specs.Text.{retain, trim_end, trim_matches};
 ghost use Rattle.rules.specs.Unicode.{is_alphanumeric, same_name};
 ghost use Rattle.content.specs.Contents.{content_in, kept_in};
-ghost use Rattle.unicode.specs.Tables.{unicode_tables};
+ghost use Rattle.letters.specs.Tables.{unicode_tables};
 ghost use Rattle.output.specs.Put.{Put};
 ghost use Rattle.text.specs.Trims.{drops_of, StartAt, EndAt, TrimmedBy, TrimmedTo, PutTrimmed};
 ghost use Rattle.text.specs.Singles.{stay, NextBlank};
@@ -21,7 +21,7 @@ ghost use Rattle.text.specs.Seams.{Met};
 
 use ends::Last;
 use meets::Meeting;
-use unicode::Folded;
+use letters::Folded;
 
 // Which characters a trimming drops at both ends.
 #[derive(Clone, Copy)]
@@ -35,8 +35,8 @@ fn is_dropped(t: &[u32], d: Dropped, c: u32) -> bool
     ensures { result ≡ drops_of d c }
 {
     match d {
-        Dropped::White => unicode::is_white_space(t, c),
-        Dropped::NotAlphabetic => !unicode::is_alphabetic(t, c),
+        Dropped::White => letters::is_white_space(t, c),
+        Dropped::NotAlphabetic => !letters::is_alphabetic(t, c),
     }
 }
 
@@ -240,7 +240,7 @@ pub fn has_alphanumeric(t: &[u32], s: &[u8]) -> bool
     let mut at = 0;
     while at < s.len() {
         let c = content::char_in(s, at);
-        if unicode::is_alphanumeric(t, c.code) {
+        if letters::is_alphanumeric(t, c.code) {
             return true;
         }
         at += c.size;
@@ -317,7 +317,7 @@ fn fresh(t: &[u32], s: &[u8], at: usize) -> Step
         return Step::End;
     }
     let c = content::kept_char(s, at);
-    emit(unicode::fold(t, c.code), at + c.size)
+    emit(letters::fold(t, c.code), at + c.size)
 }
 
 // The next folded code point.
@@ -405,8 +405,8 @@ fn meet(t: &[u32], a: &[u8], i: usize, b: &[u8], j: usize) -> Meeting
     }
     let x = content::kept_char(a, i);
     let y = content::kept_char(b, j);
-    let f = unicode::fold(t, x.code);
-    let g = unicode::fold(t, y.code);
+    let f = letters::fold(t, x.code);
+    let g = letters::fold(t, y.code);
     let p = meets::paired(f, g);
     meets::meet_on(t, a, i + x.size, b, j + y.size, p)
 }

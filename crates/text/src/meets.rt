@@ -1,9 +1,9 @@
 // What characters that are not the same bytes, one of each of two names, tell of the names by their foldings.
 ghost use Rattle.std.specs.Prelude.{◌≡◌, true, ◌≤◌, length};
-ghost use Rattle.unicode.specs.Tables.{unicode_tables};
+ghost use Rattle.letters.specs.Tables.{unicode_tables};
 ghost use Rattle.text.specs.Seams.{Seam, pair_of, Following, Settled, LetterS, StartsSs};
 
-use unicode::Folded;
+use letters::Folded;
 
 // The answer, or where to go on.
 #[derive(Clone, Copy)]
@@ -67,7 +67,7 @@ fn following(t: &[u32], s: &[u8], at: usize, z: u32) -> Next
         return Next::Other;
     }
     let c = content::kept_char(s, at);
-    match unicode::fold(t, c.code) {
+    match letters::fold(t, c.code) {
         Folded::One(x) => if x == z {
             Next::Past(at + c.size)
         } else {
@@ -124,8 +124,8 @@ fn wide_pair(t: &[u32], a: &[u8], b: &[u8]) -> usize
     if x.code == y.code {
         return 0;
     }
-    match unicode::fold(t, x.code) {
-        Folded::One(u) => match unicode::fold(t, y.code) {
+    match letters::fold(t, x.code) {
+        Folded::One(u) => match letters::fold(t, y.code) {
             Folded::One(v) => if u == v { x.size } else { 0 },
             Folded::Two(_, _) => 0,
             Folded::Three(_, _, _) => 0,

@@ -8,7 +8,7 @@ ghost use Rattle.rules.specs.Answer.{units_or};
 ghost use Rattle.unit_index.specs.Index.{Indexed};
 ghost use Rattle.rules.specs.Finding.{found};
 ghost use Rattle.rules.specs.Model.{is_textual};
-ghost use Rattle.unicode.specs.Tables.{unicode_tables};
+ghost use Rattle.letters.specs.Tables.{unicode_tables};
 ghost use Rattle.parts.specs.Views.{span_in, kind_in, OptTextWithin, OptQuantityWithin};
 ghost use Rattle.model.specs.Memory.{Sound};
 ghost use Rattle.model.specs.Small.{with_timers};

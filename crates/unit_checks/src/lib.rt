@@ -11,7 +11,7 @@ ghost use Rattle.rules.specs.Model.{ingredient};
 ghost use Rattle.rules.specs.Units.{read_units};
 ghost use Rattle.rules.specs.Answer.{units_or};
 ghost use Rattle.unit_index.specs.Index.{Indexed};
-ghost use Rattle.unicode.specs.Tables.{unicode_tables};
+ghost use Rattle.letters.specs.Tables.{unicode_tables};
 ghost use Rattle.content.specs.Contents.{kept_in};
 ghost use Rattle.text.specs.Trims.{TrimmedTo};
 ghost use Rattle.units.specs.Lists.{units_from};

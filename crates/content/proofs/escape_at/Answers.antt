@@ -7,10 +7,8 @@ returns-then-f-j c = in_last _ _ c.requires.0 c.requires.1 c.if-f-j.true
 
 pub returns-then-e-eq0 : goal.returns-then-e-eq0
 returns-then-e-eq0 c =
-    let p = c in
-    in_alone _ _ p.requires.0 p.requires.1 (omega arith) c.letter-e.ensures c.if-e-eq0.true
+    in_alone _ _ c.requires.0 c.requires.1 (omega arith) c.letter-e.ensures c.if-e-eq0.true
 
 pub returns : goal.returns
 returns c =
-    let p = c in
-    in_letter _ _ p.requires.0 p.requires.1 (omega arith) c.letter-e.ensures c.wide.ensures c.if-e-eq0.false
+    in_letter _ _ c.requires.0 c.requires.1 (omega arith) c.letter-e.ensures c.wide.ensures c.if-e-eq0.false

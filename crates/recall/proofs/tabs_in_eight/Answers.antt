@@ -3,6 +3,7 @@ use Prim.Native.Nat.{◌-◌}
 use mathlib.Core.Path.{◌∙◌}
 use mathlib.Core.Logic.{⊎_elim}
 use Rattle.recall.proofs.Tabs.{tabs_none, tabs_few, tabs_hit, tabs_miss, tabs_whole}
+use Rattle.recall.proofs.tabs_in_eight.Goals.{then-line-at-eq9, else-line-at-eq9}
 use Rattle.recall.proofs.tabs_in_eight.Goals as goal
 
 pub loop-j-init : goal.loop-j-init
@@ -14,7 +15,7 @@ overflow_add-n c = omega (arith, tabs_few _ _ _ c.loop-j.invariant.1, c.loop-j-t
 pub loop-j-preserved : goal.loop-j-preserved
 loop-j-preserved c =
     let loop = c.loop-j in
-    (omega arith, ⊎_elim (λ w. w.1 ∙ tabs_hit _ _ _ loop.invariant.1 w.0.taken) (λ w. w.1 ∙ tabs_miss _ _ _ loop.invariant.1 w.0.left) c.if-line-at-eq9.branch)
+    (omega arith, elim c.if-line-at-eq9.branch [ then-line-at-eq9 w ↦ w.n-is ∙ tabs_hit _ _ _ loop.invariant.1 w.if-line-at-eq9.true | else-line-at-eq9 w ↦ w.n-is ∙ tabs_miss _ _ _ loop.invariant.1 w.if-line-at-eq9.false ])
 
 pub returns : goal.returns
 returns c = tabs_whole _ _ _ c.loop-j.invariant.1 c.loop-j-test.false c.loop-j.invariant.0

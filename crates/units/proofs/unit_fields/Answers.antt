@@ -11,7 +11,7 @@ pub returns-then-n-word : goal.returns-then-n-word
 returns-then-n-word c = two_tabs _ c.field-name.ensures c.if-line-n.false c.field-word.ensures c.if-n-word.true
 
 pub returns-then-is_known : goal.returns-then-is_known
-returns-then-is_known c = unit_known _ c.field-name.ensures c.if-line-n.false c.field-word.ensures c.if-n-word.false c.physical_word-physical.ensures c.is_Known.ensures c.if-n-eq0.false c.if-is_known.true
+returns-then-is_known c = unit_known _ c.field-name.ensures c.if-line-n.false c.field-word.ensures c.if-n-word.false c.physical_word-physical.ensures c.is_known.ensures c.if-n-eq0.false c.if-is_known.true
 
 pub returns : goal.returns
-returns c = unit_unknown _ c.field-name.ensures c.if-line-n.false c.field-word.ensures c.if-n-word.false c.physical_word-physical.ensures c.is_Known.ensures c.if-is_known.false
+returns c = unit_unknown _ c.field-name.ensures c.if-line-n.false c.field-word.ensures c.if-n-word.false c.physical_word-physical.ensures c.is_known.ensures c.if-is_known.false

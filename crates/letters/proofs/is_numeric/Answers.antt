@@ -1,0 +1,27 @@
+use native.Mathlib.Omega.{arith}
+use Rattle.letters.proofs.Ascii.{digit}
+use Rattle.rules.specs.Unicode.{is_numeric}
+use Rattle.rules.specs.Numeric.{numeric}
+use Rattle.rules.proofs.Folds.{numeric_ascends}
+use Rattle.letters.proofs.Windows.{columns}
+use Rattle.letters.proofs.Places.{lent_ready, lent_member}
+use Rattle.letters.proofs.is_numeric.Goals as goal
+
+pub returns-then-c-lt128 : goal.returns-then-c-lt128
+returns-then-c-lt128 c = digit _ c.if-c-lt128.true c.is_within.ensures
+
+pub returns-then-is_mark : goal.returns-then-is_mark
+returns-then-is_mark c = (c.is_mark.ensures c.if-is_mark.true).1
+
+pub slice_bounds-in_ranges-end : goal.slice_bounds-in_ranges-end
+slice_bounds-in_ranges-end c = omega (arith, (columns c.requires).long)
+
+pub slice_bounds-in_ranges-end-2 : goal.slice_bounds-in_ranges-end-2
+slice_bounds-in_ranges-end-2 c = omega (arith, (columns c.requires).long)
+
+pub in_ranges-requires : goal.in_ranges-requires
+in_ranges-requires c = lent_ready numeric _ _ (columns c.requires).numeric_starts (columns c.requires).numeric_ends numeric_ascends
+
+pub returns : goal.returns
+unfolding is_numeric
+returns c = lent_member numeric _ _ (columns c.requires).numeric_starts (columns c.requires).numeric_ends _ _ c.in_ranges.ensures

@@ -1,0 +1,34 @@
+use native.Mathlib.Omega.{arith}
+use Rattle.letters.proofs.Places.{lent_ready, lent_member}
+use Rattle.letters.proofs.Windows.{columns}
+use Rattle.rules.proofs.Folds.{white_ascends}
+use Rattle.rules.specs.WhiteSpace.{white_space}
+use Rattle.rules.specs.Unicode.{is_white_space}
+use Rattle.letters.proofs.Ascii.{white_blank, white_other}
+use Rattle.letters.proofs.Still.{no_white, past_white}
+use Rattle.letters.proofs.is_white_space.Goals as goal
+
+pub returns-then-c-eq32 : goal.returns-then-c-eq32
+returns-then-c-eq32 c = white_blank _ c.if-c-lt128.true c.if-c-eq32.true
+
+pub returns-then-c-lt128 : goal.returns-then-c-lt128
+returns-then-c-lt128 c = white_other _ c.if-c-lt128.true c.if-c-eq32.false c.is_within.ensures
+
+pub returns-then-c-lt5760 : goal.returns-then-c-lt5760
+returns-then-c-lt5760 c = no_white _ c.if-c-gt160.true c.if-c-lt5760.true
+
+pub returns-then-c-gt12288 : goal.returns-then-c-gt12288
+returns-then-c-gt12288 c = past_white _ c.if-c-gt12288.true (omega (arith, c.ranges.c))
+
+pub slice_bounds-in_ranges-end : goal.slice_bounds-in_ranges-end
+slice_bounds-in_ranges-end c = omega (arith, (columns c.requires).long)
+
+pub slice_bounds-in_ranges-end-2 : goal.slice_bounds-in_ranges-end-2
+slice_bounds-in_ranges-end-2 c = omega (arith, (columns c.requires).long)
+
+pub in_ranges-requires : goal.in_ranges-requires
+in_ranges-requires c = lent_ready white_space _ _ (columns c.requires).white_starts (columns c.requires).white_ends white_ascends
+
+pub returns : goal.returns
+unfolding is_white_space
+returns c = lent_member white_space _ _ (columns c.requires).white_starts (columns c.requires).white_ends _ _ c.in_ranges.ensures

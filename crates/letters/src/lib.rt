@@ -1,0 +1,259 @@
+#![tactic(auto)]
+
+mod tables;
+
+ghost use Rattle.std.specs.Prelude.{◌≡◌, true, false, [], ◌∷◌, ◌+◌, ◌≤◌, ◌<◌, length, get_or};
+ghost use Rattle.rules.specs.Basic.{within};
+ghost use Rattle.rules.specs.Ranges.{member};
+ghost use Rattle.rules.specs.Unicode.{is_white_space, is_alphabetic, is_numeric, is_alphanumeric, fold as foldRule};
+ghost use Rattle.letters.specs.Search.{Ascending, Place, zipped};
+ghost use Rattle.letters.specs.Tables.{near_code, unicode_tables};
+ghost use Rattle.letters.specs.Folded.{folded_of, row_of};
+
+// Where the columns of the tables start.
+const WHITE: usize = 0;
+
+const WHITE_ENDS: usize = 10;
+
+const ALPHABETIC: usize = 20;
+
+const ALPHABETIC_ENDS: usize = 777;
+
+const NUMERIC: usize = 1534;
+
+const NUMERIC_ENDS: usize = 1678;
+
+const KEYS: usize = 1822;
+
+const FIRST: usize = 3379;
+
+const SECOND: usize = 4936;
+
+const THIRD: usize = 6493;
+
+const NEAR: usize = 8050;
+
+// What a code point folds to.
+#[derive(Clone, Copy)]
+pub enum Folded {
+    One(u32),
+    Two(u32, u32),
+    Three(u32, u32, u32),
+}
+
+// The tables, by value: one outermost function asks for them and lends them down, since they are copied here.
+pub fn unicode_tables() -> [u32; 9850]
+    ensures { result ≡ unicode_tables }
+{
+    tables::TABLES
+}
+
+// The place of the first element of an ascending slice that is at least c.
+fn lower_bound(t: &[u32], c: u32) -> usize
+    requires { Ascending t.now }
+    ensures { Place t.now c result }
+{
+    let mut lo = 0;
+    let mut hi = t.len();
+    while lo < hi {
+        let mid = lo + ((hi - lo) >> 1);
+        if t[mid] < c {
+            lo = mid + 1;
+        } else {
+            hi = mid;
+        }
+    }
+    lo
+}
+
+// Whether c lies in one of the ranges with these starts and these ends.
+fn in_ranges(starts: &[u32], ends: &[u32], c: u32) -> bool
+    requires { Ascending starts.now × Ascending ends.now × length starts.now ≡ length ends.now }
+    ensures { result ≡ member c (zipped starts.now ends.now) }
+{
+    let k = lower_bound(ends, c);
+    if k < starts.len() {
+        return starts[k] <= c;
+    }
+    false
+}
+
+fn is_within(lo: u32, hi: u32, c: u32) -> bool
+    ensures { result ≡ within lo hi c }
+{
+    if c < lo {
+        return false;
+    }
+    c <= hi
+}
+
+pub fn is_white_space(t: &[u32], c: u32) -> bool
+    requires { t.now ≡ unicode_tables }
+    ensures { result ≡ is_white_space c }
+{
+    if c < 128 {
+        if c == 32 {
+            return true;
+        }
+        return is_within(9, 13, c);
+    }
+    if 0xa0 < c {
+        if c < 0x1680 {
+            return false;
+        }
+        if 0x3000 < c {
+            return false;
+        }
+    }
+    in_ranges(&t[WHITE..WHITE_ENDS], &t[WHITE_ENDS..ALPHABETIC], c)
+}
+
+// Whether c is a mark of the blocks for punctuation, which have neither letters nor numbers there.
+fn is_mark(c: u32) -> bool
+    ensures { result ≡ true → (false ≡ is_alphabetic c) × (false ≡ is_numeric c) }
+{
+    if c < 0x3000 {
+        return is_within(0x2000, 0x206f, c);
+    }
+    if c < 0x3005 {
+        return true;
+    }
+    if c < 0x3021 {
+        return 0x3007 < c;
+    }
+    is_within(0xff00, 0xff0f, c)
+}
+
+pub fn is_alphabetic(t: &[u32], c: u32) -> bool
+    requires { t.now ≡ unicode_tables }
+    ensures { result ≡ is_alphabetic c }
+{
+    if c < 128 {
+        if c < 97 {
+            return is_within(65, 90, c);
+        }
+        return c <= 122;
+    }
+    // Chinese characters, and the letters of Yi after them
+    if is_within(0x4e00, 0xa48c, c) {
+        return true;
+    }
+    if is_mark(c) {
+        return false;
+    }
+    in_ranges(
+        &t[ALPHABETIC..ALPHABETIC_ENDS],
+        &t[ALPHABETIC_ENDS..NUMERIC],
+        c,
+    )
+}
+
+pub fn is_numeric(t: &[u32], c: u32) -> bool
+    requires { t.now ≡ unicode_tables }
+    ensures { result ≡ is_numeric c }
+{
+    if c < 128 {
+        return is_within(48, 57, c);
+    }
+    if is_mark(c) {
+        return false;
+    }
+    in_ranges(&t[NUMERIC..NUMERIC_ENDS], &t[NUMERIC_ENDS..KEYS], c)
+}
+
+pub fn is_alphanumeric(t: &[u32], c: u32) -> bool
+    requires { t.now ≡ unicode_tables }
+    ensures { result ≡ is_alphanumeric c }
+{
+    if is_alphabetic(t, c) {
+        return true;
+    }
+    is_numeric(t, c)
+}
+
+// The code points of a row of the folding table.
+fn row(a: u32, b: u32, c: u32) -> Folded
+    ensures { folded_of result ≡ row_of a b c }
+{
+    if b == 0 {
+        return Folded::One(a);
+    }
+    if c == 0 {
+        return Folded::Two(a, b);
+    }
+    Folded::Three(a, b, c)
+}
+
+// Whether c lies in one of the large parts of Unicode where each code point folds to itself: Hebrew to Myanmar, Chinese and
+// Japanese, Hangul.
+fn is_still(c: u32) -> bool
+    requires { 0x588 ≤ c }
+    ensures { result ≡ true → c ∷ [] ≡ foldRule c }
+{
+    if c < 0x2cf3 {
+        return c < 0x10a0;
+    }
+    if c < 0xa640 {
+        return true;
+    }
+    is_within(0xabc0, 0xfaff, c)
+}
+
+// The row at a place of the folding table.
+fn row_at(t: &[u32], k: usize) -> Folded
+    requires { (t.now ≡ unicode_tables) × (k < 1557) }
+    ensures { folded_of result ≡ row_of (get_or t.now (3379 + k) 0) (get_or t.now (4936 + k) 0) (get_or t.now (6493 + k) 0) }
+{
+    row(t[FIRST + k], t[SECOND + k], t[THIRD + k])
+}
+
+// The folding of one of the code points that have a word each.
+fn fold_near(t: &[u32], i: usize) -> Folded
+    requires { (t.now ≡ unicode_tables) × (i < 1800) }
+    ensures { folded_of result ≡ foldRule (near_code i) }
+{
+    let x = t[NEAR + i];
+    if x < 0x110000 {
+        return Folded::One(x);
+    }
+    let k = (x - 0x110000) as usize;
+    row_at(t, k)
+}
+
+// The folding by a search in the table.
+fn fold_in(t: &[u32], c: u32) -> Folded
+    requires { t.now ≡ unicode_tables }
+    ensures { folded_of result ≡ foldRule c }
+{
+    let k = lower_bound(&t[KEYS..FIRST], c);
+    if k < 1557 {
+        if t[KEYS + k] == c {
+            return row_at(t, k);
+        }
+    }
+    Folded::One(c)
+}
+
+pub fn fold(t: &[u32], c: u32) -> Folded
+    requires { t.now ≡ unicode_tables }
+    ensures { folded_of result ≡ foldRule c }
+{
+    if c < 128 {
+        if is_within(65, 90, c) {
+            return Folded::One(c + 32);
+        }
+        return Folded::One(c);
+    }
+    // Latin, Greek, Cyrillic and Armenian letters
+    if c < 0x588 {
+        return fold_near(t, (c - 128) as usize);
+    }
+    if is_still(c) {
+        return Folded::One(c);
+    }
+    // Latin and Greek letters with more marks
+    if is_within(0x1e00, 0x1fff, c) {
+        return fold_near(t, (c - 0x1e00 + 1288) as usize);
+    }
+    fold_in(t, c)
+}

@@ -1,8 +1,0 @@
-use Rattle.unicode.proofs.Places.{settle, settle_past}
-use Rattle.unicode.proofs.in_ranges.Goals as goal
-
-pub returns-then-k-starts : goal.returns-then-k-starts
-returns-then-k-starts c = settle _ _ _ _ c.lower_bound-k.ensures c.requires.0 c.requires.2 c.if-k-starts.true
-
-pub returns : goal.returns
-returns c = settle_past _ _ _ _ c.lower_bound-k.ensures c.if-k-starts.false

@@ -1,8 +1,0 @@
-use Rattle.unicode.proofs.Ascii.{either_first, either_second}
-use Rattle.unicode.proofs.is_alphanumeric.Goals as goal
-
-pub returns-then-is_alphabetic : goal.returns-then-is_alphabetic
-returns-then-is_alphabetic c = either_first _ c.is_alphabetic.ensures c.if-is_alphabetic.true
-
-pub returns : goal.returns
-returns c = either_second _ c.is_alphabetic.ensures c.if-is_alphabetic.false c.is_numeric.ensures
