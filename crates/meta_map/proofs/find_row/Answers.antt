@@ -15,16 +15,16 @@ pub cell_at-to-requires : goal.cell_at-to-requires
 cell_at-to-requires c = omega (arith, row_few c.args.key.now c.requires.0 c.loop-p.invariant c.loop-p-test.true, c.requires.0.long)
 
 pub slice_bounds-same_parts-count : goal.slice_bounds-same_parts-count
-slice_bounds-same_parts-count c = omega (arith, (row_within c.args.key.now c.requires.0 c.loop-p.invariant c.loop-p-test.true c.Cell-at.ensures c.cell_at-to.ensures).0, (row_within c.args.key.now c.requires.0 c.loop-p.invariant c.loop-p-test.true c.Cell-at.ensures c.cell_at-to.ensures).1)
+slice_bounds-same_parts-count c = omega (arith, (row_within c.args.key.now c.requires.0 c.loop-p.invariant c.loop-p-test.true c.cell_at-from.ensures c.cell_at-to.ensures).0, (row_within c.args.key.now c.requires.0 c.loop-p.invariant c.loop-p-test.true c.cell_at-from.ensures c.cell_at-to.ensures).1)
 
 pub slice_bounds-same_parts-start : goal.slice_bounds-same_parts-start
-slice_bounds-same_parts-start c = omega (arith, (row_within c.args.key.now c.requires.0 c.loop-p.invariant c.loop-p-test.true c.Cell-at.ensures c.cell_at-to.ensures).0, (row_within c.args.key.now c.requires.0 c.loop-p.invariant c.loop-p-test.true c.Cell-at.ensures c.cell_at-to.ensures).1)
+slice_bounds-same_parts-start c = omega (arith, (row_within c.args.key.now c.requires.0 c.loop-p.invariant c.loop-p-test.true c.cell_at-from.ensures c.cell_at-to.ensures).0, (row_within c.args.key.now c.requires.0 c.loop-p.invariant c.loop-p-test.true c.cell_at-from.ensures c.cell_at-to.ensures).1)
 
 pub slice_bounds-same_parts-end : goal.slice_bounds-same_parts-end
-slice_bounds-same_parts-end c = omega (arith, (row_within c.args.key.now c.requires.0 c.loop-p.invariant c.loop-p-test.true c.Cell-at.ensures c.cell_at-to.ensures).0, (row_within c.args.key.now c.requires.0 c.loop-p.invariant c.loop-p-test.true c.Cell-at.ensures c.cell_at-to.ensures).1)
+slice_bounds-same_parts-end c = omega (arith, (row_within c.args.key.now c.requires.0 c.loop-p.invariant c.loop-p-test.true c.cell_at-from.ensures c.cell_at-to.ensures).0, (row_within c.args.key.now c.requires.0 c.loop-p.invariant c.loop-p-test.true c.cell_at-from.ensures c.cell_at-to.ensures).1)
 
 pub returns-then-same_parts : goal.returns-then-same_parts
-returns-then-same_parts c = row_hit c.args.key.now c.requires.0 c.loop-p.invariant c.loop-p-test.true c.Cell-at.ensures c.cell_at-to.ensures c.same_parts.ensures c.if-same_parts.true
+returns-then-same_parts c = row_hit c.args.key.now c.requires.0 c.loop-p.invariant c.loop-p-test.true c.cell_at-from.ensures c.cell_at-to.ensures c.same_parts.ensures c.if-same_parts.true
 
 pub cell_at-p-requires : goal.cell_at-p-requires
 cell_at-p-requires c = omega (arith, row_few c.args.key.now c.requires.0 c.loop-p.invariant c.loop-p-test.true, c.requires.0.long)
@@ -33,7 +33,7 @@ pub loop-p-smaller : goal.loop-p-smaller
 loop-p-smaller c = row_less c.args.key.now c.requires.0 c.loop-p.invariant c.loop-p-test.true c.cell_at-p.ensures
 
 pub loop-p-preserved : goal.loop-p-preserved
-loop-p-preserved c = row_on c.args.key.now c.requires.0 c.loop-p.invariant c.loop-p-test.true c.Cell-at.ensures c.cell_at-to.ensures c.same_parts.ensures c.if-same_parts.false c.cell_at-p.ensures
+loop-p-preserved c = row_on c.args.key.now c.requires.0 c.loop-p.invariant c.loop-p-test.true c.cell_at-from.ensures c.cell_at-to.ensures c.same_parts.ensures c.if-same_parts.false c.cell_at-p.ensures
 
 pub returns : goal.returns
 returns c = find_ends c.args.key.now c.requires.0 c.loop-p.invariant c.loop-p-test.false
