@@ -15,9 +15,11 @@ TOKEN = re.compile(f"{LETTER}+(?:-{LETTER}+)*")
 DECLARED = re.compile(r"^( *)(?:unfoldable |pub |abbrev |ghost )*([^\s(){}:.,;]+)(?: [^:]*)? :(?: |$)")
 HEAD = re.compile(r"^( *)(?:pub )?(record|data) ")
 IMPORT = re.compile(r"^ *(?:pub )?use ([^\s{]+)\.\{([^}]*)\}", re.M)
+STRING = re.compile(r'"(?:[^"\\\n]|\\.)*"')
+SEVERAL = re.compile(r"^ +(?:pub )?((?:[^\s(){}:;,]+ )+[^\s(){}:;,]+) :(?: |$)")
 OF_A_FILE = re.compile(r"use (Rattle\.\w+\.(?:specs|proofs)\.[A-Z]\w*) as ([^\s]+)")
 # lemmas in snake case already, beside a definition whose name becomes the same
-BESIDE = ["blank_step", "first_short", "is_one", "last_row", "number_word", "only_zero", "second_short", "step_block"]
+BESIDE = ["duplicate_reference", "text_word", "blank_step", "first_short", "is_one", "last_row", "number_word", "only_zero", "second_short", "step_block"]
 BY_HAND = {"plain_form": "plain_form_holds"}
 
 
@@ -53,7 +55,11 @@ def declared(text):
             head = deep
         elif line.strip() and head is not None and deep <= head:
             head = None
-        if m:
+        several = SEVERAL.match(line) if head is not None and not h else None
+        if several:
+            found |= set(several.group(1).split())
+            fields |= set(several.group(1).split())
+        elif m:
             found.add(m.group(2))
             if head is not None and not h:
                 fields.add(m.group(2))
@@ -133,7 +139,10 @@ def turned(path, text, names, fields, sources):
             return word if "--" in line else beside[word]
         return names.get(word, word)
 
-    return TOKEN.sub(new, text)
+    inside = set()
+    for m in STRING.finditer(text):
+        inside |= set(range(m.start(), m.end()))
+    return TOKEN.sub(lambda m: m.group(0) if m.start() in inside else new(m), text)
 
 
 def turned_code(text, names):
@@ -146,8 +155,20 @@ def turned_code(text, names):
     return "".join(p if i % 2 else TOKEN.sub(new, p) for i, p in enumerate(parts))
 
 
+def bound(crates):
+    """Names in camel case that are bound where they stand, and those of operators."""
+    found = set()
+    for path in files(".antt"):
+        text = read(path)
+        if not of_a_function(path):
+            found |= {n for n in TOKEN.findall(STRING.sub("", text)) if re.fullmatch(r"[a-z][a-z0-9]*[A-Z][A-Za-z0-9]*", n)} - foreign(text, crates)
+    return {n: snake(n) for n in found}
+
+
 def main():
     names, fields = renamed()
+    for old, new in bound(set(os.listdir(CRATES))).items():
+        names.setdefault(old, new)
     if "--list" in sys.argv:
         for old in sorted(names):
             print(old, names[old])

@@ -69,7 +69,7 @@ define_of_lem sheet w h = refl
 opened_text : (m : words.DefineMode) (k : words.BlockKind) → is_text m ≡ true → blank_open (opened m k) ≡ open_of TextMode
 unfolding opened blank_open open_of
 opened_text m words.step_kind e = rw e
-opened_text m words.textKind e = rw e
+opened_text m words.text_kind e = rw e
 
 opened_plain : (m : words.DefineMode) (k : BlockKind) → is_text m ≡ false → blank_open (opened m (block_in k)) ≡ open_of (kind_open k)
 unfolding opened blank_open open_of block_in kind_open

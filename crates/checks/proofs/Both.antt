@@ -39,8 +39,8 @@ module _ {implicit : Bool} {note : OptText} {s : Span} {old : OptText} {w₀ w :
   pub note_room : h₀.counts.findings + 2 < 1544 → h.counts.findings + 1 < 1544
   note_room l = let c = reported_count noted in let m = note_one implicit (opt_text_in [] note) plain in omega arith
 
-  pub both_checked : {inStep : Bool} {a b : OptQuantity} {w₁ : List ℕ} {h₁ : Held} → QuantityChecked implicit inStep a s b w h w₁ h₁
-      → ReferenceChecked implicit inStep note a s old b w₀ h₀ w₁ h₁
+  pub both_checked : {in_step : Bool} {a b : OptQuantity} {w₁ : List ℕ} {h₁ : Held} → QuantityChecked implicit in_step a s b w h w₁ h₁
+      → ReferenceChecked implicit in_step note a s old b w₀ h₀ w₁ h₁
   both_checked q =
       record {
         is =

@@ -74,17 +74,17 @@ module _ {implicit : Bool} {note : OptText} {s : Span} {old : OptText} {w₀ : L
 
 -- ---- 19 and 20
 
-module _ {implicit inStep : Bool} {a b : OptQuantity} {s : Span} {w₀ : List ℕ} {h₀ : Held} where
-  pub quantity_none : a ≡ quantity.Absent → QuantityChecked implicit inStep a s b w₀ h₀ w₀ h₀
+module _ {implicit in_step : Bool} {a b : OptQuantity} {s : Span} {w₀ : List ℕ} {h₀ : Held} where
+  pub quantity_none : a ≡ quantity.Absent → QuantityChecked implicit in_step a s b w₀ h₀ w₀ h₀
   unfolding quantity_check opt_quantity_in on_some
   quantity_none e = record { is = λ line other i j new d p q t u. none_found (rw e) }
 
-  pub quantity_alone : (x : QuantityView) → a ≡ quantity.Present x → b ≡ quantity.Absent → QuantityChecked implicit inStep a s b w₀ h₀ w₀ h₀
+  pub quantity_alone : (x : QuantityView) → a ≡ quantity.Present x → b ≡ quantity.Absent → QuantityChecked implicit in_step a s b w₀ h₀ w₀ h₀
   unfolding quantity_check opt_quantity_in on_some
   quantity_alone x e o = record { is = λ line other i j new d p q t u. none_found (rw (e, o)) }
 
   pub quantity_both : {w : List ℕ} {h : Held} (x y : QuantityView) → a ≡ quantity.Present x → b ≡ quantity.Present y
-      → QuantityChecked implicit inStep (quantity.Present x) s (quantity.Present y) w₀ h₀ w h → QuantityChecked implicit inStep a s b w₀ h₀ w h
+      → QuantityChecked implicit in_step (quantity.Present x) s (quantity.Present y) w₀ h₀ w h → QuantityChecked implicit in_step a s b w₀ h₀ w h
   quantity_both x y e o k = rw (e, o) k
 
 pub when_not : (b : Bool) (f : Finding) → b ≡ true → when (not b) f ≡ []
@@ -120,15 +120,15 @@ when_room b f r l = let k = reported_count r in let m = short b in omega arith
     short true = unfold when in omega arith
     short false = unfold when in omega arith
 
-pub pair_checked : {implicit inStep : Bool} {a b : QuantityView} {s : Span} {x y : Bool} {w₀ w₁ w : List ℕ} {h₀ h₁ h : Held} → x ≡ is_textual (kind_in a.kind) → y ≡ is_textual (kind_in b.kind)
-    → Reported (when (not inStep) (found_two 19 (span_in a.span) (span_in s) implicit)) w₀ h₀ w₁ h₁ → Reported (text_check implicit x y (span_in a.span) (span_in b.span)) w₁ h₁ w h
-    → QuantityChecked implicit inStep (quantity.Present a) s (quantity.Present b) w₀ h₀ w h
-pair_checked {implicit} {inStep} {a} {b} {s} {x} {y} e o k l = record { is = λ line other i j new d p q t u. said (same line other i j new d p q t u) (reported_seq k l) }
+pub pair_checked : {implicit in_step : Bool} {a b : QuantityView} {s : Span} {x y : Bool} {w₀ w₁ w : List ℕ} {h₀ h₁ h : Held} → x ≡ is_textual (kind_in a.kind) → y ≡ is_textual (kind_in b.kind)
+    → Reported (when (not in_step) (found_two 19 (span_in a.span) (span_in s) implicit)) w₀ h₀ w₁ h₁ → Reported (text_check implicit x y (span_in a.span) (span_in b.span)) w₁ h₁ w h
+    → QuantityChecked implicit in_step (quantity.Present a) s (quantity.Present b) w₀ h₀ w h
+pair_checked {implicit} {in_step} {a} {b} {s} {x} {y} e o k l = record { is = λ line other i j new d p q t u. said (same line other i j new d p q t u) (reported_seq k l) }
   where
-    same : (line other : List ℕ) (i j : Bool) (new : Source) (d : Entry) → new.quantity ≡ opt_quantity_in line (quantity.Present a) → is_defined_in_step d.relation ≡ inStep
+    same : (line other : List ℕ) (i j : Bool) (new : Source) (d : Entry) → new.quantity ≡ opt_quantity_in line (quantity.Present a) → is_defined_in_step d.relation ≡ in_step
         → d.source.span ≡ span_in s → d.source.quantity ≡ opt_quantity_in other (quantity.Present b)
         → quantity_check implicit new d (on_some (amount_of i) (opt_quantity_in line (quantity.Present a))) (on_some (amount_of j) (opt_quantity_in other (quantity.Present b)))
-        ≡ when (not inStep) (found_two 19 (span_in a.span) (span_in s) implicit) ++ text_check implicit x y (span_in a.span) (span_in b.span)
+        ≡ when (not in_step) (found_two 19 (span_in a.span) (span_in s) implicit) ++ text_check implicit x y (span_in a.span) (span_in b.span)
     same line other i j new d p q t u = unfold quantity_check quantity_span opt_quantity_in quantity_in on_some amount_of in rw (p, q, t, u, e, o)
 
 -- ---- 15 to 17

@@ -32,13 +32,13 @@ pub record NoteChecked (implicit : Bool) (note : OptText) (s : Span) (old : OptT
   pub is : (line other : List ℕ) (d : Source) → d.span ≡ span_in s → d.note ≡ opt_text_in other old → Reported (note_check implicit (opt_text_in line note) d) w₀ h₀ w h
 
 -- 19 and 20
-pub record QuantityChecked (implicit inStep : Bool) (a : OptQuantity) (s : Span) (b : OptQuantity) (w₀ : List ℕ) (h₀ : Held) (w : List ℕ) (h : Held) : Type 0 where
-  pub is : (line other : List ℕ) (i j : Bool) (new : Source) (d : Entry) → new.quantity ≡ opt_quantity_in line a → is_defined_in_step d.relation ≡ inStep
+pub record QuantityChecked (implicit in_step : Bool) (a : OptQuantity) (s : Span) (b : OptQuantity) (w₀ : List ℕ) (h₀ : Held) (w : List ℕ) (h : Held) : Type 0 where
+  pub is : (line other : List ℕ) (i j : Bool) (new : Source) (d : Entry) → new.quantity ≡ opt_quantity_in line a → is_defined_in_step d.relation ≡ in_step
       → d.source.span ≡ span_in s → d.source.quantity ≡ opt_quantity_in other b
       → Reported (quantity_check implicit new d (on_some (amount_of i) (opt_quantity_in line a)) (on_some (amount_of j) (opt_quantity_in other b))) w₀ h₀ w h
 
 abbrev pub PairChecked : Bool → Bool → QuantityView → Span → QuantityView → List ℕ → Held → List ℕ → Held → Type 0
-PairChecked implicit inStep a s b w₀ h₀ w h = QuantityChecked implicit inStep (quantity.Present a) s (quantity.Present b) w₀ h₀ w h
+PairChecked implicit in_step a s b w₀ h₀ w h = QuantityChecked implicit in_step (quantity.Present a) s (quantity.Present b) w₀ h₀ w h
 
 -- the span of a quantity's unit, or else its own
 unfoldable pub place_with : Span → OptText → Span
@@ -54,7 +54,7 @@ pub record UnitsChecked (us : List NamedUnit) (f : List ℕ) (a : OptQuantity) (
       → Reported (unit_pair us new (on_some (amount_of i) (opt_quantity_in f a)) (on_some (amount_of j) (opt_quantity_in g b)) old) w₀ h₀ w h
 
 -- 18 to 20, of the new entry and its definition
-pub record ReferenceChecked (implicit inStep : Bool) (note : OptText) (a : OptQuantity) (s : Span) (old : OptText) (b : OptQuantity) (w₀ : List ℕ) (h₀ : Held) (w : List ℕ) (h : Held) : Type 0 where
+pub record ReferenceChecked (implicit in_step : Bool) (note : OptText) (a : OptQuantity) (s : Span) (old : OptText) (b : OptQuantity) (w₀ : List ℕ) (h₀ : Held) (w : List ℕ) (h : Held) : Type 0 where
   pub is : (line other : List ℕ) (i j : Bool) (new d : Entry) → new.source.note ≡ opt_text_in line note → new.source.quantity ≡ opt_quantity_in line a
-      → new.quantity ≡ on_some (amount_of i) (opt_quantity_in line a) → is_defined_in_step d.relation ≡ inStep → d.source.span ≡ span_in s → d.source.note ≡ opt_text_in other old
+      → new.quantity ≡ on_some (amount_of i) (opt_quantity_in line a) → is_defined_in_step d.relation ≡ in_step → d.source.span ≡ span_in s → d.source.note ≡ opt_text_in other old
       → d.source.quantity ≡ opt_quantity_in other b → d.quantity ≡ on_some (amount_of j) (opt_quantity_in other b) → Reported (reference_checks implicit new d) w₀ h₀ w h

@@ -48,28 +48,28 @@ use Rattle.component_lines.proofs.Whole.{locked, lock_count, reported_roomy, new
 
 -- ---- a new entry
 
-module _ (k : Kind) (inStep : Bool) (line : List ℕ) (v : ComponentView) where
-  new_as : NewAs (entry_of k inStep (component_in line v)) v.modifiers v.span v.modifiers_span
+module _ (k : Kind) (in_step : Bool) (line : List ℕ) (v : ComponentView) where
+  new_as : NewAs (entry_of k in_step (component_in line v)) v.modifiers v.span v.modifiers_span
   unfolding entry_of entry_with source_of component_in
   new_as = record { is_modifiers = refl; is_span = refl; is_at = refl }
 
-  new_source : (entry_of k inStep (component_in line v)).source ≡ source_of (component_in line v)
+  new_source : (entry_of k in_step (component_in line v)).source ≡ source_of (component_in line v)
   unfolding entry_of entry_with
   new_source = refl
 
-  new_amount : (entry_of k inStep (component_in line v)).quantity ≡ on_some (amount_of (is_ingredient k)) (opt_quantity_in line v.quantity)
+  new_amount : (entry_of k in_step (component_in line v)).quantity ≡ on_some (amount_of (is_ingredient k)) (opt_quantity_in line v.quantity)
   unfolding entry_of entry_with component_in
   new_amount = refl
 
-  new_ref : (entry_of k inStep (component_in line v)).modifiers.ref ≡ v.modifiers.reference
+  new_ref : (entry_of k in_step (component_in line v)).modifiers.ref ≡ v.modifiers.reference
   unfolding entry_of entry_with component_in modifiers_in
   new_ref = refl
 
-  new_opt : (entry_of k inStep (component_in line v)).modifiers.opt ≡ v.modifiers.opt
+  new_opt : (entry_of k in_step (component_in line v)).modifiers.opt ≡ v.modifiers.opt
   unfolding entry_of entry_with component_in modifiers_in
   new_opt = refl
 
-  new_marked : Marked (entry_of k inStep (component_in line v)) v.modifiers.reference v.modifiers.new
+  new_marked : Marked (entry_of k in_step (component_in line v)) v.modifiers.reference v.modifiers.new
   unfolding entry_of entry_with component_in modifiers_in
   new_marked = record { is_ref = refl; is_new = refl }
 
@@ -90,15 +90,15 @@ module _ {b : Bool} (line : List ℕ) (v : ComponentView) {o : Old} {w₀ w₁ w
   modes_kept : modes_of h₁.define h₁.duplicate ≡ modes_of h₀.define h₀.duplicate
   modes_kept = ap (λ (z : Held). modes_of z.define z.duplicate) (reported_framed (locked line v l)).held
 
-  referred : (inStep : Bool) (same : Option Earlier) → SameAs same o
-      → Reported (reference_findings (modes_of h₀.define h₀.duplicate) (entry_of (kind_of b) inStep (component_in line v)) (inherits (kind_of b)) same) w₁ h₁ w₂ h₂
-  referred inStep same s =
-      subst (λ (m : Modes). Reported (reference_findings m (entry_of (kind_of b) inStep (component_in line v)) (inherits (kind_of b)) same) w₁ h₁ w₂ h₂) modes_kept
-      (r.is (entry_of (kind_of b) inStep (component_in line v)) same (new_as (kind_of b) inStep line v) s)
+  referred : (in_step : Bool) (same : Option Earlier) → SameAs same o
+      → Reported (reference_findings (modes_of h₀.define h₀.duplicate) (entry_of (kind_of b) in_step (component_in line v)) (inherits (kind_of b)) same) w₁ h₁ w₂ h₂
+  referred in_step same s =
+      subst (λ (m : Modes). Reported (reference_findings m (entry_of (kind_of b) in_step (component_in line v)) (inherits (kind_of b)) same) w₁ h₁ w₂ h₂) modes_kept
+      (r.is (entry_of (kind_of b) in_step (component_in line v)) same (new_as (kind_of b) in_step line v) s)
 
-  both : (inStep : Bool) (same : Option Earlier) → SameAs same o
-      → Reported (lock_findings (component_in line v).quantity ++ reference_findings (modes_of h₀.define h₀.duplicate) (entry_of (kind_of b) inStep (component_in line v)) (inherits (kind_of b)) same) w₀ h₀ w₂ h₂
-  both inStep same s = reported_seq (locked line v l) (referred inStep same s)
+  both : (in_step : Bool) (same : Option Earlier) → SameAs same o
+      → Reported (lock_findings (component_in line v).quantity ++ reference_findings (modes_of h₀.define h₀.duplicate) (entry_of (kind_of b) in_step (component_in line v)) (inherits (kind_of b)) same) w₀ h₀ w₂ h₂
+  both in_step same s = reported_seq (locked line v l) (referred in_step same s)
 
   abbrev any : Option Earlier
   any = sample (entry_of (kind_of b) true (component_in line v)) o
@@ -120,21 +120,21 @@ module _ {b : Bool} (line : List ℕ) (v : ComponentView) {o : Old} {w₀ w₁ w
       (reported_sound q z, reported_fit q sheet a, below_kept both_framed (kind_of b) s, omega (arith, both_count, z.room.ingredient_pairs, y.ingredients))
 
   module _ {us : List NamedUnit} {flags : ℕ} {sheet : List ℕ} {to : Same} {w : List ℕ} {h : Held} (d : ChecksDone us flags (kind_of b) sheet line v to w₂ h₂ w h) where
-    checked : (inStep : Bool) (same : Option Earlier) → SameAs same o
-        → on_some (earlier_at (kind_of b) sheet w₀ h₀) (same_of to) ≡ refers_to (modes_of h₀.define h₀.duplicate) (entry_of (kind_of b) inStep (component_in line v)) same
+    checked : (in_step : Bool) (same : Option Earlier) → SameAs same o
+        → on_some (earlier_at (kind_of b) sheet w₀ h₀) (same_of to) ≡ refers_to (modes_of h₀.define h₀.duplicate) (entry_of (kind_of b) in_step (component_in line v)) same
         → Reported
-        (checks_after us flags (kind_of b) (entry_of (kind_of b) inStep (component_in line v)) (table_of (kind_of b) (state_in sheet w₀ h₀)) (refers_to (modes_of h₀.define h₀.duplicate) (entry_of (kind_of b) inStep (component_in line v)) same))
+        (checks_after us flags (kind_of b) (entry_of (kind_of b) in_step (component_in line v)) (table_of (kind_of b) (state_in sheet w₀ h₀)) (refers_to (modes_of h₀.define h₀.duplicate) (entry_of (kind_of b) in_step (component_in line v)) same))
         w₂ h₂ w h
-    checked inStep same s e =
-        subst (λ (q : Option Earlier). Reported (checks_after us flags (kind_of b) (entry_of (kind_of b) inStep (component_in line v)) (table_of (kind_of b) (state_in sheet w₀ h₀)) q) w₂ h₂ w h)
+    checked in_step same s e =
+        subst (λ (q : Option Earlier). Reported (checks_after us flags (kind_of b) (entry_of (kind_of b) in_step (component_in line v)) (table_of (kind_of b) (state_in sheet w₀ h₀)) q) w₂ h₂ w h)
         (earliers_kept both_framed (kind_of b) sheet (same_of to) ∙ e)
-        (subst (λ (t : List Entry). Reported (checks_after us flags (kind_of b) (entry_of (kind_of b) inStep (component_in line v)) t (on_some (earlier_at (kind_of b) sheet w₂ h₂) (same_of to))) w₂ h₂ w h)
-        (reported_table (both inStep same s) (kind_of b) sheet)
-        (d.is (entry_of (kind_of b) inStep (component_in line v)) (new_source (kind_of b) inStep line v) (new_amount (kind_of b) inStep line v) (new_ref (kind_of b) inStep line v)))
+        (subst (λ (t : List Entry). Reported (checks_after us flags (kind_of b) (entry_of (kind_of b) in_step (component_in line v)) t (on_some (earlier_at (kind_of b) sheet w₂ h₂) (same_of to))) w₂ h₂ w h)
+        (reported_table (both in_step same s) (kind_of b) sheet)
+        (d.is (entry_of (kind_of b) in_step (component_in line v)) (new_source (kind_of b) in_step line v) (new_amount (kind_of b) in_step line v) (new_ref (kind_of b) in_step line v)))
 
     named_reported : NamedReported us flags (kind_of b) sheet line v o to w₀ h₀ w h
     unfolding made_with
-    named_reported = record { is = λ inStep same s e. reported_seq (both inStep same s) (checked inStep same s e) }
+    named_reported = record { is = λ in_step same s e. reported_seq (both in_step same s) (checked in_step same s e) }
 
 -- the line as it is lent
 module _ {k : Kind} {sheet : List ℕ} {at end : ℕ} {v : ComponentView} (x : ComponentHere k sheet at end v) where
@@ -172,8 +172,8 @@ made_by us flags k c st {modes} {new} {same} em en es =
 
 module _ {k : Kind} {sheet : List ℕ} {at end : ℕ} {v : ComponentView} {p : NamePart} {same to : Same} {o : Old} {w₀ : List ℕ} {h₀ : Held} (x : ComponentHere k sheet at end v) (n : NamePlaced k sheet at v p)
     (s : SameAsked k sheet w₀ h₀ (slice p.at p.end sheet) v.modifiers.reference v.modifiers.opt same) (d : OldRead k w₀ h₀ same o) (r : Refers h₀.define h₀.duplicate v.modifiers.reference v.modifiers.new same to) where
-  to_is : (inStep : Bool) → on_some (earlier_at k sheet w₀ h₀) (same_of to) ≡ refers_to (modes_of h₀.define h₀.duplicate) (entry_of k inStep (component_in (slice at end sheet) v)) (on_some (earlier_at k sheet w₀ h₀) (same_of same))
-  to_is inStep = r.is (entry_of k inStep (component_in (slice at end sheet) v)) (earlier_at k sheet w₀ h₀) (new_marked k inStep (slice at end sheet) v)
+  to_is : (in_step : Bool) → on_some (earlier_at k sheet w₀ h₀) (same_of to) ≡ refers_to (modes_of h₀.define h₀.duplicate) (entry_of k in_step (component_in (slice at end sheet) v)) (on_some (earlier_at k sheet w₀ h₀) (same_of same))
+  to_is in_step = r.is (entry_of k in_step (component_in (slice at end sheet) v)) (earlier_at k sheet w₀ h₀) (new_marked k in_step (slice at end sheet) v)
 
   pub to_there : SameBelow k h₀ to
   to_there =
@@ -182,33 +182,33 @@ module _ {k : Kind} {sheet : List ℕ} {at end : ℕ} {v : ComponentView} {p : N
   pub to_small : Sound w₀ h₀ → SameSmall to
   to_small z = small_same k z to_there
 
-  same_is : (inStep : Bool) → SameFound k sheet w₀ h₀ (slice p.at p.end sheet) v.modifiers.reference v.modifiers.opt same
-      → on_some (earlier_at k sheet w₀ h₀) (same_of same) ≡ found_same (entry_of k inStep (component_in (slice at end sheet) v)) (table_of k (state_in sheet w₀ h₀))
+  same_is : (in_step : Bool) → SameFound k sheet w₀ h₀ (slice p.at p.end sheet) v.modifiers.reference v.modifiers.opt same
+      → on_some (earlier_at k sheet w₀ h₀) (same_of same) ≡ found_same (entry_of k in_step (component_in (slice at end sheet) v)) (table_of k (state_in sheet w₀ h₀))
   unfolding found_same
-  same_is inStep q =
-      q.is (entry_of k inStep (component_in (slice at end sheet) v)) (sym (n.new.is inStep (component_in (slice at end sheet) v) (own_content x))) (new_opt k inStep (slice at end sheet) v)
-      ∙ ap (λ (b : Bool). same_name_of b (entry_of k inStep (component_in (slice at end sheet) v)) (table_of k (state_in sheet w₀ h₀))) (sym (new_ref k inStep (slice at end sheet) v))
+  same_is in_step q =
+      q.is (entry_of k in_step (component_in (slice at end sheet) v)) (sym (n.new.is in_step (component_in (slice at end sheet) v) (own_content x))) (new_opt k in_step (slice at end sheet) v)
+      ∙ ap (λ (b : Bool). same_name_of b (entry_of k in_step (component_in (slice at end sheet) v)) (table_of k (state_in sheet w₀ h₀))) (sym (new_ref k in_step (slice at end sheet) v))
 
   abbrev made : List NamedUnit → ℕ → Bool → Option Earlier → Made
-  made us flags inStep o = made_with us flags k (modes_of h₀.define h₀.duplicate) (table_of k (state_in sheet w₀ h₀)) (lock_findings (component_in (slice at end sheet) v).quantity) (entry_of k inStep (component_in (slice at end sheet) v)) o
+  made us flags in_step o = made_with us flags k (modes_of h₀.define h₀.duplicate) (table_of k (state_in sheet w₀ h₀)) (lock_findings (component_in (slice at end sheet) v).quantity) (entry_of k in_step (component_in (slice at end sheet) v)) o
 
   -- with what the search finds, asked for or not
-  made_same : (us : List NamedUnit) (flags : ℕ) (inStep : Bool)
-      → made us flags inStep (found_same (entry_of k inStep (component_in (slice at end sheet) v)) (table_of k (state_in sheet w₀ h₀))) ≡ made us flags inStep (on_some (earlier_at k sheet w₀ h₀) (same_of same))
-  made_same us flags inStep = go (asks_same (modes_of h₀.define h₀.duplicate) v.modifiers.reference) refl
+  made_same : (us : List NamedUnit) (flags : ℕ) (in_step : Bool)
+      → made us flags in_step (found_same (entry_of k in_step (component_in (slice at end sheet) v)) (table_of k (state_in sheet w₀ h₀))) ≡ made us flags in_step (on_some (earlier_at k sheet w₀ h₀) (same_of same))
+  made_same us flags in_step = go (asks_same (modes_of h₀.define h₀.duplicate) v.modifiers.reference) refl
     where
       go : (b : Bool) → asks_same (modes_of h₀.define h₀.duplicate) v.modifiers.reference ≡ b
-          → made us flags inStep (found_same (entry_of k inStep (component_in (slice at end sheet) v)) (table_of k (state_in sheet w₀ h₀))) ≡ made us flags inStep (on_some (earlier_at k sheet w₀ h₀) (same_of same))
-      go true e = ap (made us flags inStep) (sym (same_is inStep (s.found e)))
-      go false e = made_unasked us flags k _ _ _ _ _ _ (ap (asks_same (modes_of h₀.define h₀.duplicate)) (new_ref k inStep (slice at end sheet) v) ∙ e)
+          → made us flags in_step (found_same (entry_of k in_step (component_in (slice at end sheet) v)) (table_of k (state_in sheet w₀ h₀))) ≡ made us flags in_step (on_some (earlier_at k sheet w₀ h₀) (same_of same))
+      go true e = ap (made us flags in_step) (sym (same_is in_step (s.found e)))
+      go false e = made_unasked us flags k _ _ _ _ _ _ (ap (asks_same (modes_of h₀.define h₀.duplicate)) (new_ref k in_step (slice at end sheet) v) ∙ e)
 
   module _ {us : List NamedUnit} {flags : ℕ} {w₁ : List ℕ} {h₁ : Held} (f : NamedReported us flags k sheet (slice at end sheet) v o to w₀ h₀ w₁ h₁) where
-    found_named : (inStep : Bool)
+    found_named : (in_step : Bool)
         → Reported
-        (made_with us flags k (modes_of h₀.define h₀.duplicate) (table_of k (state_in sheet w₀ h₀)) (lock_findings (component_in (slice at end sheet) v).quantity) (entry_of k inStep (component_in (slice at end sheet) v))
+        (made_with us flags k (modes_of h₀.define h₀.duplicate) (table_of k (state_in sheet w₀ h₀)) (lock_findings (component_in (slice at end sheet) v).quantity) (entry_of k in_step (component_in (slice at end sheet) v))
         (on_some (earlier_at k sheet w₀ h₀) (same_of same))).findings
         w₀ h₀ w₁ h₁
-    found_named inStep = f.is inStep (on_some (earlier_at k sheet w₀ h₀) (same_of same)) (d.is sheet) (to_is inStep)
+    found_named in_step = f.is in_step (on_some (earlier_at k sheet w₀ h₀) (same_of same)) (d.is sheet) (to_is in_step)
 
     pub put_ready : {r : Found} → FoundAs to r → Sound w₀ h₀ → Roomy h₀ → Sound w₁ h₁ × Roomy h₁ × ReferredBelow k h₁ r
     put_ready g z y =

@@ -43,27 +43,27 @@ module _ (k : Kind) {to : Same} where
 
 -- ---- relations
 
-module _ (k : Kind) (inStep : Bool) {to : Same} where
-  pub related_alone : to ≡ Nothing → RelatedTo k inStep to (record { relation = Definition; in_step = inStep; index = 0 })
+module _ (k : Kind) (in_step : Bool) {to : Same} where
+  pub related_alone : to ≡ Nothing → RelatedTo k in_step to (record { relation = Definition; in_step = in_step; index = 0 })
   unfolding relation_in relation_as relation_to same_of
   related_alone e = record { is = rw e }
 
-  pub related_at : (i : ℕ) → to ≡ At i → RelatedTo k inStep to (record { relation = Reference Ingredient; in_step = inStep; index = i })
+  pub related_at : (i : ℕ) → to ≡ At i → RelatedTo k in_step to (record { relation = Reference Ingredient; in_step = in_step; index = i })
   unfolding relation_in relation_as relation_to same_of
   related_at i e = record { is = rw e }
 
 -- ---- the entry, where f gives the entries of indices
 
-module _ (k : Kind) (inStep : Bool) (c : rules.Component) (f : ℕ → Earlier) (ef : (i : ℕ) → (f i).index ≡ i) where
+module _ (k : Kind) (in_step : Bool) (c : rules.Component) (f : ℕ → Earlier) (ef : (i : ℕ) → (f i).index ≡ i) where
   entry_heir : (o : Option ℕ) (d : Option rules.Modifiers) → ((i : ℕ) → o ≡ some i → d ≡ some (f i).entry.modifiers)
-      → set_relation (relation_to k inStep o) (set_modifiers (heir_of k o d c.modifiers) (entry_of k true c)) ≡ as_referring k (on_some f o) (entry_of k inStep c)
+      → set_relation (relation_to k in_step o) (set_modifiers (heir_of k o d c.modifiers) (entry_of k true c)) ≡ as_referring k (on_some f o) (entry_of k in_step c)
   unfolding relation_to heir_of on_some as_referring set_relation set_modifiers entry_of entry_with
   entry_heir none d e = refl
   entry_heir (some i) d e = rw (e i refl, ef i)
 
 module _ {k : Kind} {sheet : List ℕ} {at end : ℕ} {v : ComponentView} (x : ComponentHere k sheet at end v) (f : ℕ → Earlier) (ef : (i : ℕ) → (f i).index ≡ i) where
-  pub entry_named : {p : NamePart} {inStep : Bool} {to : Same} {o : Old} {r : Row} → RowNamed k at end p inStep v.modifiers to o r → ((i : ℕ) → same_of to ≡ some i → old_in o ≡ some (f i).entry.modifiers)
-      → entry_as k sheet r [] ≡ as_referring k (on_some f (same_of to)) (entry_of k inStep (component_in (slice at end sheet) v))
+  pub entry_named : {p : NamePart} {in_step : Bool} {to : Same} {o : Old} {r : Row} → RowNamed k at end p in_step v.modifiers to o r → ((i : ℕ) → same_of to ≡ some i → old_in o ≡ some (f i).entry.modifiers)
+      → entry_as k sheet r [] ≡ as_referring k (on_some f (same_of to)) (entry_of k in_step (component_in (slice at end sheet) v))
   unfolding component_in
-  entry_named {inStep = inStep} {to} {o} z e =
-      z.made.is k sheet ∙ rw (z.is_modifiers, z.is_relation.is, x.is) (entry_heir k inStep (component_in (slice at end sheet) v) f ef (same_of to) (old_in o) e)
+  entry_named {in_step = in_step} {to} {o} z e =
+      z.made.is k sheet ∙ rw (z.is_modifiers, z.is_relation.is, x.is) (entry_heir k in_step (component_in (slice at end sheet) v) f ef (same_of to) (old_in o) e)

@@ -98,9 +98,9 @@ pub new_entry_lem : (k : Kind) (c : rules.Component) (sheet w : List ℕ) (h : H
 unfolding new_entry
 new_entry_lem k c sheet w h e = rw (define_in_lem sheet w h, ← e)
 
-entry_relation : (k : Kind) (inStep : Bool) (c : rules.Component) → (entry_of k inStep c).relation ≡ definition inStep []
+entry_relation : (k : Kind) (in_step : Bool) (c : rules.Component) → (entry_of k in_step c).relation ≡ definition in_step []
 unfolding entry_of entry_with
-entry_relation k inStep c = refl
+entry_relation k in_step c = refl
 
 made_intermediate_lem : (us : List NamedUnit) (flags : ℕ) (c : rules.Component) (i : rules.Intermediate) (st : State) {new : Entry} {target : Option ℕ} → new_entry ingredient c st ≡ new
     → target ≡ resolve_intermediate_ref i st.place.section.content (length st.kept.sections) → make_ingredient us flags c (some i) st ≡ made_intermediate us flags c new i target

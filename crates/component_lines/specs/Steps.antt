@@ -85,10 +85,10 @@ pub record OldRead (k : Kind) (w : List ℕ) (h : Held) (same : Same) (old : Old
 
 -- all that is found at a component without an intermediate reference
 pub record NamedReported (us : List NamedUnit) (flags : ℕ) (k : Kind) (sheet line : List ℕ) (v : ComponentView) (old : Old) (to : Same) (w₀ : List ℕ) (h₀ : Held) (w : List ℕ) (h : Held) : Type 0 where
-  pub is : (inStep : Bool) (same : Option Earlier) → SameAs same old
-      → on_some (earlier_at k sheet w₀ h₀) (same_of to) ≡ refers_to (modes_of h₀.define h₀.duplicate) (entry_of k inStep (component_in line v)) same
+  pub is : (in_step : Bool) (same : Option Earlier) → SameAs same old
+      → on_some (earlier_at k sheet w₀ h₀) (same_of to) ≡ refers_to (modes_of h₀.define h₀.duplicate) (entry_of k in_step (component_in line v)) same
       → Reported
-      (made_with us flags k (modes_of h₀.define h₀.duplicate) (table_of k (state_in sheet w₀ h₀)) (lock_findings (component_in line v).quantity) (entry_of k inStep (component_in line v)) same).findings
+      (made_with us flags k (modes_of h₀.define h₀.duplicate) (table_of k (state_in sheet w₀ h₀)) (lock_findings (component_in line v).quantity) (entry_of k in_step (component_in line v)) same).findings
       w₀ h₀ w h
 
 -- ---- its row
@@ -100,18 +100,18 @@ heir_of k (some i) none m = m
 heir_of k (some i) (some d) m = with_ref (either m (both d (inherits k)))
 
 unfoldable pub relation_to : Kind → Bool → Option ℕ → Relation
-relation_to k inStep none = definition inStep []
-relation_to k inStep (some i) = reference (target_of k) i
+relation_to k in_step none = definition in_step []
+relation_to k in_step (some i) = reference (target_of k) i
 
-pub record RelatedTo (k : Kind) (inStep : Bool) (to : Same) (r : RelationRecord) : Type 0 where
-  pub is : relation_in k r [] ≡ relation_to k inStep (same_of to)
+pub record RelatedTo (k : Kind) (in_step : Bool) (to : Same) (r : RelationRecord) : Type 0 where
+  pub is : relation_in k r [] ≡ relation_to k in_step (same_of to)
 
-pub record RowNamed (k : Kind) (at end : ℕ) (p : NamePart) (inStep : Bool) (m : Modifiers) (to : Same) (old : Old) (r : Row) : Type 0 where
+pub record RowNamed (k : Kind) (at end : ℕ) (p : NamePart) (in_step : Bool) (m : Modifiers) (to : Same) (old : Old) (r : Row) : Type 0 where
   pub modifiers : Modifiers
   pub relation : RelationRecord
   pub made : RowMade at end p.at p.end modifiers relation r
   pub is_modifiers : modifiers_in modifiers ≡ heir_of k (same_of to) (old_in old) (modifiers_in m)
-  pub is_relation : RelatedTo k inStep to relation
+  pub is_relation : RelatedTo k in_step to relation
 
 -- ---- the row and its item in work memory
 

@@ -25,8 +25,8 @@ no_component =
 
 -- a definition has no index, a reference does not say whether it stands in a step
 unfoldable pub lent_as : Relation → Bool → ℕ → RelationRecord
-lent_as Definition inStep index = record { relation = Definition; in_step = inStep; index = 0 }
-lent_as (Reference t) inStep index = record { relation = Reference t; in_step = false; index = index }
+lent_as Definition in_step index = record { relation = Definition; in_step = in_step; index = 0 }
+lent_as (Reference t) in_step index = record { relation = Reference t; in_step = false; index = index }
 
 unfoldable pub lent_relation : RelationRecord → RelationRecord
 lent_relation g = lent_as g.relation g.in_step g.index

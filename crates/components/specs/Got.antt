@@ -22,7 +22,7 @@ use Rattle.components.specs.declared.GotTarget.TheVariants as target
 use Rattle.components.specs.declared.GotIntermediate.{GotIntermediate}
 use Rattle.components.specs.declared.GotIntermediate.TheVariants as intermediate
 use Rattle.components.specs.declared.GotOptIntermediate.{GotOptIntermediate}
-use Rattle.components.specs.declared.GotOptIntermediate.TheVariants as optIntermediate
+use Rattle.components.specs.declared.GotOptIntermediate.TheVariants as opt_intermediate
 use Rattle.components.specs.Views.{modifiers_in, component_in, ComponentWithin, raw_component, signed_in, SignedWithin, target_in, intermediate_in, IntermediateWithin, opt_intermediate_in, OptIntermediateWithin}
 
 abbrev pub modifiers_got : GotModifiers → Option (Modifiers × ℕ)
@@ -61,8 +61,8 @@ abbrev pub IntermediateRead : List ℕ → ℕ → GotIntermediate → Type 0
 IntermediateRead line at r = ReadAt intermediate_in IntermediateWithin no_contents read_intermediate line at (intermediate_got r)
 
 abbrev pub opt_intermediate_got : GotOptIntermediate → Option (OptIntermediate × ℕ)
-opt_intermediate_got (optIntermediate.Got v n) = some (v, n)
-opt_intermediate_got optIntermediate.Ill = none
+opt_intermediate_got (opt_intermediate.Got v n) = some (v, n)
+opt_intermediate_got opt_intermediate.Ill = none
 
 abbrev pub OptIntermediateRead : List ℕ → ℕ → GotOptIntermediate → Type 0
 OptIntermediateRead line at r = ReadAt opt_intermediate_in OptIntermediateWithin no_contents (opt read_intermediate) line at (opt_intermediate_got r)

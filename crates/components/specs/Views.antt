@@ -53,7 +53,7 @@ signed_in v = record { negative = v.negative; size = v.size }
 
 unfoldable pub target_in : Target → words.IntermediateTarget
 target_in target.Step = words.target_step
-target_in target.Section = words.targetSection
+target_in target.Section = words.target_section
 
 unfoldable pub intermediate_in : Intermediate → rules.Intermediate
 intermediate_in v =

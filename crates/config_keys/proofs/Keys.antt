@@ -145,19 +145,19 @@ key_as_define : (o : Option words.ConfigKey) → key.Define ≡ key_as o → o �
 unfolding key_as
 key_as_define none e = let z : ◌≡◌ {A = ℕ} 0 1 = cc in absurd (omega arith)
 key_as_define (some words.define_key) e = refl
-key_as_define (some words.duplicateKey) e = let z : ◌≡◌ {A = ℕ} 0 1 = cc in absurd (omega arith)
+key_as_define (some words.duplicate_key) e = let z : ◌≡◌ {A = ℕ} 0 1 = cc in absurd (omega arith)
 
-key_as_duplicate : (o : Option words.ConfigKey) → key.Duplicate ≡ key_as o → o ≡ some words.duplicateKey
+key_as_duplicate : (o : Option words.ConfigKey) → key.Duplicate ≡ key_as o → o ≡ some words.duplicate_key
 unfolding key_as
 key_as_duplicate none e = let z : ◌≡◌ {A = ℕ} 0 1 = cc in absurd (omega arith)
 key_as_duplicate (some words.define_key) e = let z : ◌≡◌ {A = ℕ} 0 1 = cc in absurd (omega arith)
-key_as_duplicate (some words.duplicateKey) e = refl
+key_as_duplicate (some words.duplicate_key) e = refl
 
 key_as_none : (o : Option words.ConfigKey) → key.Unknown ≡ key_as o → o ≡ none
 unfolding key_as
 key_as_none none e = refl
 key_as_none (some words.define_key) e = let z : ◌≡◌ {A = ℕ} 0 1 = cc in absurd (omega arith)
-key_as_none (some words.duplicateKey) e = let z : ◌≡◌ {A = ℕ} 0 1 = cc in absurd (omega arith)
+key_as_none (some words.duplicate_key) e = let z : ◌≡◌ {A = ℕ} 0 1 = cc in absurd (omega arith)
 
 module _ {f w : List ℕ} (d : TrimmedTo f w) {k : KeyWord} (g : k ≡ key_as (word_in (chars w) config_keys)) where
   pub key_define : k ≡ key.Define → key_in Define ≡ key_of (text_trimmed (content_in f))
@@ -166,7 +166,7 @@ module _ {f w : List ℕ} (d : TrimmedTo f w) {k : KeyWord} (g : k ≡ key_as (w
 
   pub key_duplicate : k ≡ key.Duplicate → key_in Duplicate ≡ key_of (text_trimmed (content_in f))
   unfolding key_in rules.key_as
-  key_duplicate p = sym (key_is d (some words.duplicateKey) (is_bracketed (content_in w)) (key_as_duplicate _ (sym p ∙ g)) refl)
+  key_duplicate p = sym (key_is d (some words.duplicate_key) (is_bracketed (content_in w)) (key_as_duplicate _ (sym p ∙ g)) refl)
 
   pub key_unknown : k ≡ key.Unknown → {b : Bool} → b ≡ is_bracketed (content_in w) → b ≡ true → key_in Unknown ≡ key_of (text_trimmed (content_in f))
   unfolding key_in rules.key_as

@@ -2,7 +2,7 @@
 use Rattle.std.specs.Prelude.{ℕ, ◌≡◌, Bool, ◌&&◌, List}
 use Rattle.rules.specs.Text.{text_trimmed}
 use Rattle.rules.specs.Plain.{is_mode_key}
-use Rattle.rules.specs.Words.{define_key, duplicateKey}
+use Rattle.rules.specs.Words.{define_key, duplicate_key}
 use Rattle.rules.specs.Modes as rules
 use Rattle.rules.specs.Modes.{key_of, has_modes}
 use Rattle.content.specs.Contents.{content_in}
@@ -11,7 +11,7 @@ use Rattle.config_keys.specs.declared.Key.TheVariants.{Define, Duplicate, Unknow
 
 unfoldable pub key_in : Key → rules.Key
 key_in Define = rules.config define_key
-key_in Duplicate = rules.config duplicateKey
+key_in Duplicate = rules.config duplicate_key
 key_in Unknown = rules.unknown_config
 key_in Ordinary = rules.ordinary
 

@@ -133,21 +133,21 @@ module _ {pairs : List ℕ} {m d : ℕ} {x : Next} (q : NextReferrer pairs m d 0
 
 -- ---- relations
 
-pub put_definition : {o₀ o₁ o₂ o : List ℕ} {at m n r : ℕ} (inStep : Bool) (by : List ℕ) → Put (tabbed (codes "def" ∷ [])) o₀ at o₁ m → Put (tabbed (pick inStep (codes "step") (codes "list") ∷ [])) o₁ m o₂ n
-    → Put (tabbed (or_minus (join_by comma (each decimal (reverse by))) ∷ [])) o₂ n o r → Put (tabbed (relation_fields (definition inStep by))) o₀ at o r
+pub put_definition : {o₀ o₁ o₂ o : List ℕ} {at m n r : ℕ} (in_step : Bool) (by : List ℕ) → Put (tabbed (codes "def" ∷ [])) o₀ at o₁ m → Put (tabbed (pick in_step (codes "step") (codes "list") ∷ [])) o₁ m o₂ n
+    → Put (tabbed (or_minus (join_by comma (each decimal (reverse by))) ∷ [])) o₂ n o r → Put (tabbed (relation_fields (definition in_step by))) o₀ at o r
 unfolding relation_fields
-put_definition inStep by x y z = put_fields (codes "def" ∷ pick inStep (codes "step") (codes "list") ∷ []) _ (put_fields (codes "def" ∷ []) _ x y) z
+put_definition in_step by x y z = put_fields (codes "def" ∷ pick in_step (codes "step") (codes "list") ∷ []) _ (put_fields (codes "def" ∷ []) _ x y) z
 
 pub put_reference : {o₀ o₁ o₂ o : List ℕ} {at m n r : ℕ} (k : Kind) (t : Target) (i : ℕ) → Put (tabbed (codes "ref" ∷ [])) o₀ at o₁ m → Put (tabbed (target_word (target_in k t) ∷ [])) o₁ m o₂ n
     → Put (tabbed (decimal i ∷ [])) o₂ n o r → Put (tabbed (relation_fields (reference (target_in k t) i))) o₀ at o r
 unfolding relation_fields
 put_reference k t i x y z = put_fields (codes "ref" ∷ target_word (target_in k t) ∷ []) _ (put_fields (codes "ref" ∷ []) _ x y) z
 
-refers : (k : Kind) (t : Target) (inStep : Bool) (i : ℕ) (by : List ℕ) → relation_as k (Reference t) inStep i by ≡ reference (target_in k t) i
+refers : (k : Kind) (t : Target) (in_step : Bool) (i : ℕ) (by : List ℕ) → relation_as k (Reference t) in_step i by ≡ reference (target_in k t) i
 unfolding relation_as target_in
-refers k Ingredient inStep i by = refl
-refers k Step inStep i by = refl
-refers k Section inStep i by = refl
+refers k Ingredient in_step i by = refl
+refers k Step in_step i by = refl
+refers k Section in_step i by = refl
 
 module _ (k : Kind) (x : RelationRecord) (by : List ℕ) {o₀ o : List ℕ} {at r : ℕ} where
   pub relation_definition : x.relation ≡ Definition → Put (tabbed (relation_fields (definition x.in_step by))) o₀ at o r → Put (tabbed (relation_fields (relation_in k x by))) o₀ at o r

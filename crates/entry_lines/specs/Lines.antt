@@ -6,7 +6,7 @@ use Rattle.rules.specs.Utf8.{encode}
 use Rattle.rules.specs.Event.{Component, Modifiers}
 use Rattle.rules.specs.Read.{Fields}
 use Rattle.rules.specs.Write.{modifiers_field}
-use Rattle.rules.specs.Model.{Kind, ingredient, cookware, as_slash, toStep, toSection, target_of, Entry, name_of, path_of, reference_in, entry_of, set_modifiers}
+use Rattle.rules.specs.Model.{Kind, ingredient, cookware, as_slash, to_step, to_section, target_of, Entry, name_of, path_of, reference_in, entry_of, set_modifiers}
 use Rattle.rules.specs.Model as rules
 use Rattle.rules.specs.Page.{optional, amount_fields, target_word, ingredient_line, cookware_line}
 use Rattle.content.specs.Contents.{kept_in}
@@ -22,8 +22,8 @@ kind_word k = target_word (target_of k)
 -- what an entry of a kind refers to
 unfoldable pub target_in : Kind → Target → rules.Target
 target_in k Ingredient = target_of k
-target_in k Step = toStep
-target_in k Section = toSection
+target_in k Step = to_step
+target_in k Section = to_section
 
 unfoldable pub entry_line : Kind → ℕ → Entry → List ℕ
 entry_line ingredient = ingredient_line

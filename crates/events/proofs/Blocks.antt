@@ -21,14 +21,14 @@ use Rattle.events.specs.Got.{BlockRead}
 -- ---- blocks
 unfoldable behind : BlockWord → Option words.BlockKind
 behind told.Step = some words.step_kind
-behind told.Text = some words.textKind
+behind told.Text = some words.text_kind
 behind told.Unknown = none
 
 behind_is : (o : Option words.BlockKind) → behind (block_as o) ≡ o
 unfolding behind block_as
 behind_is none = refl
 behind_is (some words.step_kind) = refl
-behind_is (some words.textKind) = refl
+behind_is (some words.text_kind) = refl
 
 said : (o : Option words.BlockKind) {r k : BlockWord} → r ≡ block_as o → r ≡ k → o ≡ behind k
 said o w q = sym (behind_is o) ∙ ap behind (sym w ∙ q)

@@ -19,7 +19,7 @@ use Rattle.events.specs.declared.EventView.TheVariants as event
 
 unfoldable pub block_in : BlockKind → words.BlockKind
 block_in block.Step = words.step_kind
-block_in block.Text = words.textKind
+block_in block.Text = words.text_kind
 
 unfoldable pub severity_in : Severity → words.Severity
 severity_in severity.Severe = words.severe

@@ -6,7 +6,7 @@ use mathlib.Core.List.{List, [], ◌∷◌, ◌++◌, reverse_aux}
 use mathlib.Core.Option.{Option, none, some}
 use native.Mathlib.Omega.{arith}
 use Rattle.rules.specs.Basic.{pick, when}
-use Rattle.rules.specs.Words.{BlockKind, step_kind, textKind, define_key, duplicateKey, DefineMode, DuplicateMode}
+use Rattle.rules.specs.Words.{BlockKind, step_kind, text_kind, define_key, duplicate_key, DefineMode, DuplicateMode}
 use Rattle.rules.specs.Event.{Span, Text, Quantity, Component, Intermediate, ComponentEvent, ingredient_event, cookware_event, timer_event, Inside, end_event, text_event, component_event}
 use Rattle.rules.specs.Units.{NamedUnit, PhysicalQuantity}
 use Rattle.rules.specs.Finding.{Finding, diag, parsed, only_parsed}
@@ -266,7 +266,7 @@ module _ (units : List NamedUnit) (flags : ℕ) where
   step_aside : (i : Inside) (is : List Item) (st : State) → AsideStep st (in_step_block units flags i is st)
   unfolding in_step_block
   step_aside (end_event step_kind) is st = close_step_aside is st
-  step_aside (end_event textKind) is st = tt
+  step_aside (end_event text_kind) is st = tt
   step_aside (text_event t) is st = text_aside t is st
   step_aside (component_event c) is st = component_aside c is st
 
@@ -277,7 +277,7 @@ close_text_aside ts st = keep_aside _ _ st
 block_text_aside : (i : Inside) (ts : List (List ℕ)) (st : State) → AsideStep st (in_text_block i ts st)
 unfolding in_text_block
 block_text_aside (end_event step_kind) ts st = tt
-block_text_aside (end_event textKind) ts st = close_text_aside ts st
+block_text_aside (end_event text_kind) ts st = close_text_aside ts st
 block_text_aside (text_event t) ts st = block_aside _ st
 block_text_aside (component_event c) ts st = tt
 
@@ -309,7 +309,7 @@ duplicate_parsers k v (some m) st = refl
 key_parsers : (key : Key) (k v : Text) (st : State) → only_parsed (on_key key k v st).findings ≡ only_parsed st.findings
 unfolding on_key store_meta set_metadata
 key_parsers (config define_key) k v st = define_parsers k v _ st
-key_parsers (config duplicateKey) k v st = duplicate_parsers k v _ st
+key_parsers (config duplicate_key) k v st = duplicate_parsers k v _ st
 key_parsers unknown_config k v st = (reported _ (store_meta _ _ st.metadata.old st) (one_diag 2 _ false)).parsers
 key_parsers ordinary k v st = refl
 

@@ -8,7 +8,7 @@ use lib.ListN.{length}
 use Rattle.rules.specs.Basic.{pick, is_empty, is_some, on_some, word_in, concat}
 use Rattle.rules.specs.Utf8.{encode}
 use Rattle.rules.specs.Sheet.{escape}
-use Rattle.rules.specs.Words.{BlockKind, step_kind, textKind, DefineMode, DuplicateMode, mode_all, modeComponents, modeSteps, modeText, define_key, duplicateKey, define_words, duplicate_words}
+use Rattle.rules.specs.Words.{BlockKind, step_kind, text_kind, DefineMode, DuplicateMode, mode_all, mode_components, mode_steps, mode_text, define_key, duplicate_key, define_words, duplicate_words}
 use Rattle.rules.specs.Event.{Text, Between, meta_event, section_event, start_event, Event, between, inside, parser_event}
 use Rattle.rules.specs.Units.{NamedUnit}
 use Rattle.rules.specs.Finding.{Finding}
@@ -43,24 +43,24 @@ no_text = append-nil text_lead
 fresh : (m : DefineMode) (n : ℕ) (b : BlockKind) → Fresh m n (opened m b)
 unfolding opened is_text open_drawn keeps kind_of lead is_components define_of define_in table_lines lines_onto
 fresh mode_all n step_kind = record { is = append-nil _ }
-fresh mode_all n textKind = record { is = no_text }
-fresh modeComponents n step_kind = record { is = refl }
-fresh modeComponents n textKind = record { is = no_text }
-fresh modeSteps n step_kind = record { is = append-nil _ }
-fresh modeSteps n textKind = record { is = no_text }
-fresh modeText n step_kind = record { is = no_text }
-fresh modeText n textKind = record { is = no_text }
+fresh mode_all n text_kind = record { is = no_text }
+fresh mode_components n step_kind = record { is = refl }
+fresh mode_components n text_kind = record { is = no_text }
+fresh mode_steps n step_kind = record { is = append-nil _ }
+fresh mode_steps n text_kind = record { is = no_text }
+fresh mode_text n step_kind = record { is = no_text }
+fresh mode_text n text_kind = record { is = no_text }
 
 opens_kind : (m : DefineMode) (b : BlockKind) → kind_of (opened m b) ≡ opens_as (define_in m) b
 unfolding opened is_text kind_of opens_as define_of define_in
 opens_kind mode_all step_kind = refl
-opens_kind mode_all textKind = refl
-opens_kind modeComponents step_kind = refl
-opens_kind modeComponents textKind = refl
-opens_kind modeSteps step_kind = refl
-opens_kind modeSteps textKind = refl
-opens_kind modeText step_kind = refl
-opens_kind modeText textKind = refl
+opens_kind mode_all text_kind = refl
+opens_kind mode_components step_kind = refl
+opens_kind mode_components text_kind = refl
+opens_kind mode_steps step_kind = refl
+opens_kind mode_steps text_kind = refl
+opens_kind mode_text step_kind = refl
+opens_kind mode_text text_kind = refl
 
 -- ---- `section`
 
@@ -124,7 +124,7 @@ module _ (text : List ℕ) (units : List NamedUnit) (flags : ℕ) (m : DefineMod
       → Grows here (on_key key a v here) (meta_follow (key_meta key (word_in (value_text v) define_words)) (follow_of here)) [] [] [] (key_adds key a v (follow_of here)) []
   unfolding on_key key_meta key_adds report store_meta set_metadata meta_follow follow_of is_shown keeps kind_of sections_drawn old_drawn open_drawn is_empty
   key_grows (config define_key) a v = define_grows a v (word_in (value_text v) define_words)
-  key_grows (config duplicateKey) a v = duplicate_grows a v (word_in (value_text v) duplicate_words)
+  key_grows (config duplicate_key) a v = duplicate_grows a v (word_in (value_text v) duplicate_words)
   key_grows unknown_config a v = record { follow = refl; sections_is = nil; timers_is = nil; inline_is = nil; old_is = nil; table_is = refl }
   key_grows ordinary a v = record { follow = refl; sections_is = nil; timers_is = nil; inline_is = nil; old_is = span_more (record { start = a.span.start; end = v.span.end }) md.old; table_is = refl }
 

@@ -7,7 +7,7 @@ use mathlib.Core.Option.{Option, none, some}
 use native.Mathlib.Numerals.{add-one}
 use borrow.Author.Tests.{ne_eqb}
 use Rattle.rules.specs.Basic.{pick, is_some, word_in}
-use Rattle.rules.specs.Words.{DefineMode, mode_all, modeComponents, modeSteps, modeText, define_words}
+use Rattle.rules.specs.Words.{DefineMode, mode_all, mode_components, mode_steps, mode_text, define_words}
 use Rattle.rules.specs.Text.{text_trimmed, text_outer_trimmed}
 use Rattle.rules.specs.Modes as modes
 use Rattle.rules.specs.Modes.{is_components, is_text, has_modes, key_of, value_text}
@@ -59,9 +59,9 @@ word_back : (o : Option DefineMode) → word_meta (define_as o) ≡ define_meta 
 unfolding word_meta define_as define_meta define_in
 word_back none = refl
 word_back (some mode_all) = refl
-word_back (some modeComponents) = refl
-word_back (some modeSteps) = refl
-word_back (some modeText) = refl
+word_back (some mode_components) = refl
+word_back (some mode_steps) = refl
+word_back (some mode_text) = refl
 
 pub meta_off : {flags : ℕ} {line : List ℕ} {k v : TextView} → (flags % 2 ≡ 1 → ⊥) → MetaRead flags line k v Ordinary
 unfolding meta_of has_modes key_meta

@@ -6,7 +6,7 @@ use mathlib.Core.Bool.{Bool, true, false, ◌||◌, not}
 use mathlib.Core.Option.{Option, none, some}
 use lib.ListN.{length}
 use Rattle.rules.specs.Basic.{pick, is_empty, is_some}
-use Rattle.rules.specs.Words.{DefineMode, DuplicateMode, mode_all, modeComponents, modeSteps, modeText}
+use Rattle.rules.specs.Words.{DefineMode, DuplicateMode, mode_all, mode_components, mode_steps, mode_text}
 use Rattle.rules.specs.Finding.{Finding}
 use Rattle.rules.specs.Model.{InlineQuantity, Block}
 use Rattle.rules.specs.State as state
@@ -48,9 +48,9 @@ made m d md name content n o k t fs =
 pub mode_back : (m : DefineMode) → define_of (define_in m) ≡ m
 unfolding define_of define_in
 mode_back mode_all = refl
-mode_back modeComponents = refl
-mode_back modeSteps = refl
-mode_back modeText = refl
+mode_back mode_components = refl
+mode_back mode_steps = refl
+mode_back mode_text = refl
 
 -- ---- regrouping
 

@@ -8,11 +8,11 @@ use lib.Dec.{eqb}
 use lib.ListN.{length}
 use Rattle.rules.specs.Basic.{pick, lf, join_by, each, concat}
 use Rattle.rules.specs.Sheet.{line_of, escape, escape_char}
-use Rattle.rules.specs.Words.{BlockKind, step_kind, textKind, DefineMode, DuplicateMode, mode_all, modeComponents, modeSteps, modeText}
+use Rattle.rules.specs.Words.{BlockKind, step_kind, text_kind, DefineMode, DuplicateMode, mode_all, mode_components, mode_steps, mode_text}
 use Rattle.rules.specs.Event.{Span, Text, Quantity, Component, Intermediate, Inside, end_event, text_event, component_event, ComponentEvent, ingredient_event, cookware_event, timer_event, Event, inside, component_span}
 use Rattle.rules.specs.Units.{NamedUnit}
 use Rattle.rules.specs.Finding.{Finding}
-use Rattle.rules.specs.Model.{ingredient, cookware, Entry, Item, ingredient_item, cookwareItem, timerItem, Block, step_block, text_block}
+use Rattle.rules.specs.Model.{ingredient, cookware, Entry, Item, ingredient_item, cookware_item, timer_item, Block, step_block, text_block}
 use Rattle.rules.specs.Modes.{is_components}
 use Rattle.rules.specs.Reference.{Earlier, set_referenced_from}
 use Rattle.rules.specs.Components.{Made, timer_of, intermediate_fault, referred, pushed, refers_to_reference}
@@ -47,9 +47,9 @@ open_more : (m : DefineMode) (n : ℕ) (is' is : List Item) (x : List ℕ) → t
     → open_drawn m n (step_open is') ≡ open_drawn m n (step_open is) ++ pick (is_components (define_of (define_in m))) [] x
 unfolding open_drawn is_components define_of define_in
 open_more mode_all n is' is x q = ap (λ (l : List ℕ). step_line n ++ l) q ∙ sym (append_assoc (step_line n) (table_lines item_line is) x)
-open_more modeComponents n is' is x q = refl
-open_more modeSteps n is' is x q = ap (λ (l : List ℕ). step_line n ++ l) q ∙ sym (append_assoc (step_line n) (table_lines item_line is) x)
-open_more modeText n is' is x q = ap (λ (l : List ℕ). step_line n ++ l) q ∙ sym (append_assoc (step_line n) (table_lines item_line is) x)
+open_more mode_components n is' is x q = refl
+open_more mode_steps n is' is x q = ap (λ (l : List ℕ). step_line n ++ l) q ∙ sym (append_assoc (step_line n) (table_lines item_line is) x)
+open_more mode_text n is' is x q = ap (λ (l : List ℕ). step_line n ++ l) q ∙ sym (append_assoc (step_line n) (table_lines item_line is) x)
 
 text_lines : (t : List ℕ) (ts : List (List ℕ)) → text_lead ++ spell (concat (reverse (t ∷ ts))) ≡ (text_lead ++ spell (concat (reverse ts))) ++ spell t
 text_lines t ts = ap (λ (x : List ℕ). text_lead ++ x) (pieces_more t ts) ∙ sym (append_assoc text_lead (spell (concat (reverse ts))) (spell t))
@@ -106,7 +106,7 @@ module _ (text : List ℕ) (units : List NamedUnit) (flags : ℕ) (m : DefineMod
   cookware_grows c v is =
       record {
         follow = ap (λ (x : ℕ). count_component (cookware_event c) (record { define = define_in m; block = kind_of (step_open is); shown = is_shown (has (step_open is)); counter = n; ingredients = length t.ingredients; cookware = x; timers = length t.timers; inline = length t.inline; old = (follow_of (has (step_open is))).old })) (length_referred v.refers_to t.cookware);
-        sections_is = item_lines (cookwareItem (length t.cookware)) is;
+        sections_is = item_lines (cookware_item (length t.cookware)) is;
         timers_is = nil;
         inline_is = nil;
         old_is = nil;
@@ -118,7 +118,7 @@ module _ (text : List ℕ) (units : List NamedUnit) (flags : ℕ) (m : DefineMod
   timer_grows s a q is =
       record {
         follow = refl;
-        sections_is = item_lines (timerItem (length t.timers)) is;
+        sections_is = item_lines (timer_item (length t.timers)) is;
         timers_is = table_more timer_line (timer_of a q) t.timers;
         inline_is = nil;
         old_is = nil;
@@ -200,7 +200,7 @@ module _ (text : List ℕ) (units : List NamedUnit) (flags : ℕ) (m : DefineMod
       }
 
 module _ (text : List ℕ) (units : List NamedUnit) (flags : ℕ) (m : DefineMode) (d : DuplicateMode) (md : Metadata) (name : Option (List ℕ)) (content : List Block) (n : ℕ) (k : Kept) (t : Tables) (fs : List Finding) (ts : List (List ℕ)) where
-  text_end : EventGrows text units flags (inside (end_event textKind)) (made m d md name content n (text_open ts) k t fs) (close_text ts (made m d md name content n (text_open ts) k t fs))
+  text_end : EventGrows text units flags (inside (end_event text_kind)) (made m d md name content n (text_open ts) k t fs) (close_text ts (made m d md name content n (text_open ts) k t fs))
   unfolding close_text keeps kind_of next_follow inside_follow counter_after close_follow with_inline follow_of sections_add inside_adds timers_add inline_add quantities_added quantities_in old_add open_drawn keep_block set_kept set_place
   text_end = keep_grows m d md name content n k t fs (text_open ts) (text_block (concat (reverse ts))) n (lf ∷ []) refl (λ i. text_line i (concat (reverse ts)))
 
@@ -212,28 +212,28 @@ step_text : (text : List ℕ) (units : List NamedUnit) (flags : ℕ) (m : Define
     → EventGrows text units flags (inside (text_event x)) (made m d md name content n (step_open is) k t fs) (text_in_step units flags x is (made m d md name content n (step_open is) k t fs))
 unfolding text_in_step is_components define_of define_in
 step_text text units flags mode_all d md name content n k t fs x is = pieces_grows text units flags mode_all d md name content n k t fs refl x is
-step_text text units flags modeComponents d md name content n k t fs x is = unfold report next_follow inside_follow with_inline follow_of is_shown kind_of sections_drawn old_drawn sections_add inside_adds unless_components timers_add inline_add quantities_added quantities_in inline_adds old_add in record { follow = refl; sections_is = nil; timers_is = nil; inline_is = nil; old_is = nil; table_is = refl }
-step_text text units flags modeSteps d md name content n k t fs x is = pieces_grows text units flags modeSteps d md name content n k t fs refl x is
-step_text text units flags modeText d md name content n k t fs x is = pieces_grows text units flags modeText d md name content n k t fs refl x is
+step_text text units flags mode_components d md name content n k t fs x is = unfold report next_follow inside_follow with_inline follow_of is_shown kind_of sections_drawn old_drawn sections_add inside_adds unless_components timers_add inline_add quantities_added quantities_in inline_adds old_add in record { follow = refl; sections_is = nil; timers_is = nil; inline_is = nil; old_is = nil; table_is = refl }
+step_text text units flags mode_steps d md name content n k t fs x is = pieces_grows text units flags mode_steps d md name content n k t fs refl x is
+step_text text units flags mode_text d md name content n k t fs x is = pieces_grows text units flags mode_text d md name content n k t fs refl x is
 
 step_end : (text : List ℕ) (units : List NamedUnit) (flags : ℕ) (m : DefineMode) (d : DuplicateMode) (md : Metadata) (name : Option (List ℕ)) (content : List Block) (n : ℕ) (k : Kept) (t : Tables) (fs : List Finding) (is : List Item)
     → EventGrows text units flags (inside (end_event step_kind)) (made m d md name content n (step_open is) k t fs) (close_step is (made m d md name content n (step_open is) k t fs))
 unfolding close_step is_components define_of define_in keeps next_follow inside_follow counter_after close_follow with_inline follow_of is_shown kind_of sections_drawn old_drawn sections_add inside_adds timers_add inline_add quantities_added quantities_in inline_adds old_add open_drawn block_lines step_line set_block set_place keep_block set_kept
 step_end text units flags mode_all d md name content n k t fs is = keep_grows mode_all d md name content n k t fs (step_open is) (step_block n is) (suc n) [] refl (λ i. nil)
-step_end text units flags modeComponents d md name content n k t fs is = record { follow = refl; sections_is = nil; timers_is = nil; inline_is = nil; old_is = nil; table_is = refl }
-step_end text units flags modeSteps d md name content n k t fs is = keep_grows modeSteps d md name content n k t fs (step_open is) (step_block n is) (suc n) [] refl (λ i. nil)
-step_end text units flags modeText d md name content n k t fs is = keep_grows modeText d md name content n k t fs (step_open is) (step_block n is) (suc n) [] refl (λ i. nil)
+step_end text units flags mode_components d md name content n k t fs is = record { follow = refl; sections_is = nil; timers_is = nil; inline_is = nil; old_is = nil; table_is = refl }
+step_end text units flags mode_steps d md name content n k t fs is = keep_grows mode_steps d md name content n k t fs (step_open is) (step_block n is) (suc n) [] refl (λ i. nil)
+step_end text units flags mode_text d md name content n k t fs is = keep_grows mode_text d md name content n k t fs (step_open is) (step_block n is) (suc n) [] refl (λ i. nil)
 
 module _ (text : List ℕ) (units : List NamedUnit) (flags : ℕ) (m : DefineMode) (d : DuplicateMode) (md : Metadata) (name : Option (List ℕ)) (content : List Block) (n : ℕ) (k : Kept) (t : Tables) (fs : List Finding) where
   pub inside_grows : (e : Inside) (o : state.Open) → StepGrows text units flags (inside e) (made m d md name content n o k t fs) (on_inside text units flags e o (made m d md name content n o k t fs))
   unfolding on_inside in_step_block in_text_block in_text_mode
   inside_grows e no_block = tt
   inside_grows (end_event step_kind) (step_open is) = step_end text units flags m d md name content n k t fs is
-  inside_grows (end_event textKind) (step_open is) = tt
+  inside_grows (end_event text_kind) (step_open is) = tt
   inside_grows (text_event x) (step_open is) = step_text text units flags m d md name content n k t fs x is
   inside_grows (component_event c) (step_open is) = component_grows text units flags m d md name content n k t fs c is
   inside_grows (end_event step_kind) (text_open ts) = tt
-  inside_grows (end_event textKind) (text_open ts) = text_end text units flags m d md name content n k t fs ts
+  inside_grows (end_event text_kind) (text_open ts) = text_end text units flags m d md name content n k t fs ts
   inside_grows (text_event x) (text_open ts) = text_block_text text units flags m d md name content n k t fs x ts
   inside_grows (component_event c) (text_open ts) = tt
   inside_grows (end_event b) (text_mode_open ts) = mode_end text units flags m d md name content n k t fs ts b

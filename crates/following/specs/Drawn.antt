@@ -4,10 +4,10 @@ use Rattle.std.specs.Prelude.{ℕ, List, [], ◌∷◌, ◌++◌, reverse, Bool,
 use Rattle.std.proofs.Math.Option.{Option, none}
 use Rattle.rules.specs.Basic.{pick, codes, tab, lf, comma, decimal, join_by, each, concat, is_empty, is_some, on_some}
 use Rattle.rules.specs.Sheet.{line_of}
-use Rattle.rules.specs.Words.{BlockKind, step_kind, textKind, DefineMode, mode_all, modeComponents, modeSteps, modeText}
+use Rattle.rules.specs.Words.{BlockKind, step_kind, text_kind, DefineMode, mode_all, mode_components, mode_steps, mode_text}
 use Rattle.rules.specs.Event.{Span, Text, meta_event, section_event, start_event, ComponentEvent, ingredient_event, cookware_event, timer_event, Inside, end_event, text_event, component_event, Event, between, inside, parser_event, component_span}
 use Rattle.rules.specs.Units.{NamedUnit}
-use Rattle.rules.specs.Model.{trimmed_text, InlineQuantity, Item, ingredient_item, cookwareItem, timerItem}
+use Rattle.rules.specs.Model.{trimmed_text, InlineQuantity, Item, ingredient_item, cookware_item, timer_item}
 use Rattle.rules.specs.Modes.{is_components, is_text, has_modes, Key, config, unknown_config, ordinary, key_of, key_text}
 use Rattle.rules.specs.State as state
 use Rattle.rules.specs.State.{State, no_block, step_open, text_open, text_mode_open}
@@ -29,9 +29,9 @@ use Rattle.following.specs.declared.Follow.{Follow}
 
 unfoldable pub define_in : DefineMode → Define
 define_in mode_all = define.All
-define_in modeComponents = define.Components
-define_in modeSteps = define.Steps
-define_in modeText = define.Text
+define_in mode_components = define.Components
+define_in mode_steps = define.Steps
+define_in mode_text = define.Text
 
 unfoldable pub kind_of : state.Open → Open
 kind_of no_block = block.Nothing
@@ -127,7 +127,7 @@ first_follow =
 -- the block that a `start` opens
 unfoldable pub opens_as : Define → BlockKind → Open
 opens_as d step_kind = pick (is_text (define_of d)) block.TextMode block.Step
-opens_as d textKind = pick (is_text (define_of d)) block.TextMode block.Text
+opens_as d text_kind = pick (is_text (define_of d)) block.TextMode block.Text
 
 -- its first bytes
 unfoldable pub lead : ℕ → Open → List ℕ
@@ -142,8 +142,8 @@ start_adds f b = pick (keeps f.define b) (pick f.shown [] (section_line none) ++
 
 unfoldable pub component_item : ComponentEvent → Follow → Item
 component_item (ingredient_event c i) f = ingredient_item f.ingredients
-component_item (cookware_event c) f = cookwareItem f.cookware
-component_item (timer_event s n q) f = timerItem f.timers
+component_item (cookware_event c) f = cookware_item f.cookware
+component_item (timer_event s n q) f = timer_item f.timers
 
 -- lines that add nothing in components mode
 unfoldable pub unless_components : Follow → List ℕ → List ℕ

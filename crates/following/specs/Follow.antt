@@ -2,7 +2,7 @@
 use Rattle.std.specs.Prelude.{ℕ, suc, ◌+◌, ◌≤◌, ◌≡◌, List, Bool, true, ◌||◌, length}
 use Rattle.std.proofs.Math.Option.{Option, none, some}
 use Rattle.rules.specs.Basic.{pick, is_some, word_in}
-use Rattle.rules.specs.Words.{DefineMode, define_key, duplicateKey, define_words}
+use Rattle.rules.specs.Words.{DefineMode, define_key, duplicate_key, define_words}
 use Rattle.rules.specs.Event as rules
 use Rattle.rules.specs.Event.{meta_event, section_event, start_event, end_event, text_event, component_event, ingredient_event, cookware_event, timer_event, between, inside, parser_event}
 use Rattle.rules.specs.Units.{NamedUnit}
@@ -48,7 +48,7 @@ define_meta (some m) = Defines (define_in m)
 
 unfoldable pub key_meta : modes.Key → Option DefineMode → Meta
 key_meta (config define_key) o = define_meta o
-key_meta (config duplicateKey) o = Other
+key_meta (config duplicate_key) o = Other
 key_meta unknown_config o = Other
 key_meta ordinary o = Ordinary
 

@@ -106,16 +106,16 @@ module _ (i : Intermediate) {f : Found} {w₀ : List ℕ} {h₀ : Held} where
 
 -- ---- the relation
 
-module _ (i : Intermediate) (inStep : Bool) {f : Found} where
-  pub related_none : f ≡ Nothing → Related i inStep f (record { relation = Definition; in_step = inStep; index = 0 })
+module _ (i : Intermediate) (in_step : Bool) {f : Found} where
+  pub related_none : f ≡ Nothing → Related i in_step f (record { relation = Definition; in_step = in_step; index = 0 })
   unfolding relation_in relation_as intermediate_relation
   related_none e = record { is = rw e }
 
-  pub related_step : {j : ℕ} → f ≡ At j → i.target ≡ target.Step → Related i inStep f (record { relation = Reference model.Step; in_step = inStep; index = j })
+  pub related_step : {j : ℕ} → f ≡ At j → i.target ≡ target.Step → Related i in_step f (record { relation = Reference model.Step; in_step = in_step; index = j })
   unfolding relation_in relation_as intermediate_relation intermediate_target intermediate_in target_in
   related_step e t = record { is = rw (e, t) }
 
-  pub related_section : {j : ℕ} → f ≡ At j → i.target ≡ target.Section → Related i inStep f (record { relation = Reference model.Section; in_step = inStep; index = j })
+  pub related_section : {j : ℕ} → f ≡ At j → i.target ≡ target.Section → Related i in_step f (record { relation = Reference model.Section; in_step = in_step; index = j })
   unfolding relation_in relation_as intermediate_relation intermediate_target intermediate_in target_in
   related_section e t = record { is = rw (e, t) }
 

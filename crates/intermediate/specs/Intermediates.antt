@@ -33,5 +33,5 @@ pub record Resolved (i : Intermediate) (w : List ℕ) (h : Held) (r : Found) : T
   pub is : (sheet : List ℕ) → found_of r ≡ resolve_intermediate_ref (intermediate_in i) (state_in sheet w h).place.section.content (length (state_in sheet w h).kept.sections)
 
 -- the relation of a new ingredient
-pub record Related (i : Intermediate) (inStep : Bool) (target : Found) (r : RelationRecord) : Type 0 where
-  pub is : relation_in ingredient r [] ≡ intermediate_relation (intermediate_in i) (definition inStep []) (found_of target)
+pub record Related (i : Intermediate) (in_step : Bool) (target : Found) (r : RelationRecord) : Type 0 where
+  pub is : relation_in ingredient r [] ≡ intermediate_relation (intermediate_in i) (definition in_step []) (found_of target)

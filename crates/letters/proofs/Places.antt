@@ -9,7 +9,7 @@ use lib.Dec.{leb, ltb}
 use lib.ListN.{length, get_or}
 use borrow.Author.Tests.{leb-true, leb-false, ltb-true, le-leb, lt-leb, le-ltb, lt-ltb}
 use Rattle.rules.specs.Basic.{pick}
-use Rattle.rules.specs.Ranges.{Range, ◌to◌, member, ascending, FoldLine, ◌foldsTo◌, keys_ascend}
+use Rattle.rules.specs.Ranges.{Range, ◌to◌, member, ascending, FoldLine, ◌folds_to◌, keys_ascend}
 use Rattle.rules.proofs.Basics.{and_left, and_right, and_both}
 use Rattle.letters.specs.Search.{Ascending, Place, zipped}
 use Rattle.letters.specs.Tables.{starts, ends, keys}
@@ -73,7 +73,7 @@ ends_rise low ((a to b) ∷ rs) t =
 keys_rise : (low : ℕ) (ls : List FoldLine) → keys_ascend low ls ≡ true → rising low (keys ls) ≡ true
 unfolding keys keys_ascend
 keys_rise low [] t = refl
-keys_rise low ((k foldsTo m) ∷ ls) t =
+keys_rise low ((k folds_to m) ∷ ls) t =
     let u = ltb-true low k (and_left (ltb low k) (keys_ascend k ls) t) in
     and_both (leb low k) (rising k (keys ls)) (le-leb low k (omega arith)) (keys_rise k ls (and_right (ltb low k) (keys_ascend k ls) t))
 

@@ -9,7 +9,7 @@ use lib.Dec.{eqb}
 use lib.ListN.{length, get_or, take, drop, length-take, length-drop}
 use borrow.Author.Tests.{eq-eqb, ne_eqb, lt-ltb, le-ltb}
 use Rattle.rules.specs.Basic.{within}
-use Rattle.rules.specs.Ranges.{FoldLine, ◌foldsTo◌, lookup}
+use Rattle.rules.specs.Ranges.{FoldLine, ◌folds_to◌, lookup}
 use Rattle.rules.specs.Folding.{folding}
 use Rattle.rules.specs.Unicode.{fold}
 use Rattle.rules.proofs.Basics.{and_left, and_right, no_truth, within_to}
@@ -45,9 +45,9 @@ found : (ls : List FoldLine) (c k : ℕ) → all_maps shaped ls ≡ true → k <
     → get_or (keys ls) k 0 ≡ c → row_of (get_or (column 0 ls) k 0) (get_or (column 1 ls) k 0) (get_or (column 2 ls) k 0) ≡ lookup c ls
 unfolding keys column lookup
 found [] c k t h low e = absurd (not-suc-le-zero h)
-found ((x foldsTo m) ∷ ls) c zero t h low e =
+found ((x folds_to m) ∷ ls) c zero t h low e =
     rw (le-ltb c x (omega arith), eq-eqb c x (sym e)) (whole_row m (and_left (shaped m) (all_maps shaped ls) t))
-found ((x foldsTo m) ∷ ls) c (suc k) t h low e =
+found ((x folds_to m) ∷ ls) c (suc k) t h low e =
     let l : x < c = low zero (suc-le-suc zero-le) in
     rw (le-ltb c x (omega arith), ne_eqb c x (λ q. omega arith))
     (found ls c k (and_right (shaped m) (all_maps shaped ls) t) (le_of_suc-le-suc h) (λ j g. low (suc j) (suc-le-suc g)) e)
@@ -56,8 +56,8 @@ missing : (ls : List FoldLine) (c k : ℕ) → ((j : ℕ) → j < k → get_or (
     → c ∷ [] ≡ lookup c ls
 unfolding keys lookup
 missing [] c k low f = refl
-missing ((x foldsTo m) ∷ ls) c zero low f = rw (lt-ltb c x (f (suc-le-suc zero-le)))
-missing ((x foldsTo m) ∷ ls) c (suc k) low f =
+missing ((x folds_to m) ∷ ls) c zero low f = rw (lt-ltb c x (f (suc-le-suc zero-le)))
+missing ((x folds_to m) ∷ ls) c (suc k) low f =
     let l : x < c = low zero (suc-le-suc zero-le) in
     rw (le-ltb c x (omega arith), ne_eqb c x (λ q. omega arith))
     (missing ls c k (λ j g. low (suc j) (suc-le-suc g)) (λ g. f (suc-le-suc g)))

@@ -7,7 +7,7 @@ use native.Mathlib.Omega.{arith}
 use lib.Dec.{eqb, leb, ltb}
 use borrow.Author.Tests.{ltb-true, leb-true, ne_eqb, lt-ltb, le-ltb, lt-leb, le-leb}
 use Rattle.rules.specs.Basic.{pick, within}
-use Rattle.rules.specs.Ranges.{Range, ◌to◌, member, FoldLine, ◌foldsTo◌, lookup}
+use Rattle.rules.specs.Ranges.{Range, ◌to◌, member, FoldLine, ◌folds_to◌, lookup}
 use Rattle.rules.specs.Alphabetic.{alphabetic}
 use Rattle.rules.specs.Numeric.{numeric}
 use Rattle.rules.specs.WhiteSpace.{white_space}
@@ -20,7 +20,7 @@ use Rattle.rules.proofs.Basics.{no_truth, and_left, and_right, within_from, with
 module _ (lo hi : ℕ) where
   abbrev free : List FoldLine → Bool
   free [] = true
-  free ((k foldsTo m) ∷ ls) = pick (ltb k lo) true (ltb hi k) && free ls
+  free ((k folds_to m) ∷ ls) = pick (ltb k lo) true (ltb hi k) && free ls
 
   module _ (c : ℕ) (h : lo ≤ c) (g : c ≤ hi) where
     free_line : (k : ℕ) (m rest : List ℕ) → pick (ltb k lo) true (ltb hi k) ≡ true → c ∷ [] ≡ rest → c ∷ [] ≡ pick (ltb c k) (c ∷ []) (pick (eqb c k) m rest)
@@ -33,7 +33,7 @@ module _ (lo hi : ℕ) where
     no_key : (ls : List FoldLine) → free ls ≡ true → c ∷ [] ≡ lookup c ls
     unfolding lookup
     no_key [] t = refl
-    no_key ((k foldsTo m) ∷ ls) t = free_line k m (lookup c ls) (and_left (pick (ltb k lo) true (ltb hi k)) (free ls) t) (no_key ls (and_right (pick (ltb k lo) true (ltb hi k)) (free ls) t))
+    no_key ((k folds_to m) ∷ ls) t = free_line k m (lookup c ls) (and_left (pick (ltb k lo) true (ltb hi k)) (free ls) t) (no_key ls (and_right (pick (ltb k lo) true (ltb hi k)) (free ls) t))
 
 east_free : free 0x588 0x109f folding ≡ true
 unfolding folding

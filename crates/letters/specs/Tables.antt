@@ -1,7 +1,7 @@
 -- The tables of Unicode as one list of numbers, column after column.
 use Rattle.std.specs.Prelude.{ℕ, zero, suc, ◌+◌, ◌-◌, List, [], ◌∷◌, ◌++◌, ltb, get_or}
 use Rattle.rules.specs.Basic.{pick}
-use Rattle.rules.specs.Ranges.{Range, ◌to◌, FoldLine, ◌foldsTo◌}
+use Rattle.rules.specs.Ranges.{Range, ◌to◌, FoldLine, ◌folds_to◌}
 use Rattle.rules.specs.Alphabetic.{alphabetic}
 use Rattle.rules.specs.Numeric.{numeric}
 use Rattle.rules.specs.WhiteSpace.{white_space}
@@ -20,17 +20,17 @@ ends ((a to b) ∷ rs) = b ∷ ends rs
 -- the columns of folding lines: the keys, and the code points at place i of the mappings (0: none)
 unfoldable pub keys : List FoldLine → List ℕ
 keys [] = []
-keys ((k foldsTo m) ∷ ls) = k ∷ keys ls
+keys ((k folds_to m) ∷ ls) = k ∷ keys ls
 
 module _ (i : ℕ) where
   unfoldable pub column : List FoldLine → List ℕ
   column [] = []
-  column ((k foldsTo m) ∷ ls) = get_or m i 0 ∷ column ls
+  column ((k folds_to m) ∷ ls) = get_or m i 0 ∷ column ls
 
 -- how many keys are below c
 unfoldable pub keys_below : ℕ → List FoldLine → ℕ
 keys_below c [] = 0
-keys_below c ((k foldsTo m) ∷ ls) = pick (ltb k c) (1 + keys_below c ls) 0
+keys_below c ((k folds_to m) ∷ ls) = pick (ltb k c) (1 + keys_below c ls) 0
 
 -- the word of c, where m is what c folds to: the one code point of m; or, where m has several, 0x110000 and the place of c's line
 unfoldable pub word_for : ℕ → List ℕ → ℕ

@@ -67,61 +67,61 @@ module _ (k : Kind) (sheet rows pairs : List ℕ) (m : ℕ) where
   unfolding entry_in entry_as set_relation set_modifiers modifiers_in
   entry_opt i = refl
 
-  module _ (folded : List ℕ) (anyOpt is_opt : Bool) where
-    entry_fits : (i : ℕ) → Fits k sheet (row_of (row_at 12 rows i)) → fits folded anyOpt is_opt (entry_in k sheet rows pairs m i) ≡ row_fits sheet folded anyOpt is_opt (row_of (row_at 12 rows i))
+  module _ (folded : List ℕ) (any_opt is_opt : Bool) where
+    entry_fits : (i : ℕ) → Fits k sheet (row_of (row_at 12 rows i)) → fits folded any_opt is_opt (entry_in k sheet rows pairs m i) ≡ row_fits sheet folded any_opt is_opt (row_of (row_at 12 rows i))
     unfolding fits row_fits
     entry_fits i h = rw (entry_ref i, entry_opt i, entry_name i, name_of h)
 
     -- the lookup law, for either kind
     pub rows_search : (n : ℕ) → EachRow (Fits k sheet) rows n
-        → on_some (earlier_in k sheet rows pairs m) (same_row sheet folded anyOpt is_opt rows n) ≡ same_name_in folded anyOpt is_opt (entries_in k sheet rows pairs m n)
+        → on_some (earlier_in k sheet rows pairs m) (same_row sheet folded any_opt is_opt rows n) ≡ same_name_in folded any_opt is_opt (entries_in k sheet rows pairs m n)
     unfolding same_name_in entries_in same_row on_some earlier_in
     rows_search zero h = refl
     rows_search (suc n) h =
-        rw (entry_fits n (h.at n (omega arith)), entries_length k sheet rows pairs m n, ← rows_search n (fewer h)) (go (row_fits sheet folded anyOpt is_opt (row_of (row_at 12 rows n))))
+        rw (entry_fits n (h.at n (omega arith)), entries_length k sheet rows pairs m n, ← rows_search n (fewer h)) (go (row_fits sheet folded any_opt is_opt (row_of (row_at 12 rows n))))
       where
-        go : (b : Bool) → on_some (earlier_in k sheet rows pairs m) (pick b (some n) (same_row sheet folded anyOpt is_opt rows n))
-            ≡ pick b (some (record { index = n; entry = entry_in k sheet rows pairs m n })) (on_some (earlier_in k sheet rows pairs m) (same_row sheet folded anyOpt is_opt rows n))
+        go : (b : Bool) → on_some (earlier_in k sheet rows pairs m) (pick b (some n) (same_row sheet folded any_opt is_opt rows n))
+            ≡ pick b (some (record { index = n; entry = entry_in k sheet rows pairs m n })) (on_some (earlier_in k sheet rows pairs m) (same_row sheet folded any_opt is_opt rows n))
         go true = refl
         go false = refl
 
 -- ---- what is found is one of the rows
 
-module _ (sheet folded : List ℕ) (anyOpt is_opt : Bool) (rows : List ℕ) where
-  same_below : (n i : ℕ) → same_row sheet folded anyOpt is_opt rows n ≡ some i → i < n
+module _ (sheet folded : List ℕ) (any_opt is_opt : Bool) (rows : List ℕ) where
+  same_below : (n i : ℕ) → same_row sheet folded any_opt is_opt rows n ≡ some i → i < n
   unfolding same_row
   same_below zero i e = no_some e
-  same_below (suc n) i e = go (row_fits sheet folded anyOpt is_opt (row_of (row_at 12 rows n))) e (λ q. same_below n i q)
+  same_below (suc n) i e = go (row_fits sheet folded any_opt is_opt (row_of (row_at 12 rows n))) e (λ q. same_below n i q)
     where
-      go : (b : Bool) → pick b (some n) (same_row sheet folded anyOpt is_opt rows n) ≡ some i → (same_row sheet folded anyOpt is_opt rows n ≡ some i → i < n) → i < suc n
+      go : (b : Bool) → pick b (some n) (same_row sheet folded any_opt is_opt rows n) ≡ some i → (same_row sheet folded any_opt is_opt rows n ≡ some i → i < n) → i < suc n
       go true q f = let z : n ≡ i = some_inj q in omega arith
       go false q f = let l : i < n = f q in omega arith
 
 -- ---- the turns of the loop
 
 -- the search from the row before i on is the whole search
-pub record Searching (sheet rows : List ℕ) (n : ℕ) (name : List ℕ) (anyOpt is_opt : Bool) (i : ℕ) : Type 0 where
+pub record Searching (sheet rows : List ℕ) (n : ℕ) (name : List ℕ) (any_opt is_opt : Bool) (i : ℕ) : Type 0 where
   pub most : i ≤ n
-  pub is : same_row sheet (fold_name (kept_in name)) anyOpt is_opt rows i ≡ same_row sheet (fold_name (kept_in name)) anyOpt is_opt rows n
+  pub is : same_row sheet (fold_name (kept_in name)) any_opt is_opt rows i ≡ same_row sheet (fold_name (kept_in name)) any_opt is_opt rows n
 
-pub search_start : (sheet rows : List ℕ) (n : ℕ) (name : List ℕ) (anyOpt is_opt : Bool) → Searching sheet rows n name anyOpt is_opt n
-search_start sheet rows n name anyOpt is_opt = record { most = omega arith; is = refl }
+pub search_start : (sheet rows : List ℕ) (n : ℕ) (name : List ℕ) (any_opt is_opt : Bool) → Searching sheet rows n name any_opt is_opt n
+search_start sheet rows n name any_opt is_opt = record { most = omega arith; is = refl }
 
-module _ {sheet rows : List ℕ} {n : ℕ} {name : List ℕ} {anyOpt is_opt : Bool} {i : ℕ} (v : Searching sheet rows n name anyOpt is_opt i) where
-  turn : 0 < i → same_row sheet (fold_name (kept_in name)) anyOpt is_opt rows i
-      ≡ pick (row_fits sheet (fold_name (kept_in name)) anyOpt is_opt (row_of (row_at 12 rows (i - 1)))) (some (i - 1)) (same_row sheet (fold_name (kept_in name)) anyOpt is_opt rows (i - 1))
+module _ {sheet rows : List ℕ} {n : ℕ} {name : List ℕ} {any_opt is_opt : Bool} {i : ℕ} (v : Searching sheet rows n name any_opt is_opt i) where
+  turn : 0 < i → same_row sheet (fold_name (kept_in name)) any_opt is_opt rows i
+      ≡ pick (row_fits sheet (fold_name (kept_in name)) any_opt is_opt (row_of (row_at 12 rows (i - 1)))) (some (i - 1)) (same_row sheet (fold_name (kept_in name)) any_opt is_opt rows (i - 1))
   unfolding same_row
-  turn h = let e : i ≡ suc (i - 1) = omega arith in ap (λ (j : ℕ). same_row sheet (fold_name (kept_in name)) anyOpt is_opt rows j) e
+  turn h = let e : i ≡ suc (i - 1) = omega arith in ap (λ (j : ℕ). same_row sheet (fold_name (kept_in name)) any_opt is_opt rows j) e
 
-  module _ {r : Bool} (h : 0 < i) (e : r ≡ row_fits sheet (fold_name (kept_in name)) anyOpt is_opt (row_of (row_at 12 rows (i - 1)))) where
-    pub search_hit : r ≡ true → same_of (At (i - 1)) ≡ same_row sheet (fold_name (kept_in name)) anyOpt is_opt rows n
+  module _ {r : Bool} (h : 0 < i) (e : r ≡ row_fits sheet (fold_name (kept_in name)) any_opt is_opt (row_of (row_at 12 rows (i - 1)))) where
+    pub search_hit : r ≡ true → same_of (At (i - 1)) ≡ same_row sheet (fold_name (kept_in name)) any_opt is_opt rows n
     unfolding same_of
     search_hit t = sym (turn h ∙ rw (← e, t)) ∙ v.is
 
-    pub search_miss : r ≡ false → Searching sheet rows n name anyOpt is_opt (i - 1)
+    pub search_miss : r ≡ false → Searching sheet rows n name any_opt is_opt (i - 1)
     search_miss t = record { most = omega (arith, v.most); is = sym (turn h ∙ rw (← e, t)) ∙ v.is }
 
-  pub search_end : i ≤ 0 → same_of Nothing ≡ same_row sheet (fold_name (kept_in name)) anyOpt is_opt rows n
+  pub search_end : i ≤ 0 → same_of Nothing ≡ same_row sheet (fold_name (kept_in name)) any_opt is_opt rows n
   unfolding same_of same_row
   search_end h = let e : i ≡ 0 = omega arith in rw e at v.is
 
@@ -195,23 +195,23 @@ named_part sheet a b name r h e = rw (part_slice a b sheet h) at e
 
 -- ---- the whole of work memory
 
-module _ (sheet w : List ℕ) (h : Held) (name : List ℕ) (anyOpt is_opt : Bool) where
+module _ (sheet w : List ℕ) (h : Held) (name : List ℕ) (any_opt is_opt : Bool) where
   table_rows : (k : Kind) → table_of k (state_in sheet w h) ≡ entries_in k sheet (rows_in k w) (pairs_in k w) (pairs_of k h) (count_of k h)
   unfolding table_of state_in state_of
   table_rows ingredient = refl
   table_rows cookware = refl
 
   pub same_found : (k : Kind) (r : Same) → EachRow (Fits k sheet) (rows_in k w) (count_of k h)
-      → same_of r ≡ same_row sheet (fold_name (kept_in name)) anyOpt is_opt (rows_in k w) (count_of k h) → SameFound k sheet w h name anyOpt is_opt r
+      → same_of r ≡ same_row sheet (fold_name (kept_in name)) any_opt is_opt (rows_in k w) (count_of k h) → SameFound k sheet w h name any_opt is_opt r
   unfolding same_name_of same_of
   same_found k r z e =
       record {
-        is = λ new en eo. ap (on_some (earlier_at k sheet w h)) e ∙ rows_search k sheet (rows_in k w) (pairs_in k w) (pairs_of k h) (fold_name (kept_in name)) anyOpt is_opt (count_of k h) z ∙ said new en eo;
-        below = λ i q. same_below sheet (fold_name (kept_in name)) anyOpt is_opt (rows_in k w) (count_of k h) i (sym e ∙ at i q);
+        is = λ new en eo. ap (on_some (earlier_at k sheet w h)) e ∙ rows_search k sheet (rows_in k w) (pairs_in k w) (pairs_of k h) (fold_name (kept_in name)) any_opt is_opt (count_of k h) z ∙ said new en eo;
+        below = λ i q. same_below sheet (fold_name (kept_in name)) any_opt is_opt (rows_in k w) (count_of k h) i (sym e ∙ at i q);
       }
     where
       said : (new : Entry) → new.name ≡ kept_in name → new.modifiers.opt ≡ is_opt
-          → same_name_in (fold_name (kept_in name)) anyOpt is_opt (entries_in k sheet (rows_in k w) (pairs_in k w) (pairs_of k h) (count_of k h)) ≡ same_name_of anyOpt new (table_of k (state_in sheet w h))
+          → same_name_in (fold_name (kept_in name)) any_opt is_opt (entries_in k sheet (rows_in k w) (pairs_in k w) (pairs_of k h) (count_of k h)) ≡ same_name_of any_opt new (table_of k (state_in sheet w h))
       said new en eo = rw (en, eo, table_rows k)
 
       at : (i : ℕ) → r ≡ At i → same_of r ≡ some i
@@ -225,11 +225,11 @@ module _ {w : List ℕ} {h : Held} (z : Sound w h) (sheet : List ℕ) where
       let l : length (take 6156 (drop 0 w)) ≡ 6156 = long_ingredients z in
       (omega (arith, z.room.ingredients), omega (arith, z.room.ingredients, l), names_inside n.ingredients)
 
-module _ (sheet w : List ℕ) (h : Held) (name : List ℕ) (anyOpt is_opt : Bool) where
+module _ (sheet w : List ℕ) (h : Held) (name : List ℕ) (any_opt is_opt : Bool) where
   pub ingredient_found : (r : Same) → AllFit sheet w h
-      → same_of r ≡ same_row sheet (fold_name (kept_in name)) anyOpt is_opt (take 6156 (drop 0 w)) h.counts.ingredients → SameFound ingredient sheet w h name anyOpt is_opt r
+      → same_of r ≡ same_row sheet (fold_name (kept_in name)) any_opt is_opt (take 6156 (drop 0 w)) h.counts.ingredients → SameFound ingredient sheet w h name any_opt is_opt r
   unfolding windows_of
-  ingredient_found r n e = same_found sheet w h name anyOpt is_opt ingredient r n.ingredients e
+  ingredient_found r n e = same_found sheet w h name any_opt is_opt ingredient r n.ingredients e
 
 module _ {w : List ℕ} {h : Held} (z : Sound w h) (sheet : List ℕ) where
   pub cookware_ready_lem : AllFit sheet w h
@@ -239,11 +239,11 @@ module _ {w : List ℕ} {h : Held} (z : Sound w h) (sheet : List ℕ) where
       let l : length (take 3084 (drop 6156 w)) ≡ 3084 = long_cookware z in
       (omega (arith, z.room.cookware), omega (arith, z.room.cookware, l), names_inside n.cookware)
 
-module _ (sheet w : List ℕ) (h : Held) (name : List ℕ) (anyOpt is_opt : Bool) where
+module _ (sheet w : List ℕ) (h : Held) (name : List ℕ) (any_opt is_opt : Bool) where
   pub cookware_found : (r : Same) → AllFit sheet w h
-      → same_of r ≡ same_row sheet (fold_name (kept_in name)) anyOpt is_opt (take 3084 (drop 6156 w)) h.counts.cookware → SameFound cookware sheet w h name anyOpt is_opt r
+      → same_of r ≡ same_row sheet (fold_name (kept_in name)) any_opt is_opt (take 3084 (drop 6156 w)) h.counts.cookware → SameFound cookware sheet w h name any_opt is_opt r
   unfolding windows_of
-  cookware_found r n e = same_found sheet w h name anyOpt is_opt cookware r n.cookware e
+  cookware_found r n e = same_found sheet w h name any_opt is_opt cookware r n.cookware e
 
 -- ---- the name of a new row
 

@@ -80,7 +80,7 @@ module _ (sheet : List ℕ) (from to : ℕ) (h : from ≤ to) (g : to ≤ length
         least = omega arith;
         order = omega (arith, own.order);
         most = part_most;
-        is = λ inStep c e. part_kept ∙ rw e;
+        is = λ in_step c e. part_kept ∙ rw e;
         field = part_field;
       }
 
@@ -96,6 +96,6 @@ module _ (sheet : List ℕ) (from to : ℕ) (h : from ≤ to) (g : to ≤ length
         least = omega arith;
         order = omega (arith, y.most, length-slice (from + p.at) (from + p.end) sheet k);
         most = part_most;
-        is = λ inStep c e. ap kept_in (sym (drop-drop q.start (from + p.at) (take (from + p.end) sheet))) ∙ y.name ∙ rw (part_kept, e);
+        is = λ in_step c e. ap kept_in (sym (drop-drop q.start (from + p.at) (take (from + p.end) sheet))) ∙ y.name ∙ rw (part_kept, e);
         field = λ w. rw (drop-drop q.start (from + p.at) (take (from + p.end) sheet)) at (cut_back_lem (slice (from + p.at) (from + p.end) sheet) q.start y.name_cut (part_field w));
       }

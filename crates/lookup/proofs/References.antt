@@ -60,22 +60,22 @@ some_on f (some a) = refl
 
 -- ---- `treat_as_reference`
 
-module _ (define : Define) (duplicate : Duplicate) (ref isFound : Bool) where
-  pub treat_ref : ref ≡ true → TreatedAs define duplicate ref isFound true
+module _ (define : Define) (duplicate : Duplicate) (ref is_found : Bool) where
+  pub treat_ref : ref ≡ true → TreatedAs define duplicate ref is_found true
   unfolding treat_as_reference is_explicit
   treat_ref t = record { is = λ e same er ef. rw (er, t) }
 
   module _ (n : ref ≡ false) {s : Bool} (es : s ≡ is_steps (define_of define)) where
-    pub treat_steps : s ≡ true → TreatedAs define duplicate ref isFound true
+    pub treat_steps : s ≡ true → TreatedAs define duplicate ref is_found true
     unfolding treat_as_reference is_explicit
     treat_steps t = record { is = λ e same er ef. rw (er, n, ← es, t) }
 
     module _ (f : s ≡ false) {q : Bool} (eq : q ≡ is_reference (duplicate_of duplicate)) where
-      pub treat_found : q ≡ true → TreatedAs define duplicate ref isFound isFound
+      pub treat_found : q ≡ true → TreatedAs define duplicate ref is_found is_found
       unfolding treat_as_reference is_explicit
       treat_found t = record { is = λ e same er ef. rw (er, n, ← es, f, ← eq, t, ef) }
 
-      pub treat_not : q ≡ false → TreatedAs define duplicate ref isFound false
+      pub treat_not : q ≡ false → TreatedAs define duplicate ref is_found false
       unfolding treat_as_reference is_explicit
       treat_not t = record { is = λ e same er ef. rw (er, n, ← es, f, ← eq, t) }
 
@@ -86,7 +86,7 @@ module _ (define : Define) (duplicate : Duplicate) (ref new : Bool) (same : Same
   unfolding refers_to same_of on_some
   refers_new t = record { is = λ e f m. rw (m.is_new, t) }
 
-  module _ (n : new ≡ false) {isFound : Bool} (ef : isFound ≡ is_some (same_of same)) {r : Bool} (z : TreatedAs define duplicate ref isFound r) where
+  module _ (n : new ≡ false) {is_found : Bool} (ef : is_found ≡ is_some (same_of same)) {r : Bool} (z : TreatedAs define duplicate ref is_found r) where
     first : (e : Entry) (o : Option Earlier) → Marked e ref new → refers_to (modes_of define duplicate) e o ≡ pick (treat_as_reference (modes_of define duplicate) e o) o none
     unfolding refers_to
     first e o m = rw (m.is_new, n)

@@ -37,9 +37,9 @@ pub record NamesInside (sheet rows : List ℕ) (n : ℕ) : Type 0 where
 
 -- ---- the search over rows, from the newest back
 
-module _ (sheet folded : List ℕ) (anyOpt is_opt : Bool) where
+module _ (sheet folded : List ℕ) (any_opt is_opt : Bool) where
   unfoldable pub row_fits : Row → Bool
-  row_fits r = not r.reference && (anyOpt || eq_bool r.opt is_opt) && eq_list (fold_name (kept_in (name_part sheet r))) folded
+  row_fits r = not r.reference && (any_opt || eq_bool r.opt is_opt) && eq_list (fold_name (kept_in (name_part sheet r))) folded
 
   module _ (rows : List ℕ) where
     unfoldable pub same_row : ℕ → Option ℕ
@@ -68,9 +68,9 @@ abbrev pub earlier_at : Kind → List ℕ → List ℕ → Held → ℕ → Earl
 earlier_at k sheet w h i = earlier_in k sheet (rows_in k w) (pairs_in k w) (pairs_of k h) i
 
 -- r is what the same-name search finds in the table of a kind for a new entry of that name
-pub record SameFound (k : Kind) (sheet w : List ℕ) (h : Held) (name : List ℕ) (anyOpt is_opt : Bool) (r : Same) : Type 0 where
+pub record SameFound (k : Kind) (sheet w : List ℕ) (h : Held) (name : List ℕ) (any_opt is_opt : Bool) (r : Same) : Type 0 where
   pub is : (new : Entry) → new.name ≡ kept_in name → new.modifiers.opt ≡ is_opt
-      → on_some (earlier_at k sheet w h) (same_of r) ≡ same_name_of anyOpt new (table_of k (state_in sheet w h))
+      → on_some (earlier_at k sheet w h) (same_of r) ≡ same_name_of any_opt new (table_of k (state_in sheet w h))
   pub below : (i : ℕ) → r ≡ At i → i < count_of k h
 
 -- ---- the name of a new component
@@ -90,5 +90,5 @@ pub record NewName (k : Kind) (sheet : List ℕ) (from to : ℕ) (p : NamePart) 
   pub least : from ≤ p.at
   pub order : p.at ≤ p.end
   pub most : p.end ≤ to
-  pub is : (inStep : Bool) (c : Component) → c.name.content ≡ content_in (slice from to sheet) → kept_in (slice p.at p.end sheet) ≡ (entry_of k inStep c).name
+  pub is : (in_step : Bool) (c : Component) → c.name.content ≡ content_in (slice from to sheet) → kept_in (slice p.at p.end sheet) ≡ (entry_of k in_step c).name
   pub field : Field (slice from to sheet) → Field (slice p.at p.end sheet)

@@ -20,8 +20,8 @@ pub record Marked (e : Entry) (ref new : Bool) : Type 0 where
   pub is_ref : e.modifiers.ref ≡ ref
   pub is_new : e.modifiers.new ≡ new
 
-pub record TreatedAs (define : Define) (duplicate : Duplicate) (ref isFound r : Bool) : Type 0 where
-  pub is : (e : Entry) (same : Option Earlier) → e.modifiers.ref ≡ ref → is_some same ≡ isFound → r ≡ treat_as_reference (modes_of define duplicate) e same
+pub record TreatedAs (define : Define) (duplicate : Duplicate) (ref is_found r : Bool) : Type 0 where
+  pub is : (e : Entry) (same : Option Earlier) → e.modifiers.ref ≡ ref → is_some same ≡ is_found → r ≡ treat_as_reference (modes_of define duplicate) e same
 
 -- r is what an entry refers to where the search found `same`; f gives the entries of indices
 pub record Refers (define : Define) (duplicate : Duplicate) (ref new : Bool) (same r : Same) : Type 0 where

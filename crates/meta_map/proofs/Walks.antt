@@ -11,7 +11,7 @@ use lib.Dec.{ltb}
 use lib.ListN.{length, take, drop}
 use Rattle.rules.specs.Basic.{lf, is_some, all}
 use Rattle.rules.specs.Sheet.{Lines, lines}
-use Rattle.rules.specs.Words.{define_key, duplicateKey, DefineMode, DuplicateMode}
+use Rattle.rules.specs.Words.{define_key, duplicate_key, DefineMode, DuplicateMode}
 use Rattle.rules.specs.Event.{Text, Between, meta_event, section_event, start_event, Event, between, inside, parser_event, spans_of}
 use Rattle.rules.specs.Units.{NamedUnit}
 use Rattle.rules.specs.Read.{parse_line}
@@ -53,7 +53,7 @@ duplicate_map k v (some m) st = refl
 key_map : (key : Key) (k v : Text) (st : State) → (on_key key k v st).metadata.map ≡ map_key key k v st.metadata.map
 unfolding on_key store_meta set_metadata report map_key
 key_map (config define_key) k v st = define_map k v _ st
-key_map (config duplicateKey) k v st = duplicate_map k v _ st
+key_map (config duplicate_key) k v st = duplicate_map k v _ st
 key_map unknown_config k v st = refl
 key_map ordinary k v st = refl
 

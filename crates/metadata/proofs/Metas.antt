@@ -64,59 +64,59 @@ define_all : (o : Option words.DefineMode) → define.All ≡ define_as o → o 
 unfolding define_as define_of
 define_all none e = let z : ◌≡◌ {A = ℕ} 0 1 = cc in absurd (omega arith)
 define_all (some words.mode_all) e = refl
-define_all (some words.modeComponents) e = let z : ◌≡◌ {A = ℕ} 0 1 = cc in absurd (omega arith)
-define_all (some words.modeSteps) e = let z : ◌≡◌ {A = ℕ} 0 1 = cc in absurd (omega arith)
-define_all (some words.modeText) e = let z : ◌≡◌ {A = ℕ} 0 1 = cc in absurd (omega arith)
+define_all (some words.mode_components) e = let z : ◌≡◌ {A = ℕ} 0 1 = cc in absurd (omega arith)
+define_all (some words.mode_steps) e = let z : ◌≡◌ {A = ℕ} 0 1 = cc in absurd (omega arith)
+define_all (some words.mode_text) e = let z : ◌≡◌ {A = ℕ} 0 1 = cc in absurd (omega arith)
 
 define_components : (o : Option words.DefineMode) → define.Components ≡ define_as o → o ≡ some (define_of Components)
 unfolding define_as define_of
 define_components none e = let z : ◌≡◌ {A = ℕ} 0 1 = cc in absurd (omega arith)
 define_components (some words.mode_all) e = let z : ◌≡◌ {A = ℕ} 0 1 = cc in absurd (omega arith)
-define_components (some words.modeComponents) e = refl
-define_components (some words.modeSteps) e = let z : ◌≡◌ {A = ℕ} 0 1 = cc in absurd (omega arith)
-define_components (some words.modeText) e = let z : ◌≡◌ {A = ℕ} 0 1 = cc in absurd (omega arith)
+define_components (some words.mode_components) e = refl
+define_components (some words.mode_steps) e = let z : ◌≡◌ {A = ℕ} 0 1 = cc in absurd (omega arith)
+define_components (some words.mode_text) e = let z : ◌≡◌ {A = ℕ} 0 1 = cc in absurd (omega arith)
 
 define_steps : (o : Option words.DefineMode) → define.Steps ≡ define_as o → o ≡ some (define_of Steps)
 unfolding define_as define_of
 define_steps none e = let z : ◌≡◌ {A = ℕ} 0 1 = cc in absurd (omega arith)
 define_steps (some words.mode_all) e = let z : ◌≡◌ {A = ℕ} 0 1 = cc in absurd (omega arith)
-define_steps (some words.modeComponents) e = let z : ◌≡◌ {A = ℕ} 0 1 = cc in absurd (omega arith)
-define_steps (some words.modeSteps) e = refl
-define_steps (some words.modeText) e = let z : ◌≡◌ {A = ℕ} 0 1 = cc in absurd (omega arith)
+define_steps (some words.mode_components) e = let z : ◌≡◌ {A = ℕ} 0 1 = cc in absurd (omega arith)
+define_steps (some words.mode_steps) e = refl
+define_steps (some words.mode_text) e = let z : ◌≡◌ {A = ℕ} 0 1 = cc in absurd (omega arith)
 
 define_text : (o : Option words.DefineMode) → define.Text ≡ define_as o → o ≡ some (define_of Text)
 unfolding define_as define_of
 define_text none e = let z : ◌≡◌ {A = ℕ} 0 1 = cc in absurd (omega arith)
 define_text (some words.mode_all) e = let z : ◌≡◌ {A = ℕ} 0 1 = cc in absurd (omega arith)
-define_text (some words.modeComponents) e = let z : ◌≡◌ {A = ℕ} 0 1 = cc in absurd (omega arith)
-define_text (some words.modeSteps) e = let z : ◌≡◌ {A = ℕ} 0 1 = cc in absurd (omega arith)
-define_text (some words.modeText) e = refl
+define_text (some words.mode_components) e = let z : ◌≡◌ {A = ℕ} 0 1 = cc in absurd (omega arith)
+define_text (some words.mode_steps) e = let z : ◌≡◌ {A = ℕ} 0 1 = cc in absurd (omega arith)
+define_text (some words.mode_text) e = refl
 
 define_none : (o : Option words.DefineMode) → define.Unknown ≡ define_as o → o ≡ none
 unfolding define_as
 define_none none e = refl
 define_none (some words.mode_all) e = let z : ◌≡◌ {A = ℕ} 0 1 = cc in absurd (omega arith)
-define_none (some words.modeComponents) e = let z : ◌≡◌ {A = ℕ} 0 1 = cc in absurd (omega arith)
-define_none (some words.modeSteps) e = let z : ◌≡◌ {A = ℕ} 0 1 = cc in absurd (omega arith)
-define_none (some words.modeText) e = let z : ◌≡◌ {A = ℕ} 0 1 = cc in absurd (omega arith)
+define_none (some words.mode_components) e = let z : ◌≡◌ {A = ℕ} 0 1 = cc in absurd (omega arith)
+define_none (some words.mode_steps) e = let z : ◌≡◌ {A = ℕ} 0 1 = cc in absurd (omega arith)
+define_none (some words.mode_text) e = let z : ◌≡◌ {A = ℕ} 0 1 = cc in absurd (omega arith)
 
 duplicate_new_lem : (o : Option words.DuplicateMode) → duplicate.New ≡ duplicate_as o → o ≡ some (duplicate_of New)
 unfolding duplicate_as duplicate_of
 duplicate_new_lem none e = let z : ◌≡◌ {A = ℕ} 0 1 = cc in absurd (omega arith)
 duplicate_new_lem (some words.duplicate_new) e = refl
-duplicate_new_lem (some words.duplicateReference) e = let z : ◌≡◌ {A = ℕ} 0 1 = cc in absurd (omega arith)
+duplicate_new_lem (some words.duplicate_reference) e = let z : ◌≡◌ {A = ℕ} 0 1 = cc in absurd (omega arith)
 
-duplicate_reference : (o : Option words.DuplicateMode) → duplicate.Reference ≡ duplicate_as o → o ≡ some (duplicate_of Reference)
+duplicate_reference_lem : (o : Option words.DuplicateMode) → duplicate.Reference ≡ duplicate_as o → o ≡ some (duplicate_of Reference)
 unfolding duplicate_as duplicate_of
-duplicate_reference none e = let z : ◌≡◌ {A = ℕ} 0 1 = cc in absurd (omega arith)
-duplicate_reference (some words.duplicate_new) e = let z : ◌≡◌ {A = ℕ} 0 1 = cc in absurd (omega arith)
-duplicate_reference (some words.duplicateReference) e = refl
+duplicate_reference_lem none e = let z : ◌≡◌ {A = ℕ} 0 1 = cc in absurd (omega arith)
+duplicate_reference_lem (some words.duplicate_new) e = let z : ◌≡◌ {A = ℕ} 0 1 = cc in absurd (omega arith)
+duplicate_reference_lem (some words.duplicate_reference) e = refl
 
 duplicate_none : (o : Option words.DuplicateMode) → duplicate.Unknown ≡ duplicate_as o → o ≡ none
 unfolding duplicate_as
 duplicate_none none e = refl
 duplicate_none (some words.duplicate_new) e = let z : ◌≡◌ {A = ℕ} 0 1 = cc in absurd (omega arith)
-duplicate_none (some words.duplicateReference) e = let z : ◌≡◌ {A = ℕ} 0 1 = cc in absurd (omega arith)
+duplicate_none (some words.duplicate_reference) e = let z : ◌≡◌ {A = ℕ} 0 1 = cc in absurd (omega arith)
 
 module _ {w : List ℕ} {h r : Held} {key value : Span} (z : Sound w h) where
   define_set : {m : DefineWord} (d : Define) → ((o : Option words.DefineMode) → m ≡ define_as o → o ≡ some (define_of d)) → r ≡ with_define d h → DefineSet key value m w h w r
@@ -141,7 +141,7 @@ module _ {w : List ℕ} {h r : Held} {key value : Span} (z : Sound w h) where
   set_new p q = rw p (duplicate_set New duplicate_new_lem q)
 
   pub set_reference : {m : DuplicateWord} → m ≡ duplicate.Reference → r ≡ with_duplicate Reference h → DuplicateSet key value m w h w r
-  set_reference p q = rw p (duplicate_set Reference duplicate_reference q)
+  set_reference p q = rw p (duplicate_set Reference duplicate_reference_lem q)
 
 -- ---- findings
 

@@ -4,7 +4,7 @@ use mathlib.Core.Path.{◌≡◌, refl, sym, ap, ◌∙◌}
 use mathlib.Core.List.{List}
 use borrow.Author.Tests.{eq-eqb, ne_eqb}
 use Rattle.rules.specs.Basic.{pick, word_in}
-use Rattle.rules.specs.Words.{define_key, duplicateKey, define_words, duplicate_words}
+use Rattle.rules.specs.Words.{define_key, duplicate_key, define_words, duplicate_words}
 use Rattle.rules.specs.Event as rules
 use Rattle.rules.specs.Text.{text_trimmed, text_outer_trimmed}
 use Rattle.rules.specs.Utf8.{chars}
@@ -67,7 +67,7 @@ module _ {flags : ℕ} {line w₀ w : List ℕ} {h r : Held} {key value : TextVi
 
   pub meta_duplicate : TextWithin line value → (vb : List ℕ) → vb ≡ part_of line value.content → {m : DuplicateWord} → x ≡ Duplicate → m ≡ duplicate_as (word_in (text_outer_trimmed (contents.content_in vb)) duplicate_words) → DuplicateSet key.span value.span m w₀ h w r → MetaDone flags line key value w₀ h w r
   unfolding key_in on_key
-  meta_duplicate vz vb vp e q p = record { went = went_as (p.by (text_in line key) (text_in line value) (word_in (value_text (text_in line value)) duplicate_words) (text_span line key) (text_span line value) (q ∙ ap (λ (cs : List ℕ). duplicate_as (word_in cs duplicate_words)) (value_at_lem line value vb vz vp))) (meta_is flags (text_in line key) (text_in line value) (modes.config duplicateKey) (key_at_lem flags line key x Duplicate kb on kz kp g e)) }
+  meta_duplicate vz vb vp e q p = record { went = went_as (p.by (text_in line key) (text_in line value) (word_in (value_text (text_in line value)) duplicate_words) (text_span line key) (text_span line value) (q ∙ ap (λ (cs : List ℕ). duplicate_as (word_in cs duplicate_words)) (value_at_lem line value vb vz vp))) (meta_is flags (text_in line key) (text_in line value) (modes.config duplicate_key) (key_at_lem flags line key x Duplicate kb on kz kp g e)) }
 
   pub meta_unknown : x ≡ Unknown → UnknownNoted key.span w₀ h w r → MetaDone flags line key value w₀ h w r
   unfolding key_in

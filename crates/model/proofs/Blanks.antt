@@ -7,7 +7,7 @@ use mathlib.Core.Option.{Option, none, some}
 use lib.ListN.{length, length-replicate, length-reverse_aux}
 use Rattle.rules.specs.Basic.{pick, each, is_empty, is_some, any, when}
 use Rattle.rules.specs.Unicode.{is_alphanumeric}
-use Rattle.rules.specs.Words.{step_kind, textKind, define_key, duplicateKey, DefineMode, DuplicateMode, IntermediateTarget, target_step, targetSection}
+use Rattle.rules.specs.Words.{step_kind, text_kind, define_key, duplicate_key, DefineMode, DuplicateMode, IntermediateTarget, target_step, target_section}
 use Rattle.rules.specs.Event.{Span, Text, Quantity, Component, Intermediate, ComponentEvent, ingredient_event, cookware_event, timer_event, Between, meta_event, section_event, start_event, Inside, end_event, text_event, component_event, component_span, Event, between, inside, parser_event}
 use Rattle.rules.specs.Units.{NamedUnit}
 use Rattle.rules.specs.Inline.{Piece}
@@ -71,7 +71,7 @@ step_indices_lem (text_block t ∷ bs) = step_indices_lem bs
 candidates_blank : (t : IntermediateTarget) (bs : List Block) (n : ℕ) → candidates t (each blank_block bs) n ≡ candidates t bs n
 unfolding candidates
 candidates_blank target_step bs n = step_indices_lem bs
-candidates_blank targetSection bs n = refl
+candidates_blank target_section bs n = refl
 
 pub resolve_blank : (i : Intermediate) (bs : List Block) (n : ℕ) → resolve_intermediate_ref i (each blank_block bs) n ≡ resolve_intermediate_ref i bs n
 unfolding resolve_intermediate_ref
@@ -253,7 +253,7 @@ module _ (units : List NamedUnit) (flags : ℕ) where
   in_step : (e : Inside) (is js : List Item) (st : State) → blank_step (in_step_block units flags e is st) ≡ blank_step (in_step_block units flags e js (blank st))
   unfolding in_step_block
   in_step (end_event step_kind) is js st = next_like _ _ (close_step_lem is js st)
-  in_step (end_event textKind) is js st = refl
+  in_step (end_event text_kind) is js st = refl
   in_step (text_event t) is js st = next_like _ _ (text_in_step_lem t is js st)
   in_step (component_event c) is js st = on_component_lem c is js st
 
@@ -262,7 +262,7 @@ module _ (units : List NamedUnit) (flags : ℕ) where
 in_text : (e : Inside) (ts us : List (List ℕ)) (st : State) → blank_step (in_text_block e ts st) ≡ blank_step (in_text_block e us (blank st))
 unfolding in_text_block
 in_text (end_event step_kind) ts us st = refl
-in_text (end_event textKind) ts us st = next_like _ _ (close_text_lem ts us st)
+in_text (end_event text_kind) ts us st = next_like _ _ (close_text_lem ts us st)
 in_text (text_event t) ts us st = next_like _ _ (text_block_lem (t.content ∷ ts) (t.content ∷ us) st)
 in_text (component_event c) ts us st = refl
 
@@ -296,7 +296,7 @@ on_duplicate_lem k v (some m) st = set_modes_lem _ st
 on_key_lem : (key : Key) (k v : Text) (st : State) → blank (on_key key k v st) ≡ blank (on_key key k v (blank st))
 unfolding on_key
 on_key_lem (config define_key) k v st = on_define_lem k v _ st
-on_key_lem (config duplicateKey) k v st = on_duplicate_lem k v _ st
+on_key_lem (config duplicate_key) k v st = on_duplicate_lem k v _ st
 on_key_lem unknown_config k v st = report_like _ _ _ (store_meta_lem _ _ _ _ st (old_count st))
 on_key_lem ordinary k v st = store_meta_lem _ _ _ _ st (ap suc (old_count st))
 

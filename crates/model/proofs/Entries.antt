@@ -65,15 +65,15 @@ kind_cookware line c e = rw e
 
 -- ---- what the pass makes of a line is what its row stands for
 
-pub entry_made : (k : Kind) (sheet : List ℕ) (r : Row) (by : List ℕ) (c : Component) (inStep : Bool) → component_of_line k (slice r.line_at r.line_end sheet) ≡ c
-    → entry_as k sheet r by ≡ set_relation (relation_in k r.relation by) (set_modifiers (modifiers_in r) (entry_of k inStep c))
+pub entry_made : (k : Kind) (sheet : List ℕ) (r : Row) (by : List ℕ) (c : Component) (in_step : Bool) → component_of_line k (slice r.line_at r.line_end sheet) ≡ c
+    → entry_as k sheet r by ≡ set_relation (relation_in k r.relation by) (set_modifiers (modifiers_in r) (entry_of k in_step c))
 unfolding entry_as set_relation set_modifiers entry_of entry_with
-entry_made k sheet r by c inStep e = rw e
+entry_made k sheet r by c in_step e = rw e
 
 -- a new entry has its line's modifiers and no referrers
-pub entry_new : (k : Kind) (inStep : Bool) (c : Component) → set_relation (definition inStep []) (set_modifiers c.modifiers (entry_of k inStep c)) ≡ entry_of k inStep c
+pub entry_new : (k : Kind) (in_step : Bool) (c : Component) → set_relation (definition in_step []) (set_modifiers c.modifiers (entry_of k in_step c)) ≡ entry_of k in_step c
 unfolding set_relation set_modifiers entry_of entry_with
-entry_new k inStep c = refl
+entry_new k in_step c = refl
 
 -- ---- a referrer that is stored after its own row
 

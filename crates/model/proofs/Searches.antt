@@ -13,7 +13,7 @@ use borrow.Author.Tests.{eq-eqb, ne_eqb}
 use Rattle.rules.specs.Basic.{pick}
 use Rattle.rules.specs.Reference.{referrers}
 use Rattle.rules.specs.Model.{definition, Block, step_block, text_block}
-use Rattle.rules.specs.Words.{target_step, targetSection}
+use Rattle.rules.specs.Words.{target_step, target_section}
 use Rattle.rules.specs.Event.{Intermediate}
 use Rattle.rules.specs.Checks.{step_indices, section_indices, candidates, nth, resolve_intermediate_ref}
 use Rattle.model.specs.Rows.{referrers_in, referrers_from, block_of, blocks_in, steps_from}
@@ -97,9 +97,9 @@ module _ (pairs : List ℕ) (d : ℕ) where
   referrers_down (suc n) = rw (referrers_down n)
 
   -- the referrers of a definition in the order in which they came
-  pub referrers_oldest : (n : ℕ) (inStep : Bool) → referrers (definition inStep (referrers_in pairs d n)) ≡ referrers_from pairs d 0 n
+  pub referrers_oldest : (n : ℕ) (in_step : Bool) → referrers (definition in_step (referrers_in pairs d n)) ≡ referrers_from pairs d 0 n
   unfolding referrers
-  referrers_oldest n inStep = ap reverse (referrers_down n) ∙ oldest_first _ _ n ∙ sym (referrers_up 0 n)
+  referrers_oldest n in_step = ap reverse (referrers_down n) ∙ oldest_first _ _ n ∙ sym (referrers_up 0 n)
 
 -- ---- steps, newest first
 
@@ -312,6 +312,6 @@ module _ (i : Intermediate) (blocks : List Block) (sections : ℕ) {r : Found} w
   unfolding resolve_intermediate_ref candidates
   step_resolved t z = rw t z.is
 
-  pub section_resolved : i.target ≡ targetSection → TargetFound i.relative i.value.size (section_indices sections) r → found_of r ≡ resolve_intermediate_ref i blocks sections
+  pub section_resolved : i.target ≡ target_section → TargetFound i.relative i.value.size (section_indices sections) r → found_of r ≡ resolve_intermediate_ref i blocks sections
   unfolding resolve_intermediate_ref candidates
   section_resolved t z = rw t z.is

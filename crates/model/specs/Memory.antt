@@ -2,7 +2,7 @@
 use Rattle.std.specs.Prelude.{ℕ, ◌*◌, ◌≤◌, ◌<◌, List, [], false, length, get_or, take, drop, replicate}
 use Rattle.std.proofs.Math.Option.{none, some}
 use Rattle.rules.specs.Basic.{pick}
-use Rattle.rules.specs.Words.{DefineMode, mode_all, modeComponents, modeSteps, modeText, DuplicateMode, duplicate_new, duplicateReference}
+use Rattle.rules.specs.Words.{DefineMode, mode_all, mode_components, mode_steps, mode_text, DuplicateMode, duplicate_new, duplicate_reference}
 use Rattle.rules.specs.Model.{ingredient, cookware}
 use Rattle.rules.specs.State as state
 use Rattle.rules.specs.State.{State, no_block, step_open, text_open, text_mode_open}
@@ -41,13 +41,13 @@ windows_of w =
 
 unfoldable pub define_of : Define → DefineMode
 define_of All = mode_all
-define_of Components = modeComponents
-define_of Steps = modeSteps
-define_of Text = modeText
+define_of Components = mode_components
+define_of Steps = mode_steps
+define_of Text = mode_text
 
 unfoldable pub duplicate_of : Duplicate → DuplicateMode
 duplicate_of New = duplicate_new
-duplicate_of Reference = duplicateReference
+duplicate_of Reference = duplicate_reference
 
 unfoldable pub open_of : Open → state.Open
 open_of Nothing = no_block

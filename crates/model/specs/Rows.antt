@@ -7,7 +7,7 @@ use Rattle.rules.specs.Words.{severe, mild}
 use Rattle.rules.specs.Event.{Span, Modifiers, Component, Event, inside, between, parser_event, Inside, component_event, text_event, end_event, ComponentEvent, ingredient_event, cookware_event, timer_event}
 use Rattle.rules.specs.Read.{no_modifiers, parse_line}
 use Rattle.rules.specs.Finding.{Finding, diag, parsed}
-use Rattle.rules.specs.Model.{Kind, ingredient, cookware, toStep, toSection, target_of, definition, reference, Entry, entry_of, set_relation, set_modifiers, Block, step_block, text_block}
+use Rattle.rules.specs.Model.{Kind, ingredient, cookware, to_step, to_section, target_of, definition, reference, Entry, entry_of, set_relation, set_modifiers, Block, step_block, text_block}
 use Rattle.rules.specs.Model as model
 use Rattle.model.specs.Blank.{blank_span}
 use Rattle.model.specs.declared.Target.TheVariants.{Ingredient, Step, Section}
@@ -99,10 +99,10 @@ modifiers_in r = record { recipe = r.recipe; ref = r.reference; hidden = r.hidde
 
 -- a relation; a definition has its referrers from elsewhere
 unfoldable pub relation_as : Kind → Relation → Bool → ℕ → List ℕ → model.Relation
-relation_as k Definition inStep index by = definition inStep by
-relation_as k (Reference Ingredient) inStep index by = reference (target_of k) index
-relation_as k (Reference Step) inStep index by = reference toStep index
-relation_as k (Reference Section) inStep index by = reference toSection index
+relation_as k Definition in_step index by = definition in_step by
+relation_as k (Reference Ingredient) in_step index by = reference (target_of k) index
+relation_as k (Reference Step) in_step index by = reference to_step index
+relation_as k (Reference Section) in_step index by = reference to_section index
 
 unfoldable pub relation_in : Kind → RelationRecord → List ℕ → model.Relation
 relation_in k r by = relation_as k r.relation r.in_step r.index by

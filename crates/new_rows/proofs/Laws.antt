@@ -44,23 +44,23 @@ row_made a e n o m relation = record { is_line = refl; is_end = refl; is_name = 
 
 module _ (k : Kind) (sheet : List ℕ) {a e n o : ℕ} {m : Modifiers} {relation : RelationRecord} {r : Row} (x : RowMade a e n o m relation r) (c : rules.Component) (ec : component_of_line k (slice a e sheet) ≡ c) where
   -- a definition
-  pub row_definition : (inStep : Bool) → c.modifiers ≡ modifiers_in m → relation.relation ≡ Definition → relation.in_step ≡ inStep → entry_as k sheet r [] ≡ entry_of k inStep c
-  row_definition inStep em er ei = x.is k sheet ∙ same
+  pub row_definition : (in_step : Bool) → c.modifiers ≡ modifiers_in m → relation.relation ≡ Definition → relation.in_step ≡ in_step → entry_as k sheet r [] ≡ entry_of k in_step c
+  row_definition in_step em er ei = x.is k sheet ∙ same
     where
-      same : set_relation (relation_in k relation []) (set_modifiers (modifiers_in m) (entry_of k true (component_of_line k (slice a e sheet)))) ≡ entry_of k inStep c
+      same : set_relation (relation_in k relation []) (set_modifiers (modifiers_in m) (entry_of k true (component_of_line k (slice a e sheet)))) ≡ entry_of k in_step c
       same = unfold set_relation set_modifiers relation_in relation_as entry_of entry_with in rw (ec, ← em, er, ei)
 
   -- a reference by name to d
-  pub row_referring : (inStep : Bool) (d : Earlier) → modifiers_in m ≡ with_ref (either c.modifiers (both d.entry.modifiers (inherits k))) → relation.relation ≡ Reference Ingredient → relation.index ≡ d.index
-      → entry_as k sheet r [] ≡ as_referring k (some d) (entry_of k inStep c)
-  row_referring inStep d em er ei = x.is k sheet ∙ same
+  pub row_referring : (in_step : Bool) (d : Earlier) → modifiers_in m ≡ with_ref (either c.modifiers (both d.entry.modifiers (inherits k))) → relation.relation ≡ Reference Ingredient → relation.index ≡ d.index
+      → entry_as k sheet r [] ≡ as_referring k (some d) (entry_of k in_step c)
+  row_referring in_step d em er ei = x.is k sheet ∙ same
     where
-      same : set_relation (relation_in k relation []) (set_modifiers (modifiers_in m) (entry_of k true (component_of_line k (slice a e sheet)))) ≡ as_referring k (some d) (entry_of k inStep c)
+      same : set_relation (relation_in k relation []) (set_modifiers (modifiers_in m) (entry_of k true (component_of_line k (slice a e sheet)))) ≡ as_referring k (some d) (entry_of k in_step c)
       same = unfold set_relation set_modifiers relation_in relation_as entry_of entry_with as_referring in rw (ec, em, er, ei)
 
   -- any other relation
-  pub row_related : (inStep : Bool) (t : Relation) → c.modifiers ≡ modifiers_in m → relation_in k relation [] ≡ t → entry_as k sheet r [] ≡ set_relation t (entry_of k inStep c)
-  row_related inStep t em er = x.is k sheet ∙ same
+  pub row_related : (in_step : Bool) (t : Relation) → c.modifiers ≡ modifiers_in m → relation_in k relation [] ≡ t → entry_as k sheet r [] ≡ set_relation t (entry_of k in_step c)
+  row_related in_step t em er = x.is k sheet ∙ same
     where
-      same : set_relation (relation_in k relation []) (set_modifiers (modifiers_in m) (entry_of k true (component_of_line k (slice a e sheet)))) ≡ set_relation t (entry_of k inStep c)
+      same : set_relation (relation_in k relation []) (set_modifiers (modifiers_in m) (entry_of k true (component_of_line k (slice a e sheet)))) ≡ set_relation t (entry_of k in_step c)
       same = unfold set_relation set_modifiers entry_of entry_with in rw (ec, ← em, er)

@@ -9,10 +9,10 @@ use Rattle.model.specs.declared.Row.{Row}
 use Rattle.model.specs.declared.RelationRecord.{RelationRecord}
 
 -- r points at the line and the name, and stands for the line's component with the modifiers and the relation
-pub record RowMade (line_at lineEnd name_at name_end : ℕ) (m : Modifiers) (relation : RelationRecord) (r : Row) : Type 0 where
+pub record RowMade (line_at line_end name_at name_end : ℕ) (m : Modifiers) (relation : RelationRecord) (r : Row) : Type 0 where
   pub is_line : r.line_at ≡ line_at
-  pub is_end : r.line_end ≡ lineEnd
+  pub is_end : r.line_end ≡ line_end
   pub is_name : r.name_at ≡ name_at
   pub is_name_end : r.name_end ≡ name_end
   pub is : (k : Kind) (sheet : List ℕ)
-      → entry_as k sheet r [] ≡ set_relation (relation_in k relation []) (set_modifiers (modifiers_in m) (entry_of k true (component_of_line k (slice line_at lineEnd sheet))))
+      → entry_as k sheet r [] ≡ set_relation (relation_in k relation []) (set_modifiers (modifiers_in m) (entry_of k true (component_of_line k (slice line_at line_end sheet))))

@@ -11,4 +11,4 @@ letters m = when m.recipe 64 ++ when m.ref 38 ++ when m.hidden 45 ++ when m.opt 
 
 -- whether a quantity's value is scalable
 unfoldable pub scalable : Bool → ValueKind → Bool → Bool
-scalable ofIngredient kind lock = ofIngredient && not (is_textual kind) && not lock
+scalable of_ingredient kind lock = of_ingredient && not (is_textual kind) && not lock

@@ -6,7 +6,7 @@ use mathlib.Core.Bool.{Bool, true, false}
 use mathlib.Core.Option.{Option, none, some}
 use lib.ListN.{length}
 use Rattle.rules.specs.Basic.{pick, word_in}
-use Rattle.rules.specs.Words.{DefineMode, define_key, duplicateKey, define_words}
+use Rattle.rules.specs.Words.{DefineMode, define_key, duplicate_key, define_words}
 use Rattle.rules.specs.Event as rules
 use Rattle.rules.specs.Units.{NamedUnit}
 use Rattle.rules.specs.Modes as modes
@@ -194,7 +194,7 @@ key_adds_lem : (x : modes.Key) (o : Option DefineMode) (k v : rules.Text) (f : F
 unfolding key_adds meta_adds key_meta define_meta
 key_adds_lem (config define_key) none k v f = refl
 key_adds_lem (config define_key) (some m) k v f = refl
-key_adds_lem (config duplicateKey) o k v f = refl
+key_adds_lem (config duplicate_key) o k v f = refl
 key_adds_lem unknown_config o k v f = refl
 key_adds_lem ordinary o k v f = refl
 

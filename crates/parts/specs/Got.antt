@@ -22,7 +22,7 @@ use Rattle.parts.specs.declared.GotContent.TheVariants as content
 use Rattle.parts.specs.declared.GotText.{GotText}
 use Rattle.parts.specs.declared.GotText.TheVariants as text
 use Rattle.parts.specs.declared.GotOptText.{GotOptText}
-use Rattle.parts.specs.declared.GotOptText.TheVariants as optText
+use Rattle.parts.specs.declared.GotOptText.TheVariants as opt_text
 use Rattle.parts.specs.declared.GotKind.{GotKind}
 use Rattle.parts.specs.declared.GotKind.TheVariants as kind
 use Rattle.parts.specs.declared.GotFlag.{GotFlag}
@@ -30,7 +30,7 @@ use Rattle.parts.specs.declared.GotFlag.TheVariants as flag
 use Rattle.parts.specs.declared.GotQuantity.{GotQuantity}
 use Rattle.parts.specs.declared.GotQuantity.TheVariants as quantity
 use Rattle.parts.specs.declared.GotOptQuantity.{GotOptQuantity}
-use Rattle.parts.specs.declared.GotOptQuantity.TheVariants as optQuantity
+use Rattle.parts.specs.declared.GotOptQuantity.TheVariants as opt_quantity
 use Rattle.parts.specs.Views.{content_in, raw_part, raw_text, raw_opt_text, raw_quantity, raw_opt_quantity, PartWithin, span_in, SpanWithin, text_in, TextWithin, opt_text_in, OptTextWithin, kind_in, quantity_in, QuantityWithin, opt_quantity_in, OptQuantityWithin}
 
 -- a view that was read and where the next field starts, or none: what the rules' reader has then read, and the fields that are left
@@ -108,8 +108,8 @@ abbrev pub TextRead : List ℕ → ℕ → GotText → Type 0
 TextRead line at r = ReadAt (text_in line) (TextWithin line) (raw_text line) read_text line at (text_got r)
 
 abbrev pub opt_text_got : GotOptText → Option (OptText × ℕ)
-opt_text_got (optText.Got v n) = some (v, n)
-opt_text_got optText.Ill = none
+opt_text_got (opt_text.Got v n) = some (v, n)
+opt_text_got opt_text.Ill = none
 
 abbrev pub OptTextRead : List ℕ → ℕ → GotOptText → Type 0
 OptTextRead line at r = ReadAt (opt_text_in line) (OptTextWithin line) (raw_opt_text line) (opt read_text) line at (opt_text_got r)
@@ -136,8 +136,8 @@ abbrev pub QuantityRead : List ℕ → ℕ → GotQuantity → Type 0
 QuantityRead line at r = ReadAt (quantity_in line) (QuantityWithin line) (raw_quantity line) read_quantity line at (quantity_got r)
 
 abbrev pub opt_quantity_got : GotOptQuantity → Option (OptQuantity × ℕ)
-opt_quantity_got (optQuantity.Got v n) = some (v, n)
-opt_quantity_got optQuantity.Ill = none
+opt_quantity_got (opt_quantity.Got v n) = some (v, n)
+opt_quantity_got opt_quantity.Ill = none
 
 abbrev pub OptQuantityRead : List ℕ → ℕ → GotOptQuantity → Type 0
 OptQuantityRead line at r = ReadAt (opt_quantity_in line) (OptQuantityWithin line) (raw_opt_quantity line) (opt read_quantity) line at (opt_quantity_got r)

@@ -6,7 +6,7 @@ use mathlib.Core.Option.{Option, none, some}
 use native.Mathlib.Omega.{arith}
 use lib.ListN.{length, length-replicate}
 use Rattle.rules.specs.Basic.{each, on_some}
-use Rattle.rules.specs.Words.{step_kind, textKind, define_key, duplicateKey, DefineMode, DuplicateMode}
+use Rattle.rules.specs.Words.{step_kind, text_kind, define_key, duplicate_key, DefineMode, DuplicateMode}
 use Rattle.rules.specs.Event.{Text, ComponentEvent, ingredient_event, cookware_event, timer_event, Between, meta_event, section_event, start_event, Inside, end_event, text_event, component_event, Event, between, inside, parser_event}
 use Rattle.rules.specs.Units.{NamedUnit}
 use Rattle.rules.specs.Modes.{is_components, Key, config, unknown_config, ordinary}
@@ -41,7 +41,7 @@ duplicate_counted k v (some m) st s = s
 key_counted : {n : ℕ} (key : Key) (k v : Text) (st : State) → Counted n st → Counted (suc n) (on_key key k v st)
 unfolding on_key store_meta set_metadata report
 key_counted (config define_key) k v st s = define_counted k v _ st (later st s)
-key_counted (config duplicateKey) k v st s = duplicate_counted k v _ st (later st s)
+key_counted (config duplicate_key) k v st s = duplicate_counted k v _ st (later st s)
 key_counted unknown_config k v st s = later st s
 key_counted ordinary k v st s = (s.0, s.1, omega (arith, s.2))
 
@@ -91,7 +91,7 @@ module _ (text : List ℕ) (units : List NamedUnit) (flags : ℕ) where
   in_step_counted : {n : ℕ} (e : Inside) (is : List Item) (st : State) → Counted n st → CountedStep n (in_step_block units flags e is st)
   unfolding in_step_block text_in_step push_pieces push_items set_inline report set_block set_place set_kept set_tables
   in_step_counted (end_event step_kind) is st s = step_counted is st s
-  in_step_counted (end_event textKind) is st s = tt
+  in_step_counted (end_event text_kind) is st s = tt
   in_step_counted {n} (text_event t) is st s = pick_either (Counted n) (is_components st.modes.define) _ _ (λ b. s) (λ b. s)
   in_step_counted (component_event c) is st s = component_counted c is st s
 
@@ -100,7 +100,7 @@ module _ (text : List ℕ) (units : List NamedUnit) (flags : ℕ) where
   inside_counted e no_block st s = tt
   inside_counted e (step_open is) st s = in_step_counted e is st s
   inside_counted (end_event step_kind) (text_open ts) st s = tt
-  inside_counted (end_event textKind) (text_open ts) st s = keep_counted _ st.place.step_counter st (omega arith) s
+  inside_counted (end_event text_kind) (text_open ts) st s = keep_counted _ st.place.step_counter st (omega arith) s
   inside_counted (text_event t) (text_open ts) st s = s
   inside_counted (component_event c) (text_open ts) st s = tt
   inside_counted (end_event k) (text_mode_open ts) st s = keep_counted _ st.place.step_counter st (omega arith) s

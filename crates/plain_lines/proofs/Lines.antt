@@ -7,7 +7,7 @@ use mathlib.Core.List.{List, [], ◌∷◌, ◌++◌}
 use Rattle.rules.specs.Basic.{codes, tab, lf, join_by, each}
 use Rattle.rules.specs.Utf8.{encode}
 use Rattle.rules.specs.Sheet.{escape_char, escape, line_of}
-use Rattle.rules.specs.Words.{textKind}
+use Rattle.rules.specs.Words.{text_kind}
 use Rattle.rules.specs.Event.{Span, Component, ComponentEvent, Event, start_event, end_event, text_event, component_event, ingredient_event, cookware_event, between, inside, component_span}
 use Rattle.rules.specs.Read.{parse_line}
 use Rattle.rules.specs.Pass.{source_text}
@@ -28,11 +28,11 @@ copied_put {line} {e} h q p = text_is _ (parse_writes line e h q) p
 -- ---- text-mode blocks
 
 module _ {o₀ o : List ℕ} {at r : ℕ} where
-  pub start_put : Put (codes "start" ++ (tab ∷ codes "text") ++ (lf ∷ [])) o₀ at o r → Put (write_line (between (start_event textKind))) o₀ at o r
+  pub start_put : Put (codes "start" ++ (tab ∷ codes "text") ++ (lf ∷ [])) o₀ at o r → Put (write_line (between (start_event text_kind))) o₀ at o r
   unfolding write_line event_fields block_kind_field line_of join_by each escape escape_char
   start_put p = p
 
-  pub end_put : Put (codes "end" ++ (tab ∷ codes "text") ++ (lf ∷ [])) o₀ at o r → Put (write_line (inside (end_event textKind))) o₀ at o r
+  pub end_put : Put (codes "end" ++ (tab ∷ codes "text") ++ (lf ∷ [])) o₀ at o r → Put (write_line (inside (end_event text_kind))) o₀ at o r
   unfolding write_line event_fields block_kind_field line_of join_by each escape escape_char
   end_put p = p
 

@@ -5,7 +5,7 @@
 ghost use Rattle.std.specs.Prelude.{◌≡◌, true, false, [], ◌∷◌, ◌++◌, length};
 ghost use Rattle.rules.specs.Basic.{pick, codes, lf};
 ghost use Rattle.rules.specs.Utf8.{is_utf8};
-ghost use Rattle.rules.specs.Words.{textKind};
+ghost use Rattle.rules.specs.Words.{text_kind};
 ghost use Rattle.rules.specs.Event.{start_event, end_event, text_event, component_event, between, inside};
 ghost use Rattle.rules.specs.Answer.{is_good_span};
 ghost use Rattle.rules.specs.Model.{with_ref};
@@ -32,14 +32,14 @@ pub fn copied_line(rest: &mut [u8], line: &[u8]) -> usize
 
 // The first line of a text block.
 pub fn start_text_line(rest: &mut [u8]) -> usize
-    ensures { Put (write_line (between (start_event textKind))) rest.old 0 rest.new result }
+    ensures { Put (write_line (between (start_event text_kind))) rest.old 0 rest.new result }
 {
     output::put_bytes(rest, 0, b"start\ttext\n")
 }
 
 // The last line of a text block.
 pub fn end_text_line(rest: &mut [u8]) -> usize
-    ensures { Put (write_line (inside (end_event textKind))) rest.old 0 rest.new result }
+    ensures { Put (write_line (inside (end_event text_kind))) rest.old 0 rest.new result }
 {
     output::put_bytes(rest, 0, b"end\ttext\n")
 }

@@ -20,7 +20,7 @@ use Rattle.rules.proofs.TableSteps.{Onward, walk_related}
 -- ---- an entry without the indices that refer to it
 
 unfoldable pub bare_relation : Relation → Relation
-bare_relation (definition inStep by) = definition inStep []
+bare_relation (definition in_step by) = definition in_step []
 bare_relation (reference t j) = reference t j
 
 unfoldable pub bare : Entry → Entry

@@ -10,7 +10,7 @@ use Rattle.rules.specs.Basic.{pick, on_some}
 use Rattle.rules.specs.Unicode.{fold_name}
 use Rattle.rules.specs.Event.{Component}
 use Rattle.rules.specs.Units.{NamedUnit}
-use Rattle.rules.specs.Model.{Kind, ingredient, cookware, target_of, to_ingredient, toCookware, toStep, toSection, Relation, definition, reference, Entry, entry_with, entry_of, set_relation, set_modifiers}
+use Rattle.rules.specs.Model.{Kind, ingredient, cookware, target_of, to_ingredient, to_cookware, to_step, to_section, Relation, definition, reference, Entry, entry_with, entry_of, set_relation, set_modifiers}
 use Rattle.rules.specs.Reference.{Earlier, fits, same_name_in, same_name_of, as_referring}
 use Rattle.rules.specs.State.{State, table_of}
 use Rattle.rules.specs.Components.{Made, new_entry, made_with, made_by_name}
@@ -33,9 +33,9 @@ use Rattle.plain_walk.proofs.Added.{HasRow}
 unfoldable target_index : Relation → Option ℕ
 target_index (definition b by) = none
 target_index (reference to_ingredient j) = some j
-target_index (reference toCookware j) = some j
-target_index (reference toStep j) = none
-target_index (reference toSection j) = none
+target_index (reference to_cookware j) = some j
+target_index (reference to_step j) = none
+target_index (reference to_section j) = none
 
 target_bare : (r : Relation) → target_index (bare_relation r) ≡ target_index r
 unfolding target_index bare_relation

@@ -7,7 +7,7 @@ use mathlib.Core.Option.{Option, none, some}
 use native.Mathlib.Omega.{arith}
 use lib.ListN.{length, length-append}
 use Rattle.rules.specs.Basic.{pick, each}
-use Rattle.rules.specs.Words.{step_kind, textKind, DefineMode}
+use Rattle.rules.specs.Words.{step_kind, text_kind, DefineMode}
 use Rattle.rules.specs.Event.{Component, Intermediate, Between, meta_event, section_event, start_event, ComponentEvent, ingredient_event, cookware_event, timer_event, Inside, end_event, text_event, component_event, Event, between, inside, parser_event}
 use Rattle.rules.specs.Units.{NamedUnit}
 use Rattle.rules.specs.Model.{Kind, ingredient, cookware, Entry, Item}
@@ -169,11 +169,11 @@ module _ (text : List ℕ) (us : List NamedUnit) (flags : ℕ) (sheet w : List �
   unfolding plain_between between_plain
   between_plain_lem (meta_event k v) = refl
   between_plain_lem (section_event n) = refl
-  between_plain_lem (start_event textKind) = refl
+  between_plain_lem (start_event text_kind) = refl
   between_plain_lem (start_event step_kind) =
-      ap (λ (x : List Event). pick (is_text st.modes.define) (between (start_event textKind) ∷ []) x) (dropped_same (between (start_event step_kind)))
+      ap (λ (x : List Event). pick (is_text st.modes.define) (between (start_event text_kind) ∷ []) x) (dropped_same (between (start_event step_kind)))
       ∙ unfold with_inline follow_of in
-      ap (λ (m : DefineMode). pick (is_text m) (between (start_event textKind) ∷ []) (unless_dropped f (between (start_event step_kind)))) (sym (mode_back st.modes.define))
+      ap (λ (m : DefineMode). pick (is_text m) (between (start_event text_kind) ∷ []) (unless_dropped f (between (start_event step_kind)))) (sym (mode_back st.modes.define))
 
   event_plain : (e : Event) → on_event text us flags e st ≡ next after → plain_event text us flags st e ≡ plain_in text w flags e f
   unfolding on_event plain_event plain_in with_inline follow_of

@@ -7,7 +7,7 @@ use native.Mathlib.Omega.{arith}
 use lib.ListN.{length, take, drop, length-drop}
 use lib.Seq.{length-take-le}
 use Rattle.rules.specs.Basic.{lf}
-use Rattle.rules.specs.Words.{textKind}
+use Rattle.rules.specs.Words.{text_kind}
 use Rattle.rules.specs.Event.{Event, start_event, end_event, text_event, component_event, between, inside}
 use Rattle.rules.specs.Write.{write_line}
 use Rattle.rules.specs.Plain.{sheet_of}
@@ -50,13 +50,13 @@ module _ (text line : List ℕ) {p : Plain} where
     unfolding plain_as
     write_copied q g = written_as Copied q (record { put = λ e k n. one_line e (text_is (write_line e) (parse_writes line e n k) g); most = put_most g })
 
-    pub write_start : p ≡ StartText → Put (write_line (between (start_event textKind))) o₀ 0 o r → PlainWritten text line p o₀ 0 o r
+    pub write_start : p ≡ StartText → Put (write_line (between (start_event text_kind))) o₀ 0 o r → PlainWritten text line p o₀ 0 o r
     unfolding plain_as
-    write_start q g = written_as StartText q (record { put = λ e k n. one_line (between (start_event textKind)) g; most = put_most g })
+    write_start q g = written_as StartText q (record { put = λ e k n. one_line (between (start_event text_kind)) g; most = put_most g })
 
-    pub write_end : p ≡ EndText → Put (write_line (inside (end_event textKind))) o₀ 0 o r → PlainWritten text line p o₀ 0 o r
+    pub write_end : p ≡ EndText → Put (write_line (inside (end_event text_kind))) o₀ 0 o r → PlainWritten text line p o₀ 0 o r
     unfolding plain_as
-    write_end q g = written_as EndText q (record { put = λ e k n. one_line (inside (end_event textKind)) g; most = put_most g })
+    write_end q g = written_as EndText q (record { put = λ e k n. one_line (inside (end_event text_kind)) g; most = put_most g })
 
     pub write_source : (s : Span) → p ≡ Source s → Put (write_line (inside (text_event (source_at text (span_in s))))) o₀ 0 o r → PlainWritten text line p o₀ 0 o r
     unfolding plain_as

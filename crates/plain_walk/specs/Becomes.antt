@@ -2,7 +2,7 @@
 use Rattle.std.specs.Prelude.{ℕ, ◌+◌, ◌≤◌, ◌≡◌, List, [], ◌∷◌, true, length}
 use Rattle.std.proofs.Math.Option.{some}
 use Rattle.rules.specs.Basic.{lf, all}
-use Rattle.rules.specs.Words.{textKind}
+use Rattle.rules.specs.Words.{text_kind}
 use Rattle.rules.specs.Event.{start_event, end_event, text_event, component_event, Event, between, inside, spans_of}
 use Rattle.rules.specs.Read.{parse_line}
 use Rattle.rules.specs.Plain.{sheet_of}
@@ -31,8 +31,8 @@ use Rattle.plain_walk.specs.declared.Plain.TheVariants.{Dropped, Copied, StartTe
 unfoldable pub plain_as : List ℕ → List ℕ → Event → Plain → List Event
 plain_as text line e Dropped = []
 plain_as text line e Copied = e ∷ []
-plain_as text line e StartText = between (start_event textKind) ∷ []
-plain_as text line e EndText = inside (end_event textKind) ∷ []
+plain_as text line e StartText = between (start_event text_kind) ∷ []
+plain_as text line e EndText = inside (end_event text_kind) ∷ []
 plain_as text line e (Source s) = inside (text_event (source_at text (span_in s))) ∷ []
 plain_as text line e (Marked is_ingredient v) = inside (component_event (marked_as is_ingredient (component_in line v))) ∷ []
 

@@ -2,7 +2,7 @@
 use Rattle.std.specs.Prelude.{ℕ, ◌≡◌, List, [], ◌∷◌, ◌&&◌}
 use Rattle.std.proofs.Math.Option.{Option, none, some}
 use Rattle.rules.specs.Basic.{pick}
-use Rattle.rules.specs.Words.{step_kind, textKind}
+use Rattle.rules.specs.Words.{step_kind, text_kind}
 use Rattle.rules.specs.Event.{Component, Intermediate, Between, meta_event, section_event, start_event, ComponentEvent, ingredient_event, cookware_event, timer_event, Inside, end_event, text_event, component_event, Event, between, inside, parser_event}
 use Rattle.rules.specs.Model.{ingredient, cookware}
 use Rattle.rules.specs.Modes.{is_components, is_text, has_modes, key_of, key_text}
@@ -30,9 +30,9 @@ module _ (flags : ℕ) where
   unfoldable pub between_plain : Between → Follow → List Event
   between_plain (meta_event k v) f = pick (has_modes flags && is_mode_key (key_of (key_text k))) [] (between (meta_event k v) ∷ [])
   between_plain (section_event n) f = between (section_event n) ∷ []
-  between_plain (start_event textKind) f = between (start_event textKind) ∷ []
+  between_plain (start_event text_kind) f = between (start_event text_kind) ∷ []
   between_plain (start_event step_kind) f =
-      pick (is_text (define_of f.define)) (between (start_event textKind) ∷ []) (unless_dropped f (between (start_event step_kind)))
+      pick (is_text (define_of f.define)) (between (start_event text_kind) ∷ []) (unless_dropped f (between (start_event step_kind)))
 
 -- ---- lines in a step
 

@@ -79,9 +79,9 @@ word_read s e a b = record { word = rw e at a; next = rw e at b }
 pub no_tab_text : Without tab (116 ∷ 101 ∷ 120 ∷ 116 ∷ [])
 no_tab_text = without_more refl (without_more refl (without_more refl (without_more refl without_none)))
 
-pub text_word : told.Text ≡ word_as (word_in (116 ∷ 101 ∷ 120 ∷ 116 ∷ []) event_words)
+pub text_word_lem : told.Text ≡ word_as (word_in (116 ∷ 101 ∷ 120 ∷ 116 ∷ []) event_words)
 unfolding word_as word_in eq_list
-text_word = refl
+text_word_lem = refl
 
 pub no_tab_ingredient : Without tab (105 ∷ 110 ∷ 103 ∷ 114 ∷ 101 ∷ 100 ∷ 105 ∷ 101 ∷ 110 ∷ 116 ∷ [])
 no_tab_ingredient = without_more refl (without_more refl (without_more refl (without_more refl (without_more refl (without_more refl (without_more refl (without_more refl (without_more refl (without_more refl without_none)))))))))

@@ -40,15 +40,15 @@ word_is : (o : Option EventWord) → word_of (word_as o) ≡ o
 unfolding word_of word_as
 word_is none = refl
 word_is (some words.meta_word) = refl
-word_is (some words.sectionWord) = refl
-word_is (some words.startWord) = refl
+word_is (some words.section_word) = refl
+word_is (some words.start_word) = refl
 word_is (some words.end_word) = refl
-word_is (some words.textWord) = refl
-word_is (some words.ingredientWord) = refl
-word_is (some words.cookwareWord) = refl
-word_is (some words.timerWord) = refl
-word_is (some words.errorWord) = refl
-word_is (some words.warningWord) = refl
+word_is (some words.text_word) = refl
+word_is (some words.ingredient_word) = refl
+word_is (some words.cookware_word) = refl
+word_is (some words.timer_word) = refl
+word_is (some words.error_word) = refl
+word_is (some words.warning_word) = refl
 
 pub after_unknown : {line : List ℕ} {at : ℕ} → EventRead (read_word first.Unknown) line at event.Ill
 unfolding read_word word_of after_word

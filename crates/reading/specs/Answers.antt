@@ -26,15 +26,15 @@ use Rattle.reading.specs.declared.SheetRead.TheVariants as sheet
 -- the word of the rules that was told
 unfoldable pub word_of : Word → Option words.EventWord
 word_of told.Meta = some words.meta_word
-word_of told.Section = some words.sectionWord
-word_of told.Start = some words.startWord
+word_of told.Section = some words.section_word
+word_of told.Start = some words.start_word
 word_of told.End = some words.end_word
-word_of told.Text = some words.textWord
-word_of told.Ingredient = some words.ingredientWord
-word_of told.Cookware = some words.cookwareWord
-word_of told.Timer = some words.timerWord
-word_of told.Error = some words.errorWord
-word_of told.Warning = some words.warningWord
+word_of told.Text = some words.text_word
+word_of told.Ingredient = some words.ingredient_word
+word_of told.Cookware = some words.cookware_word
+word_of told.Timer = some words.timer_word
+word_of told.Error = some words.error_word
+word_of told.Warning = some words.warning_word
 word_of told.Unknown = none
 
 unfoldable pub after_word : Option words.EventWord → Reader Event

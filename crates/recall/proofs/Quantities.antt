@@ -10,7 +10,7 @@ use lib.ListN.{length}
 use Rattle.rules.specs.Basic.{pick, codes, eq_list, word_in}
 use Rattle.rules.specs.Utf8.{is_utf8}
 use Rattle.rules.specs.Sheet.{fields_of}
-use Rattle.rules.specs.Words.{EventWord, event_words, severe, mild, block_kinds, meta_word, sectionWord, startWord, end_word, textWord, ingredientWord, cookwareWord, timerWord, errorWord, warningWord}
+use Rattle.rules.specs.Words.{EventWord, event_words, severe, mild, block_kinds, meta_word, section_word, start_word, end_word, text_word, ingredient_word, cookware_word, timer_word, error_word, warning_word}
 use Rattle.rules.specs.Event.{Span, Text, Quantity, Modifiers, Component, Intermediate, Event, meta_event, section_event, start_event, end_event, text_event, component_event, ingredient_event, cookware_event, timer_event, between, inside, parser_event}
 use Rattle.rules.specs.Read.{Fields, Reader, go_on, ◌>>=◌, give, saying, opt, field, word, no_more, read_number, read_span, read_text, read_quantity, read_modifiers, read_component, read_intermediate, read_meta, read_section, read_start, read_end, read_text_line, read_ingredient, read_cookware, read_timer, read_finding, read_after, read_event, first_read, parse_line}
 use Rattle.rules.specs.Model.{ingredient}
@@ -50,24 +50,24 @@ ended e gs h = at_end_lem e gs h
 other : {P : Type 0} (e : Event) (gs : Fields) → is_of_kind ingredient (some e) ≡ false → IsOne (give e gs) → P
 other e gs q h = no_truth (sym q ∙ (rw (ended e gs h) at h))
 
-after_word_lem : (w : EventWord) (gs : Fields) → IsOne (read_after w gs) → w ≡ ingredientWord
+after_word_lem : (w : EventWord) (gs : Fields) → IsOne (read_after w gs) → w ≡ ingredient_word
 unfolding read_after read_meta read_section read_start read_end read_text_line read_cookware read_timer read_finding ◌>>=◌ is_of_kind is_inside_of is_component_of
 after_word_lem meta_word gs h = bind _ (read_text gs) (λ k hs p. bind _ (read_text hs) (λ v is q. other (between (meta_event k v)) is refl q) p) h
-after_word_lem sectionWord gs h = bind _ (opt read_text gs) (λ n hs p. other (between (section_event n)) hs refl p) h
-after_word_lem startWord gs h = bind _ (word block_kinds gs) (λ k hs p. other (between (start_event k)) hs refl p) h
+after_word_lem section_word gs h = bind _ (opt read_text gs) (λ n hs p. other (between (section_event n)) hs refl p) h
+after_word_lem start_word gs h = bind _ (word block_kinds gs) (λ k hs p. other (between (start_event k)) hs refl p) h
 after_word_lem end_word gs h = bind _ (word block_kinds gs) (λ k hs p. other (inside (end_event k)) hs refl p) h
-after_word_lem textWord gs h = bind _ (read_text gs) (λ t hs p. other (inside (text_event t)) hs refl p) h
-after_word_lem ingredientWord gs h = refl
-after_word_lem cookwareWord gs h = bind _ (read_component gs) (λ c hs p. other (inside (component_event (cookware_event c))) hs refl p) h
-after_word_lem timerWord gs h =
+after_word_lem text_word gs h = bind _ (read_text gs) (λ t hs p. other (inside (text_event t)) hs refl p) h
+after_word_lem ingredient_word gs h = refl
+after_word_lem cookware_word gs h = bind _ (read_component gs) (λ c hs p. other (inside (component_event (cookware_event c))) hs refl p) h
+after_word_lem timer_word gs h =
     bind _ (read_span gs) (λ s hs p. bind _ (opt read_text hs) (λ n is q. bind _ (opt read_quantity is) (λ x js r. other (inside (component_event (timer_event s n x))) js refl r) q) p) h
-after_word_lem errorWord gs h = bind _ (read_number gs) (λ n hs p. other (parser_event severe n) hs refl p) h
-after_word_lem warningWord gs h = bind _ (read_number gs) (λ n hs p. other (parser_event mild n) hs refl p) h
+after_word_lem error_word gs h = bind _ (read_number gs) (λ n hs p. other (parser_event severe n) hs refl p) h
+after_word_lem warning_word gs h = bind _ (read_number gs) (λ n hs p. other (parser_event mild n) hs refl p) h
 
 abbrev after_first : Option EventWord → Fields → Option (Event × Fields)
 after_first o gs = go_on (λ (w : EventWord). read_after w >>= at_end) (saying o gs)
 
-first_word : (o : Option EventWord) (gs : Fields) → is_of_kind ingredient (first_read (after_first o gs)) ≡ true → o ≡ some ingredientWord
+first_word : (o : Option EventWord) (gs : Fields) → is_of_kind ingredient (first_read (after_first o gs)) ≡ true → o ≡ some ingredient_word
 unfolding go_on saying first_read is_of_kind ◌>>=◌
 first_word none gs h = no_truth h
 first_word (some w) gs h = ap (λ (x : EventWord). some x) (after_word_lem w gs h)
@@ -79,7 +79,7 @@ event_first f gs = refl
 -- no other word of the table stands for it
 
 told_word : (a b c d e f g h i j : Bool)
-    → pick a (some meta_word) (pick b (some sectionWord) (pick c (some startWord) (pick d (some end_word) (pick e (some textWord) (pick f (some ingredientWord) (pick g (some cookwareWord) (pick h (some timerWord) (pick i (some errorWord) (pick j (some warningWord) none))))))))) ≡ some ingredientWord
+    → pick a (some meta_word) (pick b (some section_word) (pick c (some start_word) (pick d (some end_word) (pick e (some text_word) (pick f (some ingredient_word) (pick g (some cookware_word) (pick h (some timer_word) (pick i (some error_word) (pick j (some warning_word) none))))))))) ≡ some ingredient_word
     → f ≡ true
 told_word true b c d e f g h i j q = absurd (let z : ◌≡◌ {A = ℕ} 0 1 = cc in omega arith)
 told_word false true c d e f g h i j q = absurd (let z : ◌≡◌ {A = ℕ} 0 1 = cc in omega arith)
@@ -93,7 +93,7 @@ told_word false false false false false false false false true j q = absurd (let
 told_word false false false false false false false false false true q = absurd (let z : ◌≡◌ {A = ℕ} 0 1 = cc in omega arith)
 told_word false false false false false false false false false false q = no_some q
 
-word_is : (f : List ℕ) → word_in f event_words ≡ some ingredientWord → f ≡ codes "ingredient"
+word_is : (f : List ℕ) → word_in f event_words ≡ some ingredient_word → f ≡ codes "ingredient"
 unfolding word_in
 word_is f q =
     eq_list_true f (codes "ingredient")
@@ -171,7 +171,7 @@ module _ (line : List ℕ) (h : is_of_kind ingredient (parse_line line) ≡ true
   unfolding parse_line
   line_read = utf8_one (is_utf8 line) (first_read (read_event (fields_of line))) h ∙ ap first_read (ap read_event (line_fields line) ∙ event_first (field_at line 0) _)
 
-  line_word : word_in (field_at line 0) event_words ≡ some ingredientWord
+  line_word : word_in (field_at line 0) event_words ≡ some ingredient_word
   line_word = first_word _ _ (rw line_read at h)
 
   line_one : parse_line line ≡ first_read (go_on at_end (read_ingredient (fields_from line 11)))

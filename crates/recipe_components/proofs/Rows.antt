@@ -8,7 +8,7 @@ use native.Mathlib.Omega.{arith}
 use lib.ListN.{length, get_or, take, drop}
 use lib.Seq.{take-take}
 use Rattle.rules.specs.Basic.{pick}
-use Rattle.rules.specs.Model.{Kind, ingredient, cookware, toStep, toSection, Relation, reference, target_of, Entry, set_relation, set_modifiers}
+use Rattle.rules.specs.Model.{Kind, ingredient, cookware, to_step, to_section, Relation, reference, target_of, Entry, set_relation, set_modifiers}
 use Rattle.rules.specs.Reference.{entry_at, is_definition}
 use Rattle.rules.proofs.Basics.{no_truth, some_inj}
 use Rattle.rules.proofs.Referrers.{is_own, own_target, Linked, DefinedAt, entry_below}
@@ -42,47 +42,47 @@ unfolding relation_record_of target_of
 lent_own ingredient index = refl
 lent_own cookware index = refl
 
-module _ (k : Kind) (inStep : Bool) (index : ℕ) (by : List ℕ) where
-  lent_is : (x : memory.Relation) → lent_as x inStep index ≡ relation_record_of (relation_as k x inStep index by)
+module _ (k : Kind) (in_step : Bool) (index : ℕ) (by : List ℕ) where
+  lent_is : (x : memory.Relation) → lent_as x in_step index ≡ relation_record_of (relation_as k x in_step index by)
   unfolding lent_as relation_record_of relation_as target_of
   lent_is Definition = refl
   lent_is (Reference Ingredient) = lent_own k index
   lent_is (Reference Step) = refl
   lent_is (Reference Section) = refl
 
-  own_is : (x : memory.Relation) → links.is_own (lent_as x inStep index).relation ≡ true → relation_as k x inStep index by ≡ reference (target_of k) (lent_as x inStep index).index
+  own_is : (x : memory.Relation) → links.is_own (lent_as x in_step index).relation ≡ true → relation_as k x in_step index by ≡ reference (target_of k) (lent_as x in_step index).index
   unfolding lent_as relation_as
   own_is Definition q = no_truth q
   own_is (Reference Ingredient) q = refl
   own_is (Reference Step) q = no_truth q
   own_is (Reference Section) q = no_truth q
 
-  defines_is : (x : memory.Relation) → is_definition (relation_as k x inStep index by) ≡ true → (lent_as x inStep index).relation ≡ Definition
+  defines_is : (x : memory.Relation) → is_definition (relation_as k x in_step index by) ≡ true → (lent_as x in_step index).relation ≡ Definition
   unfolding lent_as relation_as is_definition
   defines_is Definition q = refl
   defines_is (Reference Ingredient) q = no_truth q
   defines_is (Reference Step) q = no_truth q
   defines_is (Reference Section) q = no_truth q
 
-no_step : (k : Kind) → is_own k toStep ≡ false
+no_step : (k : Kind) → is_own k to_step ≡ false
 unfolding is_own
 no_step ingredient = refl
 no_step cookware = refl
 
-no_section : (k : Kind) → is_own k toSection ≡ false
+no_section : (k : Kind) → is_own k to_section ≡ false
 unfolding is_own
 no_section ingredient = refl
 no_section cookware = refl
 
-module _ (k : Kind) (inStep : Bool) (index : ℕ) (by : List ℕ) (i : ℕ) where
-  pair_is : (x : memory.Relation) → pick (links.is_own (lent_as x inStep index).relation) ((lent_as x inStep index).index ∷ i ∷ []) [] ≡ pair_of k (relation_as k x inStep index by) i
+module _ (k : Kind) (in_step : Bool) (index : ℕ) (by : List ℕ) (i : ℕ) where
+  pair_is : (x : memory.Relation) → pick (links.is_own (lent_as x in_step index).relation) ((lent_as x in_step index).index ∷ i ∷ []) [] ≡ pair_of k (relation_as k x in_step index by) i
   unfolding lent_as relation_as pair_of
   pair_is Definition = refl
   pair_is (Reference Ingredient) = rw (own_target k)
   pair_is (Reference Step) = rw (no_step k)
   pair_is (Reference Section) = rw (no_section k)
 
-  one_is : (x : memory.Relation) → pick {X = ℕ} (links.is_own (lent_as x inStep index).relation) 1 0 ≡ pick {X = ℕ} (is_own_reference k (relation_as k x inStep index by)) 1 0
+  one_is : (x : memory.Relation) → pick {X = ℕ} (links.is_own (lent_as x in_step index).relation) 1 0 ≡ pick {X = ℕ} (is_own_reference k (relation_as k x in_step index by)) 1 0
   unfolding lent_as relation_as is_own_reference
   one_is Definition = refl
   one_is (Reference Ingredient) = rw (own_target k)

@@ -7,7 +7,7 @@ use Rattle.rules.specs.Basic.{pick, on_some}
 use Rattle.rules.specs.Text.{retain}
 use Rattle.rules.specs.Event.{Modifiers}
 use Rattle.rules.specs.Read.{content_of, parse_line}
-use Rattle.rules.specs.Model.{Kind, ingredient, cookware, to_ingredient, toCookware, toStep, toSection, Relation, definition, reference, Entry, entry_of, set_relation, set_modifiers}
+use Rattle.rules.specs.Model.{Kind, ingredient, cookware, to_ingredient, to_cookware, to_step, to_section, Relation, definition, reference, Entry, entry_of, set_relation, set_modifiers}
 use Rattle.rules.specs.Reference.{entry_at}
 use Rattle.rules.specs.State.{State, table_of, Outcome, recipe, no_recipe, refusal}
 use Rattle.rules.specs.Answer.{words_needed, collection, work_after}
@@ -28,11 +28,11 @@ use Rattle.recipe_components.specs.declared.Components.TheVariants.{Recipe, NoRe
 -- a relation as a record has it: whether a definition stands in a step; which of its own kind, which step or which section a
 -- reference means
 unfoldable pub relation_record_of : Relation → RelationRecord
-relation_record_of (definition inStep by) = record { relation = Definition; in_step = inStep; index = 0 }
+relation_record_of (definition in_step by) = record { relation = Definition; in_step = in_step; index = 0 }
 relation_record_of (reference to_ingredient j) = record { relation = Reference Ingredient; in_step = false; index = j }
-relation_record_of (reference toCookware j) = record { relation = Reference Ingredient; in_step = false; index = j }
-relation_record_of (reference toStep j) = record { relation = Reference Step; in_step = false; index = j }
-relation_record_of (reference toSection j) = record { relation = Reference Section; in_step = false; index = j }
+relation_record_of (reference to_cookware j) = record { relation = Reference Ingredient; in_step = false; index = j }
+relation_record_of (reference to_step j) = record { relation = Reference Step; in_step = false; index = j }
+relation_record_of (reference to_section j) = record { relation = Reference Section; in_step = false; index = j }
 
 unfoldable pub modifiers_of : Component → Modifiers
 modifiers_of c = record { recipe = c.recipe; ref = c.reference; hidden = c.hidden; opt = c.opt; new = c.new }
@@ -67,7 +67,7 @@ pub record RecordsOf (k : Kind) (sheet : List ℕ) (es : List Entry) (cs : List 
 
 -- of the entry at i
 unfoldable pub pair_of : Kind → Relation → ℕ → List ℕ
-pair_of k (definition inStep by) i = []
+pair_of k (definition in_step by) i = []
 pair_of k (reference t d) i = pick (is_own k t) (d ∷ i ∷ []) []
 
 -- the newest entry's comes last

@@ -91,21 +91,21 @@ module _ (a b : Modifiers) {p : Bool} where
 
 -- ---- 11 and 12
 
-module _ {define : Define} {duplicate : Duplicate} {isFound : Bool} {at : Span} {w₀ : List ℕ} {h₀ : Held} {s : Bool} (es : s ≡ is_steps (define_of define)) where
-  pub new_steps : s ≡ true → RedundantNew define duplicate isFound at w₀ h₀ w₀ h₀
+module _ {define : Define} {duplicate : Duplicate} {is_found : Bool} {at : Span} {w₀ : List ℕ} {h₀ : Held} {s : Bool} (es : s ≡ is_steps (define_of define)) where
+  pub new_steps : s ≡ true → RedundantNew define duplicate is_found at w₀ h₀ w₀ h₀
   unfolding redundant_new when
   new_steps t = record { is = λ e same ea ef. none_found (rw (← es, t)) }
 
   module _ (n : s ≡ false) {q : Bool} (eq : q ≡ is_reference (duplicate_of duplicate)) where
-    pub new_found : q ≡ true → isFound ≡ true → RedundantNew define duplicate isFound at w₀ h₀ w₀ h₀
+    pub new_found : q ≡ true → is_found ≡ true → RedundantNew define duplicate is_found at w₀ h₀ w₀ h₀
     unfolding redundant_new when
     new_found t u = record { is = λ e same ea ef. none_found (rw (← es, n, ← eq, t, ef, u)) }
 
-    pub new_missing : {w : List ℕ} {h : Held} → q ≡ true → isFound ≡ false → Reported (found 11 (span_in at) ∷ []) w₀ h₀ w h → RedundantNew define duplicate isFound at w₀ h₀ w h
+    pub new_missing : {w : List ℕ} {h : Held} → q ≡ true → is_found ≡ false → Reported (found 11 (span_in at) ∷ []) w₀ h₀ w h → RedundantNew define duplicate is_found at w₀ h₀ w h
     unfolding redundant_new when
     new_missing t u r = record { is = λ e same ea ef. said (rw (← es, n, ← eq, t, ef, u, ea)) r }
 
-    pub new_always : {w : List ℕ} {h : Held} → q ≡ false → Reported (found 11 (span_in at) ∷ []) w₀ h₀ w h → RedundantNew define duplicate isFound at w₀ h₀ w h
+    pub new_always : {w : List ℕ} {h : Held} → q ≡ false → Reported (found 11 (span_in at) ∷ []) w₀ h₀ w h → RedundantNew define duplicate is_found at w₀ h₀ w h
     unfolding redundant_new when
     new_always t r = record { is = λ e same ea ef. said (rw (← es, n, ← eq, t, ea)) r }
 
@@ -178,8 +178,8 @@ ref_of n = unfold modifiers_in in ap (λ (z : rules.Modifiers). z.ref) n.is_modi
 new_of : {e : Entry} {m : Modifiers} {span at : Span} → NewAs e m span at → e.modifiers.new ≡ m.new
 new_of n = unfold modifiers_in in ap (λ (z : rules.Modifiers). z.new) n.is_modifiers
 
-first : (i : Bool) {m : Modifiers} {span at : Span} {old : Old} (define : Define) (duplicate : Duplicate) {isFound : Bool} → isFound ≡ is_some (old_in old) → m.new ≡ false
-    → {y : Bool} → TreatedAs define duplicate m.reference isFound y → (e : Entry) (same : Option Earlier) → NewAs e m span at → SameAs same old
+first : (i : Bool) {m : Modifiers} {span at : Span} {old : Old} (define : Define) (duplicate : Duplicate) {is_found : Bool} → is_found ≡ is_some (old_in old) → m.new ≡ false
+    → {y : Bool} → TreatedAs define duplicate m.reference is_found y → (e : Entry) (same : Option Earlier) → NewAs e m span at → SameAs same old
     → reference_findings (modes_of define duplicate) e (inherits (kind_of i)) same
     ≡ redundant_ref (modes_of define duplicate) e ++ pick y (conflict_or_missing (modes_of define duplicate) e (inherits (kind_of i)) same) []
 first i define duplicate ef n z e same en es =
@@ -194,12 +194,12 @@ module _ {i : Bool} {m : Modifiers} {span at : Span} {old : Old} {w₀ : List �
   unfolding reference_findings is_explicit
   new_with_ref n t r = record { is = λ e same en es. said (rw (new_of en, n, ref_of en, t, en.is_at)) r }
 
-  module _ {isFound : Bool} (ef : isFound ≡ is_some (old_in old)) where
-    pub new_alone : {w : List ℕ} {h : Held} → m.new ≡ true → m.reference ≡ false → RedundantNew h₀.define h₀.duplicate isFound at w₀ h₀ w h → ReferenceReported i m span at old w₀ h₀ w h
+  module _ {is_found : Bool} (ef : is_found ≡ is_some (old_in old)) where
+    pub new_alone : {w : List ℕ} {h : Held} → m.new ≡ true → m.reference ≡ false → RedundantNew h₀.define h₀.duplicate is_found at w₀ h₀ w h → ReferenceReported i m span at old w₀ h₀ w h
     unfolding reference_findings is_explicit
     new_alone n t r = record { is = λ e same en es. said (rw (new_of en, n, ref_of en, t)) (r.is e same en.is_at (same_found es ef)) }
 
-    module _ (n : m.new ≡ false) {w₁ : List ℕ} {h₁ : Held} (r : RedundantRef h₀.define h₀.duplicate m.reference at w₀ h₀ w₁ h₁) {y : Bool} (z : TreatedAs h₀.define h₀.duplicate m.reference isFound y) where
+    module _ (n : m.new ≡ false) {w₁ : List ℕ} {h₁ : Held} (r : RedundantRef h₀.define h₀.duplicate m.reference at w₀ h₀ w₁ h₁) {y : Bool} (z : TreatedAs h₀.define h₀.duplicate m.reference is_found y) where
       pub as_reference : {w : List ℕ} {h : Held} → y ≡ true → ConflictOrMissing i m span at old w₁ h₁ w h → ReferenceReported i m span at old w₀ h₀ w h
       as_reference t k = record { is = λ e same en es. said (first i h₀.define h₀.duplicate ef n z e same en es ∙ rw t) (reported_seq (r.is e en.is_at (ref_of en)) (k.is h₀.define h₀.duplicate e same en es)) }
 

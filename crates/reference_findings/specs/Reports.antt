@@ -36,8 +36,8 @@ pub record NewAs (e : Entry) (m : Modifiers) (span at : Span) : Type 0 where
   pub is_at : e.source.modifiers_span ≡ span_in at
 
 -- whatever the new entry is and what the search found: 11
-pub record RedundantNew (define : Define) (duplicate : Duplicate) (isFound : Bool) (at : Span) (w₀ : List ℕ) (h₀ : Held) (w : List ℕ) (h : Held) : Type 0 where
-  pub is : (e : Entry) (same : Option Earlier) → e.source.modifiers_span ≡ span_in at → is_some same ≡ isFound → Reported (redundant_new (modes_of define duplicate) e same) w₀ h₀ w h
+pub record RedundantNew (define : Define) (duplicate : Duplicate) (is_found : Bool) (at : Span) (w₀ : List ℕ) (h₀ : Held) (w : List ℕ) (h : Held) : Type 0 where
+  pub is : (e : Entry) (same : Option Earlier) → e.source.modifiers_span ≡ span_in at → is_some same ≡ is_found → Reported (redundant_new (modes_of define duplicate) e same) w₀ h₀ w h
 
 -- 12
 pub record RedundantRef (define : Define) (duplicate : Duplicate) (explicit : Bool) (at : Span) (w₀ : List ℕ) (h₀ : Held) (w : List ℕ) (h : Held) : Type 0 where

@@ -7,7 +7,7 @@ use mathlib.Core.Option.{Option, none, some}
 use native.Mathlib.Omega.{arith}
 use borrow.Author.Tests.{eq-eqb, ne_eqb}
 use Rattle.rules.specs.Basic.{pick, on_some}
-use Rattle.rules.specs.Words.{BlockKind, step_kind, textKind, Severity, DefineMode, mode_all, modeComponents, modeSteps, modeText}
+use Rattle.rules.specs.Words.{BlockKind, step_kind, text_kind, Severity, DefineMode, mode_all, mode_components, mode_steps, mode_text}
 use Rattle.rules.specs.Event.{Text, Component, Intermediate, ComponentEvent, ingredient_event, cookware_event, timer_event, Between, meta_event, section_event, start_event, Inside, end_event, text_event, component_event, Event, between, inside, parser_event}
 use Rattle.rules.specs.Units.{NamedUnit}
 use Rattle.rules.specs.Modes.{is_components, is_text}
@@ -31,9 +31,9 @@ pub data LineFault (flags : ℕ) (earlier : List Event) (e : Event) : Option ℕ
 text_unlisted : (m : DefineMode) → is_text m ≡ true → is_components m ≡ false
 unfolding is_text is_components
 text_unlisted mode_all q = refl
-text_unlisted modeComponents q = no_truth q
-text_unlisted modeSteps q = refl
-text_unlisted modeText q = refl
+text_unlisted mode_components q = no_truth q
+text_unlisted mode_steps q = refl
+text_unlisted mode_text q = refl
 
 no_next : {P : Type 0} {n : ℕ} {st : State} → stop n ≡ next st → P
 no_next q = absurd (let z : ◌≡◌ {A = ℕ} 0 1 = cc in omega arith)
@@ -65,7 +65,7 @@ module _ (text : List ℕ) (units : List NamedUnit) (flags : ℕ) (earlier : Lis
   opened_agrees : (m : DefineMode) (k : BlockKind) → Agrees (opened m k) (is_text m)
   unfolding opened
   opened_agrees m step_kind = pick_either (λ (o : Open). Agrees o (is_text m)) (is_text m) _ _ (λ b. b) (λ b. b)
-  opened_agrees m textKind = pick_either (λ (o : Open). Agrees o (is_text m)) (is_text m) _ _ (λ b. b) (λ b. b)
+  opened_agrees m text_kind = pick_either (λ (o : Open). Agrees o (is_text m)) (is_text m) _ _ (λ b. b) (λ b. b)
 
   between_knows : (b : Between) → is_open st.place.block ≡ false → Knows flags (between b ∷ earlier) (on_between text units flags b st)
   unfolding on_between
@@ -95,7 +95,7 @@ module _ (text : List ℕ) (units : List NamedUnit) (flags : ℕ) (earlier : Lis
       pick_either (Knows flags (inside (end_event step_kind) ∷ earlier)) (is_components st.modes.define) _ _
       (λ b. still (inside (end_event step_kind)) refl (end_still step_kind) _ refl refl refl tt)
       (λ b. still (inside (end_event step_kind)) refl (end_still step_kind) _ refl refl refl tt)
-  step_knows (end_event textKind) is q = tt
+  step_knows (end_event text_kind) is q = tt
   step_knows (text_event t) is q =
       unfold text_in_step push_pieces push_items set_inline set_tables report set_block set_place set_kept in
       pick_either (Knows flags (inside (text_event t) ∷ earlier)) (is_components st.modes.define) _ _
@@ -108,7 +108,7 @@ module _ (text : List ℕ) (units : List NamedUnit) (flags : ℕ) (earlier : Lis
   inside_knows i no_block q = tt
   inside_knows i (step_open is) q = step_knows i is q
   inside_knows (end_event step_kind) (text_open ts) q = tt
-  inside_knows (end_event textKind) (text_open ts) q = still (inside (end_event textKind)) refl (end_still textKind) _ refl refl refl tt
+  inside_knows (end_event text_kind) (text_open ts) q = still (inside (end_event text_kind)) refl (end_still text_kind) _ refl refl refl tt
   inside_knows (text_event t) (text_open ts) q = still (inside (text_event t)) refl (text_still t) _ refl refl refl (agrees (text_open ts) q)
   inside_knows (component_event c) (text_open ts) q = tt
   inside_knows (end_event k) (text_mode_open ts) q = still (inside (end_event k)) refl (end_still k) _ refl refl refl tt

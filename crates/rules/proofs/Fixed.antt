@@ -5,7 +5,7 @@ use mathlib.Core.List.{List, [], ◌∷◌}
 use mathlib.Core.Bool.{Bool, true, false, ◌&&◌}
 use mathlib.Core.Option.{Option, none, some}
 use Rattle.rules.specs.Basic.{pick}
-use Rattle.rules.specs.Words.{step_kind, textKind, DefineMode, mode_all, duplicate_new}
+use Rattle.rules.specs.Words.{step_kind, text_kind, DefineMode, mode_all, duplicate_new}
 use Rattle.rules.specs.Event.{Component, Intermediate, ComponentEvent, ingredient_event, cookware_event, timer_event, Between, meta_event, section_event, start_event, Inside, end_event, text_event, component_event, Event, between, inside, parser_event}
 use Rattle.rules.specs.Units.{NamedUnit}
 use Rattle.rules.specs.Modes.{first_modes, is_components, is_steps, is_text, is_reference, has_modes, key_text, key_of}
@@ -88,7 +88,7 @@ module _ (text : List ℕ) (units : List NamedUnit) (flags : ℕ) where
     between_fixed o (meta_event a b) h = let q : (has_modes flags && is_mode_key (key_of (key_text a))) ≡ false = sym (meta_heeded flags a b) ∙ h in rw q
     between_fixed o (section_event x) h = refl
     between_fixed o (start_event step_kind) h = refl
-    between_fixed o (start_event textKind) h = refl
+    between_fixed o (start_event text_kind) h = refl
 
     event_fixed : (o : Open) (e : Event) → is_text_mode o ≡ false → is_heeded flags e ≡ false → plain_event text units flags (M o) e ≡ e ∷ []
     unfolding plain_event

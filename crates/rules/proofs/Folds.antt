@@ -10,7 +10,7 @@ use lib.Dec.{eqb, ltb}
 use lib.ListN.{length, get_or}
 use borrow.Author.Tests.{eqb-true}
 use Rattle.rules.specs.Basic.{pick, within}
-use Rattle.rules.specs.Ranges.{◌to◌, ascending, FoldLine, ◌foldsTo◌, lookup, keys_ascend}
+use Rattle.rules.specs.Ranges.{◌to◌, ascending, FoldLine, ◌folds_to◌, lookup, keys_ascend}
 use Rattle.rules.specs.Alphabetic.{alphabetic}
 use Rattle.rules.specs.Numeric.{numeric}
 use Rattle.rules.specs.WhiteSpace.{white_space}
@@ -43,12 +43,12 @@ keys_ascend_lem = refl
 module _ (test : ℕ → Bool) where
   abbrev pub all_keys : List FoldLine → Bool
   all_keys [] = true
-  all_keys ((k foldsTo m) ∷ ls) = test k && all_keys ls
+  all_keys ((k folds_to m) ∷ ls) = test k && all_keys ls
 
 module _ (test : List ℕ → Bool) where
   abbrev pub all_maps : List FoldLine → Bool
   all_maps [] = true
-  all_maps ((k foldsTo m) ∷ ls) = test m && all_maps ls
+  all_maps ((k folds_to m) ∷ ls) = test m && all_maps ls
 
 -- each of the code points passes
 module _ (test : ℕ → Bool) where
@@ -72,7 +72,7 @@ pub looked_up : (test : List ℕ → Bool) (c : ℕ) (ls : List FoldLine) → al
     → (lookup c ls ≡ c ∷ []) ⊎ (test (lookup c ls) ≡ true)
 unfolding lookup
 looked_up test c [] t = inl refl
-looked_up test c ((k foldsTo m) ∷ ls) t =
+looked_up test c ((k folds_to m) ∷ ls) t =
     go (ltb c k) (eqb c k) (looked_up test c ls (and_right (test m) (all_maps test ls) t))
   where
     go : (a b : Bool) → (lookup c ls ≡ c ∷ []) ⊎ (test (lookup c ls) ≡ true)
@@ -103,7 +103,7 @@ apart k x p q = go (eqb x k) refl
 itself : (x : ℕ) (ls : List FoldLine) → all_keys is_key ls ≡ true → no_key x ≡ true → lookup x ls ≡ x ∷ []
 unfolding lookup
 itself x [] t n = refl
-itself x ((k foldsTo m) ∷ ls) t n =
+itself x ((k folds_to m) ∷ ls) t n =
     rw (apart k x (and_left (is_key k) (all_keys is_key ls) t) n) (go (ltb x k) (itself x ls (and_right (is_key k) (all_keys is_key ls) t) n))
   where
     go : (a : Bool) → lookup x ls ≡ x ∷ [] → pick a (x ∷ []) (lookup x ls) ≡ x ∷ []

@@ -10,7 +10,7 @@ use lib.ListN.{length}
 use borrow.Author.Tests.{eqb-true, ltb-false, le-ltb}
 use Rattle.rules.specs.Basic.{lf, is_empty, all}
 use Rattle.rules.specs.Sheet.{Lines, last, more, on_line, lines}
-use Rattle.rules.specs.Words.{step_kind, textKind}
+use Rattle.rules.specs.Words.{step_kind, text_kind}
 use Rattle.rules.specs.Event.{Span, Component, Intermediate, ComponentEvent, ingredient_event, cookware_event, timer_event, Between, meta_event, section_event, start_event, Inside, end_event, text_event, component_event, Event, between, inside, parser_event, component_span, named_spans, component_spans, spans_of}
 use Rattle.rules.specs.Read.{parse_line}
 use Rattle.rules.specs.Write.{component_fields, event_fields, write_line}
@@ -200,7 +200,7 @@ module _ (text : List ℕ) (n : ℕ) where
     unfolding plain_between spans_of all
     between_piece st (meta_event k v) r s = pick_either AtMostOne (has_modes flags && is_mode_key (key_of (key_text k))) _ _ (λ b. piece_none) (λ b. piece_one r s)
     between_piece st (section_event x) r s = piece_one r s
-    between_piece st (start_event textKind) r s = piece_one r s
+    between_piece st (start_event text_kind) r s = piece_one r s
     between_piece st (start_event step_kind) r s =
         pick_either AtMostOne (is_text st.modes.define) _ _ (λ b. piece_one start_readable refl) (λ b. listed_piece st (between (start_event step_kind)) r s)
 

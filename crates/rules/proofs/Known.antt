@@ -6,7 +6,7 @@ use mathlib.Core.Bool.{Bool, true, false}
 use mathlib.Core.Option.{Option, none, some}
 use lib.ListN.{length}
 use Rattle.rules.specs.Basic.{pick, word_in}
-use Rattle.rules.specs.Words.{ConfigKey, define_key, duplicateKey, config_keys, DefineMode, DuplicateMode}
+use Rattle.rules.specs.Words.{ConfigKey, define_key, duplicate_key, config_keys, DefineMode, DuplicateMode}
 use Rattle.rules.specs.Event.{Text, meta_event, Event, between}
 use Rattle.rules.specs.Modes.{Modes, first_modes, is_text, has_modes, key_text, value_text, Key, config, unknown_config, ordinary, is_bracketed, key_as, key_of}
 use Rattle.rules.specs.Model.{Kind, ingredient, cookware, Entry}
@@ -130,7 +130,7 @@ module _ (flags : ℕ) where
   unfolding on_key key_as defines_by or_else store_meta set_metadata report
   key_define false o b k v st = refl
   key_define true (some define_key) b k v st = define_by k v _ st
-  key_define true (some duplicateKey) b k v st = define_other k v _ st
+  key_define true (some duplicate_key) b k v st = define_other k v _ st
   key_define true none true k v st = refl
   key_define true none false k v st = refl
 
@@ -139,7 +139,7 @@ module _ (flags : ℕ) where
   unfolding on_key key_as duplicates_by or_else store_meta set_metadata report
   key_duplicate false o b k v st = refl
   key_duplicate true (some define_key) b k v st = duplicate_other k v _ st
-  key_duplicate true (some duplicateKey) b k v st = duplicate_by k v _ st
+  key_duplicate true (some duplicate_key) b k v st = duplicate_by k v _ st
   key_duplicate true none true k v st = refl
   key_duplicate true none false k v st = refl
 
@@ -161,7 +161,7 @@ module _ (flags : ℕ) where
   key_left : (key : Key) (k v : Text) (st : State) → Left st (on_key key k v st)
   unfolding on_key store_meta set_metadata report
   key_left (config define_key) k v st = define_left k v _ st
-  key_left (config duplicateKey) k v st = duplicate_left k v _ st
+  key_left (config duplicate_key) k v st = duplicate_left k v _ st
   key_left unknown_config k v st = record { place_is = refl; tables_are = refl }
   key_left ordinary k v st = record { place_is = refl; tables_are = refl }
 

@@ -62,7 +62,7 @@ collection_linked sheet text units flags st q =
 -- ---- how many refer
 
 unfoldable pub is_own_reference : Kind → Relation → Bool
-is_own_reference k (definition inStep by) = false
+is_own_reference k (definition in_step by) = false
 is_own_reference k (reference t j) = is_own k t
 
 module _ (k : Kind) where
@@ -72,7 +72,7 @@ module _ (k : Kind) where
   own_references (e ∷ es) = pick (is_own_reference k e.relation) 1 0 + own_references es
 
 unfoldable pub referrers_of : Relation → ℕ
-referrers_of (definition inStep by) = length by
+referrers_of (definition in_step by) = length by
 referrers_of (reference t j) = 0
 
 -- the referrers that the definitions of a table keep

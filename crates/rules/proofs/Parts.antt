@@ -5,7 +5,7 @@ use mathlib.Core.List.{List, [], ◌∷◌, reverse_aux}
 use mathlib.Core.Bool.{Bool, true, false}
 use mathlib.Core.Option.{Option, none, some}
 use Rattle.rules.specs.Basic.{pick}
-use Rattle.rules.specs.Words.{severe, mild, DefineMode, mode_all, modeComponents, modeSteps, modeText, DuplicateMode}
+use Rattle.rules.specs.Words.{severe, mild, DefineMode, mode_all, mode_components, mode_steps, mode_text, DuplicateMode}
 use Rattle.rules.specs.Event.{Component, Intermediate, ComponentEvent, ingredient_event, cookware_event, timer_event, end_event, text_event, component_event, Event, between, inside, parser_event}
 use Rattle.rules.specs.Units.{NamedUnit}
 use Rattle.rules.specs.Modes.{first_modes, is_components}
@@ -54,13 +54,13 @@ module _ (text : List ℕ) (units : List NamedUnit) (flags : ℕ) where
         → push_component j m' is (F d (step_open is)) ≡ as_form (reverse_aux m'.findings fs') (push_component j m is (M d (step_open is)))
     unfolding push_component push_items item_of table_of set_table report set_block set_place set_kept set_tables is_components first_modes
     push_same ingredient mode_all is m m' c q = rw q
-    push_same ingredient modeComponents is m m' c q = no_truth (sym c)
-    push_same ingredient modeSteps is m m' c q = rw q
-    push_same ingredient modeText is m m' c q = rw q
+    push_same ingredient mode_components is m m' c q = no_truth (sym c)
+    push_same ingredient mode_steps is m m' c q = rw q
+    push_same ingredient mode_text is m m' c q = rw q
     push_same cookware mode_all is m m' c q = rw q
-    push_same cookware modeComponents is m m' c q = no_truth (sym c)
-    push_same cookware modeSteps is m m' c q = rw q
-    push_same cookware modeText is m m' c q = rw q
+    push_same cookware mode_components is m m' c q = no_truth (sym c)
+    push_same cookware mode_steps is m m' c q = rw q
+    push_same cookware mode_text is m m' c q = rw q
 
     -- ---- in a step outside components mode
 
@@ -180,9 +180,9 @@ module _ (text : List ℕ) (units : List NamedUnit) (flags : ℕ) where
     unfolding on_inside on_event in_step_block in_text_block in_text_mode plain_inside in_plain_step in_plain_text unless_listed component_fault is_components report set_block set_place component_in_text is_error_event first_modes
     component_sim d no_block c f = stopped
     component_sim mode_all (step_open is) c f = step_sim mode_all is refl c f
-    component_sim modeComponents (step_open is) c f = no_22 f
-    component_sim modeSteps (step_open is) c f = step_sim modeSteps is refl c f
-    component_sim modeText (step_open is) c f = step_sim modeText is refl c f
+    component_sim mode_components (step_open is) c f = no_22 f
+    component_sim mode_steps (step_open is) c f = step_sim mode_steps is refl c f
+    component_sim mode_text (step_open is) c f = step_sim mode_text is refl c f
     component_sim d (text_open ts) c f = stopped
     component_sim d (text_mode_open ts) c f = goes fs' refl refl
 

@@ -5,7 +5,7 @@ use mathlib.Core.List.{List, [], ◌∷◌, ◌++◌, reverse, reverse_aux}
 use mathlib.Core.Bool.{Bool, true, false, ◌&&◌, ◌||◌, not}
 use mathlib.Core.Option.{Option, none, some}
 use Rattle.rules.specs.Basic.{pick, is_some, word_in}
-use Rattle.rules.specs.Words.{step_kind, textKind, ConfigKey, config_keys, mode_all, duplicate_new}
+use Rattle.rules.specs.Words.{step_kind, text_kind, ConfigKey, config_keys, mode_all, duplicate_new}
 use Rattle.rules.specs.Event.{Text, Component, Between, meta_event, section_event, start_event, Inside, Event, between, inside, parser_event}
 use Rattle.rules.specs.Units.{NamedUnit}
 use Rattle.rules.specs.Modes.{first_modes, is_components, is_steps, is_text, is_reference, has_modes, key_text, is_bracketed, key_as, key_of}
@@ -75,7 +75,7 @@ module _ (text : List ℕ) (units : List NamedUnit) (flags : ℕ) where
   between_quiet st (meta_event k v) =
       pick_either (Quiet flags) (has_modes flags && is_mode_key (key_of (key_text k))) _ _ (λ b. quiet_none) (λ b. quiet_more (meta_heeded flags k v ∙ b) quiet_none)
   between_quiet st (section_event n) = one refl
-  between_quiet st (start_event textKind) = one refl
+  between_quiet st (start_event text_kind) = one refl
   between_quiet st (start_event step_kind) =
       pick_either (Quiet flags) (is_text st.modes.define) _ _ (λ b. one refl) (λ b. listed_quiet st (between (start_event step_kind)) refl)
 

@@ -9,10 +9,10 @@ use lib.Dec.{eqb}
 use lib.ListN.{length}
 use borrow.Author.Tests.{eqb-true, eqb-false, eq-eqb, ne_eqb}
 use Rattle.rules.specs.Basic.{pick, on_some}
-use Rattle.rules.specs.Words.{IntermediateTarget, target_step, targetSection}
+use Rattle.rules.specs.Words.{IntermediateTarget, target_step, target_section}
 use Rattle.rules.specs.Event.{Component, Intermediate, Event}
 use Rattle.rules.specs.Units.{NamedUnit}
-use Rattle.rules.specs.Model.{Kind, ingredient, cookware, Target, to_ingredient, toCookware, toStep, toSection, target_of, Relation, definition, reference, Entry, entry_with, entry_of, set_relation, set_modifiers}
+use Rattle.rules.specs.Model.{Kind, ingredient, cookware, Target, to_ingredient, to_cookware, to_step, to_section, target_of, Relation, definition, reference, Entry, entry_with, entry_of, set_relation, set_modifiers}
 use Rattle.rules.specs.Reference.{Earlier, same_name_of, entry_at, refers_to, as_referring, referred_by, set_referenced_from, is_definition}
 use Rattle.rules.specs.Checks.{intermediate_target, intermediate_relation}
 use Rattle.rules.specs.State.{State, first_state, table_of, going}
@@ -27,17 +27,17 @@ use Rattle.rules.proofs.TableSteps.{MadeBy, by_name, by_place, Onward, walk_rela
 
 unfoldable pub is_own : Kind → Target → Bool
 is_own ingredient to_ingredient = true
-is_own ingredient toCookware = false
-is_own ingredient toStep = false
-is_own ingredient toSection = false
+is_own ingredient to_cookware = false
+is_own ingredient to_step = false
+is_own ingredient to_section = false
 is_own cookware to_ingredient = false
-is_own cookware toCookware = true
-is_own cookware toStep = false
-is_own cookware toSection = false
+is_own cookware to_cookware = true
+is_own cookware to_step = false
+is_own cookware to_section = false
 
 module _ (k : Kind) (d : ℕ) where
   unfoldable pub refers_own : Relation → Bool
-  refers_own (definition inStep by) = false
+  refers_own (definition in_step by) = false
   refers_own (reference t j) = is_own k t && eqb j d
 
   -- the indices of the entries that refer to the entry at d of their own kind, newest first
@@ -55,7 +55,7 @@ pub record Linked (k : Kind) (es : List Entry) : Type 0 where
   -- a reference to an entry of its own kind goes to an earlier definition
   pub target : (i d : ℕ) (e : Entry) → entry_at i es ≡ some e → e.relation ≡ reference (target_of k) d → (d < i) × DefinedAt d es
   -- the referrers of a definition are all entries that refer to it
-  pub referrers : (d : ℕ) (e : Entry) (inStep : Bool) (by : List ℕ) → entry_at d es ≡ some e → e.relation ≡ definition inStep by → by ≡ own_referrers k d es
+  pub referrers : (d : ℕ) (e : Entry) (in_step : Bool) (by : List ℕ) → entry_at d es ≡ some e → e.relation ≡ definition in_step by → by ≡ own_referrers k d es
 
 -- ---- what refers
 
@@ -67,13 +67,13 @@ own_target cookware = refl
 own_only : (k : Kind) (t : Target) → is_own k t ≡ true → t ≡ target_of k
 unfolding is_own target_of
 own_only ingredient to_ingredient q = refl
-own_only ingredient toCookware q = no_truth q
-own_only ingredient toStep q = no_truth q
-own_only ingredient toSection q = no_truth q
+own_only ingredient to_cookware q = no_truth q
+own_only ingredient to_step q = no_truth q
+own_only ingredient to_section q = no_truth q
 own_only cookware to_ingredient q = no_truth q
-own_only cookware toCookware q = refl
-own_only cookware toStep q = no_truth q
-own_only cookware toSection q = no_truth q
+own_only cookware to_cookware q = refl
+own_only cookware to_step q = no_truth q
+own_only cookware to_section q = no_truth q
 
 pub refers_own_lem : (k : Kind) (d : ℕ) → refers_own k d (reference (target_of k) d) ≡ true
 unfolding refers_own
@@ -338,7 +338,7 @@ pushed_linked k m es h l = go h refl
 elsewhere : (t : IntermediateTarget) → is_own ingredient (intermediate_target t) ≡ false
 unfolding is_own intermediate_target
 elsewhere target_step = refl
-elsewhere targetSection = refl
+elsewhere target_section = refl
 
 made_intermediate_lem : (es : List Entry) (i : Intermediate) (b : Bool) (o : Option ℕ) → MadeLinked ingredient es (intermediate_relation i (definition b []) o) none
 unfolding intermediate_relation

@@ -8,7 +8,7 @@ use native.Mathlib.Omega.{arith}
 use Rattle.rules.specs.Basic.{codes, eq_list, when, on_some, each, word_in}
 use Rattle.rules.specs.Utf8.{is_utf8, encode}
 use Rattle.rules.specs.Sheet.{escape_char, escape}
-use Rattle.rules.specs.Words.{EventWord, meta_word, sectionWord, startWord, end_word, textWord, ingredientWord, cookwareWord, timerWord, errorWord, warningWord, event_words, textKind}
+use Rattle.rules.specs.Words.{EventWord, meta_word, section_word, start_word, end_word, text_word, ingredient_word, cookware_word, timer_word, error_word, warning_word, event_words, text_kind}
 use Rattle.rules.specs.Event.{Span, Text, Modifiers, Component, Intermediate, ComponentEvent, ingredient_event, cookware_event, timer_event, start_event, end_event, text_event, component_event, Event, between, inside, component_span}
 use Rattle.rules.specs.Read.{Fields, go_on, ◌>>=◌, give, saying, opt, field, no_more, read_span, content_of, read_content, read_text, word, read_component, read_intermediate, read_text_line, read_ingredient, read_cookware, read_after, read_event, parse_line}
 use Rattle.rules.specs.Write.{opt_fields, span_fields, text_fields, quantity_fields, or_point, modifiers_field, named_fields, intermediate_fields, component_fields, event_fields}
@@ -34,15 +34,15 @@ Readable e = parse_line (line_text e) ≡ some e
 word_reads : (w : EventWord) → word_in (escape (word_field w)) event_words ≡ some w
 unfolding word_in eq_list escape escape_char
 word_reads meta_word = refl
-word_reads sectionWord = refl
-word_reads startWord = refl
+word_reads section_word = refl
+word_reads start_word = refl
 word_reads end_word = refl
-word_reads textWord = refl
-word_reads ingredientWord = refl
-word_reads cookwareWord = refl
-word_reads timerWord = refl
-word_reads errorWord = refl
-word_reads warningWord = refl
+word_reads text_word = refl
+word_reads ingredient_word = refl
+word_reads cookware_word = refl
+word_reads timer_word = refl
+word_reads error_word = refl
+word_reads warning_word = refl
 
 -- a line by its word and the reader after it
 line_reads : (w : EventWord) (fs : Fields) (e : Event) → Back (read_after w) fs e → read_event (escape (word_field w) ∷ fs) ≡ some (e, [])
@@ -107,7 +107,7 @@ module _ (c : Component) where
       (good_more w (subst Good (sym (raw_both (named_fields (mark_ref c)) (opt_fields intermediate_fields i)))
       (good_both (marked_good c (good_left _ _ (subst Good (raw_both (named_fields c) (opt_fields intermediate_fields i)) g)))
       (good_right (raw (named_fields c)) _ (subst Good (raw_both (named_fields c) (opt_fields intermediate_fields i)) g)))))
-      (line_reads ingredientWord _ _ back)
+      (line_reads ingredient_word _ _ back)
     where
       back : Back read_ingredient (raw (named_fields (mark_ref c) ++ opt_fields intermediate_fields i)) (inside (component_event (ingredient_event (mark_ref c) i)))
       back =
@@ -121,7 +121,7 @@ module _ (c : Component) where
   pub cookware_marked : GoodParts (cookware_event c) → Good (raw (component_fields (cookware_event c))) → Readable (inside (component_event (cookware_event (mark_ref c))))
   unfolding event_fields component_fields each read_after read_cookware
   cookware_marked h (good_more w g) =
-      parse_by _ (escape (codes "cookware")) (raw (named_fields (mark_ref c))) _ refl (good_more w (marked_good c g)) (line_reads cookwareWord _ _ back)
+      parse_by _ (escape (codes "cookware")) (raw (named_fields (mark_ref c))) _ refl (good_more w (marked_good c g)) (line_reads cookware_word _ _ back)
     where
       back : Back read_cookware (raw (named_fields (mark_ref c))) (inside (component_event (cookware_event (mark_ref c))))
       back =
@@ -149,8 +149,8 @@ span_good (ingredient_event c i) (good_more w (good_more a (good_more b g))) = g
 span_good (cookware_event c) (good_more w (good_more a (good_more b g))) = good_more a (good_more b good_none)
 span_good (timer_event s n q) (good_more w (good_more a (good_more b g))) = good_more a (good_more b good_none)
 
-text_word : GoodField (escape (codes "text"))
-text_word =
+text_word_lem : GoodField (escape (codes "text"))
+text_word_lem =
     record {
       utf8 = utf8_escape (codes "text") (utf8_ascii 116 _ (omega arith) ∙ utf8_ascii 101 _ (omega arith) ∙ utf8_ascii 120 _ (omega arith)
           ∙ utf8_ascii 116 _ (omega arith) ∙ utf8_none);
@@ -163,9 +163,9 @@ pub text_readable : (s : Span) (cs : List ℕ) → Back read_span (raw (span_fie
 unfolding event_fields text_fields each read_after read_text_line
 text_readable s cs b g h =
     parse_by _ (escape (codes "text")) (raw (span_fields s ++ (encode cs ∷ []))) _ refl
-    (good_more text_word
+    (good_more text_word_lem
     (subst Good (sym (raw_both (span_fields s) (encode cs ∷ []))) (good_both g (good_more said good_none))))
-    (line_reads textWord _ _ back)
+    (line_reads text_word _ _ back)
   where
     said : GoodField (escape (encode cs))
     said = record { utf8 = utf8_escape (encode cs) (utf8_encode h); no_tab_lem = escape_no_tab (encode cs); no_lf_lem = escape_no_lf (encode cs) }
@@ -189,10 +189,10 @@ source_readable text c h g = text_readable (component_span c) _ (span_of c h) (s
 
 -- ---- the two lines of a text block
 
-pub start_readable : Readable (between (start_event textKind))
+pub start_readable : Readable (between (start_event text_kind))
 unfolding evaluate
 start_readable = refl
 
-pub end_readable : Readable (inside (end_event textKind))
+pub end_readable : Readable (inside (end_event text_kind))
 unfolding evaluate
 end_readable = refl

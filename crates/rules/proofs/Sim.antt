@@ -5,7 +5,7 @@ use mathlib.Core.List.{List, [], ◌∷◌}
 use mathlib.Core.Bool.{Bool, true, false, ◌&&◌}
 use mathlib.Core.Option.{Option, none, some}
 use Rattle.rules.specs.Basic.{pick}
-use Rattle.rules.specs.Words.{BlockKind, step_kind, textKind, mild, define_key, duplicateKey, DefineMode, mode_all, modeComponents, modeSteps, modeText, DuplicateMode}
+use Rattle.rules.specs.Words.{BlockKind, step_kind, text_kind, mild, define_key, duplicate_key, DefineMode, mode_all, mode_components, mode_steps, mode_text, DuplicateMode}
 use Rattle.rules.specs.Event.{Text, Between, meta_event, section_event, start_event, end_event, text_event, Event, between, inside, parser_event}
 use Rattle.rules.specs.Units.{NamedUnit}
 use Rattle.rules.specs.Modes.{first_modes, is_components, is_text, has_modes, key_text, Key, config, unknown_config, ordinary, key_of}
@@ -74,13 +74,13 @@ module _ (text : List ℕ) (units : List NamedUnit) (flags : ℕ) where
     start_sim : (d : DefineMode) (kind : BlockKind) → S d no_block (between (start_event kind)) (plain_between flags (M d no_block) (start_event kind))
     unfolding on_event on_between is_open set_place set_block opened is_error_event first_modes plain_between unless_listed is_text is_components
     start_sim mode_all step_kind = goes fs' refl refl
-    start_sim modeSteps step_kind = goes fs' refl refl
-    start_sim modeComponents step_kind = skips fs' refl
-    start_sim modeText step_kind = goes fs' refl refl
-    start_sim mode_all textKind = goes fs' refl refl
-    start_sim modeSteps textKind = goes fs' refl refl
-    start_sim modeComponents textKind = goes fs' refl refl
-    start_sim modeText textKind = goes fs' refl refl
+    start_sim mode_steps step_kind = goes fs' refl refl
+    start_sim mode_components step_kind = skips fs' refl
+    start_sim mode_text step_kind = goes fs' refl refl
+    start_sim mode_all text_kind = goes fs' refl refl
+    start_sim mode_steps text_kind = goes fs' refl refl
+    start_sim mode_components text_kind = goes fs' refl refl
+    start_sim mode_text text_kind = goes fs' refl refl
 
     define_sim : (d : DefineMode) (a b : Text) (w : Option DefineMode) → Sim text units flags (F d no_block) (next (on_define a b w (M d no_block))) []
     unfolding on_define set_modes report first_modes
@@ -99,7 +99,7 @@ module _ (text : List ℕ) (units : List NamedUnit) (flags : ℕ) where
         → Sim text units flags (F d no_block) (next (on_key (pick h key ordinary) a b (M d no_block))) (pick (h && is_mode_key key) [] (between (meta_event a b) ∷ []))
     unfolding on_key on_event on_between is_open on_metadata set_modes set_metadata store_meta report is_error_event first_modes is_mode_key
     key_sim d a b true (config define_key) eh ek = define_sim d a b _
-    key_sim d a b true (config duplicateKey) eh ek = duplicate_sim d a b _
+    key_sim d a b true (config duplicate_key) eh ek = duplicate_sim d a b _
     key_sim d a b true unknown_config eh ek =
         let q : pick (has_modes flags) (key_of (key_text a)) ordinary ≡ unknown_config = rw (eh, ek) in goes _ refl (ap (kept_line d a b) q)
     key_sim d a b true ordinary eh ek =
@@ -127,21 +127,21 @@ module _ (text : List ℕ) (units : List NamedUnit) (flags : ℕ) where
     unfolding on_event on_inside in_step_block in_text_block in_text_mode close_text close_step keep_block set_place set_kept set_block is_error_event first_modes plain_inside in_plain_step in_plain_text unless_listed is_components
     end_sim d no_block kind = stopped
     end_sim mode_all (step_open is) step_kind = goes fs' refl refl
-    end_sim modeSteps (step_open is) step_kind = goes fs' refl refl
-    end_sim modeComponents (step_open is) step_kind = skips fs' refl
-    end_sim modeText (step_open is) step_kind = goes fs' refl refl
-    end_sim d (step_open is) textKind = stopped
+    end_sim mode_steps (step_open is) step_kind = goes fs' refl refl
+    end_sim mode_components (step_open is) step_kind = skips fs' refl
+    end_sim mode_text (step_open is) step_kind = goes fs' refl refl
+    end_sim d (step_open is) text_kind = stopped
     end_sim d (text_open ts) step_kind = stopped
-    end_sim d (text_open ts) textKind = goes fs' refl refl
+    end_sim d (text_open ts) text_kind = goes fs' refl refl
     end_sim d (text_mode_open ts) kind = goes fs' refl refl
 
     pub text_sim : (d : DefineMode) (o : Open) (x : Text) → S d o (inside (text_event x)) (plain_inside text units flags (M d o) (text_event x) o)
     unfolding on_event on_inside in_step_block in_text_block in_text_mode text_in_step push_pieces push_items set_inline report set_place set_kept set_tables set_block is_error_event first_modes plain_inside in_plain_step in_plain_text unless_listed is_components
     text_sim d no_block x = stopped
     text_sim mode_all (step_open is) x = goes fs' refl refl
-    text_sim modeSteps (step_open is) x = goes fs' refl refl
-    text_sim modeComponents (step_open is) x = skips fs' refl
-    text_sim modeText (step_open is) x = goes fs' refl refl
+    text_sim mode_steps (step_open is) x = goes fs' refl refl
+    text_sim mode_components (step_open is) x = skips fs' refl
+    text_sim mode_text (step_open is) x = goes fs' refl refl
     text_sim d (text_open ts) x = goes fs' refl refl
     text_sim d (text_mode_open ts) x = goes fs' refl refl
 

@@ -7,7 +7,7 @@ use mathlib.Core.Bool.{Bool, true, false, not}
 use mathlib.Core.Option.{Option, none, some}
 use lib.Dec.{eqb}
 use Rattle.rules.specs.Basic.{pick}
-use Rattle.rules.specs.Words.{step_kind, textKind, define_key, duplicateKey, DefineMode, DuplicateMode}
+use Rattle.rules.specs.Words.{step_kind, text_kind, define_key, duplicate_key, DefineMode, DuplicateMode}
 use Rattle.rules.specs.Event.{Text, Component, Intermediate, ComponentEvent, ingredient_event, cookware_event, timer_event, Between, meta_event, section_event, start_event, Inside, end_event, text_event, component_event, Event, between, inside, parser_event}
 use Rattle.rules.specs.Units.{NamedUnit}
 use Rattle.rules.specs.Modes.{is_components, Key, config, unknown_config, ordinary}
@@ -49,7 +49,7 @@ duplicate_same k v (some m) st = (refl, refl)
 key_same : (key : Key) (k v : Text) (st : State) → SameTables st (on_key key k v st)
 unfolding on_key store_meta set_metadata report
 key_same (config define_key) k v st = define_same k v _ st
-key_same (config duplicateKey) k v st = duplicate_same k v _ st
+key_same (config duplicate_key) k v st = duplicate_same k v _ st
 key_same unknown_config k v st = (refl, refl)
 key_same ordinary k v st = (refl, refl)
 
@@ -96,7 +96,7 @@ module _ (text : List ℕ) (units : List NamedUnit) (flags : ℕ) (st : State) w
   in_step_tables : (e : Inside) (is : List Item) → T (in_step_block units flags e is st)
   unfolding in_step_block close_step keep_block text_in_step push_pieces push_items set_inline report set_block set_place set_kept set_tables
   in_step_tables (end_event step_kind) is = tables_kept (pick_either (SameTables st) (is_components st.modes.define) _ _ (λ b. (refl, refl)) (λ b. (refl, refl)))
-  in_step_tables (end_event textKind) is = line_stops refl
+  in_step_tables (end_event text_kind) is = line_stops refl
   in_step_tables (text_event t) is = tables_kept (pick_either (SameTables st) (is_components st.modes.define) _ _ (λ b. (refl, refl)) (λ b. (refl, refl)))
   in_step_tables (component_event c) is = component_tables c is
 
@@ -107,7 +107,7 @@ module _ (text : List ℕ) (units : List NamedUnit) (flags : ℕ) (st : State) w
   inside_tables e no_block = line_stops refl
   inside_tables e (step_open is) = in_step_tables e is
   inside_tables (end_event step_kind) (text_open ts) = line_stops refl
-  inside_tables (end_event textKind) (text_open ts) = tables_kept (refl, refl)
+  inside_tables (end_event text_kind) (text_open ts) = tables_kept (refl, refl)
   inside_tables (text_event t) (text_open ts) = tables_kept (refl, refl)
   inside_tables (component_event c) (text_open ts) = line_stops refl
   inside_tables (end_event k) (text_mode_open ts) = tables_kept (refl, refl)

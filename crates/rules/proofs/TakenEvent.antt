@@ -9,7 +9,7 @@ use lib.Dec.{eqb}
 use borrow.Author.Tests.{eqb-true}
 use Rattle.rules.specs.Basic.{pick, codes, minus, when, each, decimal}
 use Rattle.rules.specs.Sheet.{escape_char, escape, number_up_to, Signed, signed_as, signed_of}
-use Rattle.rules.specs.Words.{EventWord, meta_word, sectionWord, startWord, end_word, textWord, ingredientWord, cookwareWord, timerWord, errorWord, warningWord, event_words, BlockKind, block_kinds, references, IntermediateTarget, targets, Severity, severe, mild}
+use Rattle.rules.specs.Words.{EventWord, meta_word, section_word, start_word, end_word, text_word, ingredient_word, cookware_word, timer_word, error_word, warning_word, event_words, BlockKind, block_kinds, references, IntermediateTarget, targets, Severity, severe, mild}
 use Rattle.rules.specs.Event.{Span, Text, Quantity, Intermediate, ComponentEvent, ingredient_event, cookware_event, timer_event, Inside, end_event, text_event, component_event, Event, between, inside, parser_event}
 use Rattle.rules.specs.Read.{Fields, opt, read_number, read_span, read_text, word, read_quantity, read_component, read_signed, read_intermediate, read_meta, read_section, read_start, read_end, read_text_line, read_ingredient, read_cookware, read_timer, read_finding, read_after}
 use Rattle.rules.specs.Write.{opt_fields, span_fields, text_fields, quantity_fields, named_fields, signed_field, target_field, intermediate_fields, block_kind_field, component_fields, event_fields}
@@ -205,15 +205,15 @@ gives_finding s =
 
 abbrev pub word_field : EventWord → List ℕ
 word_field meta_word = codes "meta"
-word_field sectionWord = codes "section"
-word_field startWord = codes "start"
+word_field section_word = codes "section"
+word_field start_word = codes "start"
 word_field end_word = codes "end"
-word_field textWord = codes "text"
-word_field ingredientWord = codes "ingredient"
-word_field cookwareWord = codes "cookware"
-word_field timerWord = codes "timer"
-word_field errorWord = codes "error"
-word_field warningWord = codes "warning"
+word_field text_word = codes "text"
+word_field ingredient_word = codes "ingredient"
+word_field cookware_word = codes "cookware"
+word_field timer_word = codes "timer"
+word_field error_word = codes "error"
+word_field warning_word = codes "warning"
 
 abbrev pub word_fields : EventWord → Fields
 word_fields w = word_field w ∷ []
@@ -226,12 +226,12 @@ gives_event_word =
 pub gives_after : (w : EventWord) → Gives (read_after w) (TakenEvent (word_field w))
 unfolding read_after severity_field
 gives_after meta_word = gives_meta
-gives_after sectionWord = gives_section
-gives_after startWord = gives_start
+gives_after section_word = gives_section
+gives_after start_word = gives_start
 gives_after end_word = gives_end
-gives_after textWord = gives_line
-gives_after ingredientWord = gives_ingredient
-gives_after cookwareWord = gives_cookware
-gives_after timerWord = gives_timer
-gives_after errorWord = gives_finding severe
-gives_after warningWord = gives_finding mild
+gives_after text_word = gives_line
+gives_after ingredient_word = gives_ingredient
+gives_after cookware_word = gives_cookware
+gives_after timer_word = gives_timer
+gives_after error_word = gives_finding severe
+gives_after warning_word = gives_finding mild

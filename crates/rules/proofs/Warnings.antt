@@ -3,7 +3,7 @@ use Prim.Native.Nat.{ℕ, suc}
 use mathlib.Core.Path.{◌≡◌, refl, sym, ap, ◌∙◌}
 use mathlib.Core.List.{List, [], ◌∷◌, ◌++◌}
 use mathlib.Core.Bool.{◌&&◌}
-use Rattle.rules.specs.Words.{step_kind, textKind}
+use Rattle.rules.specs.Words.{step_kind, text_kind}
 use Rattle.rules.specs.Event.{Between, meta_event, section_event, start_event, Inside, Event, between, inside, parser_event}
 use Rattle.rules.specs.Units.{NamedUnit}
 use Rattle.rules.specs.Modes.{is_components, is_text, has_modes, key_text, key_of}
@@ -28,7 +28,7 @@ module _ (text : List ℕ) (units : List NamedUnit) (flags : ℕ) where
   unfolding plain_between unless_listed
   between_parser st (meta_event k v) = pick_either NoParser (has_modes flags && is_mode_key (key_of (key_text k))) _ _ (λ b. refl) (λ b. refl)
   between_parser st (section_event n) = refl
-  between_parser st (start_event textKind) = refl
+  between_parser st (start_event text_kind) = refl
   between_parser st (start_event step_kind) =
       pick_either NoParser (is_text st.modes.define) _ _ (λ b. refl) (λ b. pick_either NoParser (is_components st.modes.define) _ _ (λ c. refl) (λ c. refl))
 

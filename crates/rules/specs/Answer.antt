@@ -27,10 +27,10 @@ unfoldable pub with_event : Event → Reading → Reading
 with_event e (events es) = events (e ∷ es)
 with_event e (unread n l) = unread n l
 
-module _ (text : List ℕ) (textLength : ℕ) where
+module _ (text : List ℕ) (text_length : ℕ) where
   unfoldable pub is_good_span : Span → Bool
   is_good_span s =
-      leb s.start s.end && leb s.end textLength && not (is_inside text s.start) && not (is_inside text s.end)
+      leb s.start s.end && leb s.end text_length && not (is_inside text s.start) && not (is_inside text s.end)
 
   unfoldable pub read_line : ℕ → Option Event → Reading → Reading
   read_line line none rest = unread 8 line

@@ -2,11 +2,11 @@
 use Rattle.std.specs.Prelude.{ℕ, zero, suc, ◌+◌, ◌-◌, List, [], ◌∷◌, ◌++◌, reverse, Bool, true, false, ◌||◌, not, eqb, length}
 use Rattle.std.proofs.Math.Option.{Option, none, some}
 use Rattle.rules.specs.Basic.{pick, eq_list, when}
-use Rattle.rules.specs.Words.{IntermediateTarget, target_step, targetSection}
+use Rattle.rules.specs.Words.{IntermediateTarget, target_step, target_section}
 use Rattle.rules.specs.Event.{Span, Text, Quantity, Component, Intermediate}
 use Rattle.rules.specs.Units.{NamedUnit, PhysicalQuantity, find_unit, same_physical}
 use Rattle.rules.specs.Finding.{Finding, diag, found, found_two}
-use Rattle.rules.specs.Model.{Amount, is_textual, Target, toStep, toSection, Relation, definition, reference, Source, Entry, Block, step_block, text_block}
+use Rattle.rules.specs.Model.{Amount, is_textual, Target, to_step, to_section, Relation, definition, reference, Source, Entry, Block, step_block, text_block}
 use Rattle.rules.specs.Reference.{Earlier, entry_at, referrers}
 
 -- ---- units: 15 unit missing, 16 quantities differ, 17 unknown units differ
@@ -75,7 +75,7 @@ note_check implicit (some n) d = found_two 18 (widened n.span) (note_place d.spa
 -- ---- 19 conflicting quantity: `conflicting_reference_quantity_error`; 20 text value: `text_val_in_ref_warn`
 
 unfoldable pub is_defined_in_step : Relation → Bool
-is_defined_in_step (definition inStep by) = inStep
+is_defined_in_step (definition in_step by) = in_step
 is_defined_in_step (reference t j) = true
 
 unfoldable pub quantity_span : Source → Option Quantity → Span
@@ -116,7 +116,7 @@ section_indices (suc n) = n ∷ section_indices n
 
 unfoldable pub candidates : IntermediateTarget → List Block → ℕ → List ℕ
 candidates target_step blocks sections = step_indices blocks
-candidates targetSection blocks sections = section_indices sections
+candidates target_section blocks sections = section_indices sections
 
 -- the k-th of a list from 1, where it has so many
 unfoldable pub nth : ℕ → List ℕ → Option ℕ
@@ -143,8 +143,8 @@ intermediate_findings i none = found (pick (eqb i.value.size 0) 8 9) i.span ∷ 
 
 -- the relation, which stays a definition where nothing was chosen
 unfoldable pub intermediate_target : IntermediateTarget → Target
-intermediate_target target_step = toStep
-intermediate_target targetSection = toSection
+intermediate_target target_step = to_step
+intermediate_target target_section = to_section
 
 unfoldable pub intermediate_relation : Intermediate → Relation → Option ℕ → Relation
 intermediate_relation i r none = r

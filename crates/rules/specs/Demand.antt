@@ -4,7 +4,7 @@ use Rattle.std.specs.Prelude.{ℕ, List, [], ◌∷◌, Bool, true, false, ◌&&
 use Rattle.std.proofs.Math.Option.{Option, none, some}
 use Rattle.rules.specs.Basic.{pick, eq_list, any, is_some, word_in}
 use Rattle.rules.specs.Unicode.{fold_name}
-use Rattle.rules.specs.Words.{DefineMode, DuplicateMode, define_words, duplicate_words, ConfigKey, define_key, duplicateKey, config_keys}
+use Rattle.rules.specs.Words.{DefineMode, DuplicateMode, define_words, duplicate_words, ConfigKey, define_key, duplicate_key, config_keys}
 use Rattle.rules.specs.Event.{Component, Event, Inside, meta_event, section_event, start_event, end_event, text_event, component_event, ComponentEvent, ingredient_event, cookware_event, timer_event, between, inside, parser_event}
 use Rattle.rules.specs.Model.{Kind, ingredient, cookware, entry_of}
 use Rattle.rules.specs.Modes.{first_modes, is_steps, is_text, is_reference, has_modes, key_text, value_text}
@@ -67,12 +67,12 @@ value_of (parser_event s n) = []
 unfoldable pub defines_by : Option ConfigKey → List ℕ → Option DefineMode
 defines_by none v = none
 defines_by (some define_key) v = word_in v define_words
-defines_by (some duplicateKey) v = none
+defines_by (some duplicate_key) v = none
 
 unfoldable pub duplicates_by : Option ConfigKey → List ℕ → Option DuplicateMode
 duplicates_by none v = none
 duplicates_by (some define_key) v = none
-duplicates_by (some duplicateKey) v = word_in v duplicate_words
+duplicates_by (some duplicate_key) v = word_in v duplicate_words
 
 module _ {A : Type 0} where
   unfoldable pub or_else : Option A → A → A

@@ -93,9 +93,9 @@ module _ (units : List NamedUnit) where
 
   -- the word from its first digit on
   unfoldable pub digit_word : List ℕ → List ℕ → List ℕ → List ℕ → Turn
-  digit_word text lead fromDigit passed =
-      pick (is_empty fromDigit) (record { found = []; now = looking passed })
-      (number_word (text ++ without_sign lead) (sign lead ++ front is_digit_or_point fromDigit) (behind is_digit_or_point fromDigit) passed)
+  digit_word text lead from_digit passed =
+      pick (is_empty from_digit) (record { found = []; now = looking passed })
+      (number_word (text ++ without_sign lead) (sign lead ++ front is_digit_or_point from_digit) (behind is_digit_or_point from_digit) passed)
 
   unfoldable pub turn : Looking → List ℕ → List ℕ → Turn
   turn (looking text) b w = digit_word (text ++ b) (front is_no_digit w) (behind is_no_digit w) (text ++ b ++ w)

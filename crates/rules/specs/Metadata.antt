@@ -2,7 +2,7 @@
 use Rattle.std.specs.Prelude.{ℕ, List, [], ◌∷◌, reverse, Bool, false}
 use Rattle.std.proofs.Math.Option.{Option, none, some}
 use Rattle.rules.specs.Basic.{pick, eq_list, any, each, word_in}
-use Rattle.rules.specs.Words.{DefineMode, DuplicateMode, define_words, duplicate_words, define_key, duplicateKey}
+use Rattle.rules.specs.Words.{DefineMode, DuplicateMode, define_words, duplicate_words, define_key, duplicate_key}
 use Rattle.rules.specs.Event.{Span, Text}
 use Rattle.rules.specs.Finding.{Finding, diag, found, found_two}
 use Rattle.rules.specs.Model.{MetaEntry}
@@ -39,7 +39,7 @@ on_duplicate key value (some m) st = set_modes (record { define = st.modes.defin
 -- 2, config key: an unknown one is kept in the map; any other `meta` line counts for 3
 unfoldable pub on_key : Key → Text → Text → State → State
 on_key (config define_key) k v st = on_define k v (word_in (value_text v) define_words) st
-on_key (config duplicateKey) k v st = on_duplicate k v (word_in (value_text v) duplicate_words) st
+on_key (config duplicate_key) k v st = on_duplicate k v (word_in (value_text v) duplicate_words) st
 on_key unknown_config k v st = report (found 2 k.span ∷ []) (store_meta (key_text k) (value_text v) st.metadata.old st)
 on_key ordinary k v st =
     store_meta (key_text k) (value_text v) (record { start = k.span.start; end = v.span.end } ∷ st.metadata.old) st

@@ -53,8 +53,8 @@ trimmed_text t = text_trimmed t.content
 
 -- `quantity` and `value`: only an ingredient's number or range without lock is scalable
 unfoldable pub amount_of : Bool → Quantity → Amount
-amount_of ofIngredient q =
-    record { kind = q.kind; value = q.value; unit = on_some trimmed_text q.unit; scalable = ofIngredient && not (is_textual q.kind) && not q.lock }
+amount_of of_ingredient q =
+    record { kind = q.kind; value = q.value; unit = on_some trimmed_text q.unit; scalable = of_ingredient && not (is_textual q.kind) && not q.lock }
 
 -- ---- `parse_reference`: the path of a name, and the name after it
 
@@ -93,11 +93,11 @@ parse_reference n = pick (is_path n) (reference_parts (split_at slash (each as_s
 
 -- `IngredientReferenceTarget`; a cookware's reference is always to cookware
 pub data Target : Type 0 where
-  to_ingredient toCookware toStep toSection : Target
+  to_ingredient to_cookware to_step to_section : Target
 
 unfoldable pub target_of : Kind → Target
 target_of ingredient = to_ingredient
-target_of cookware = toCookware
+target_of cookware = to_cookware
 
 -- `ComponentRelation`, `IngredientRelation`
 pub data Relation : Type 0 where
@@ -135,7 +135,7 @@ pub record InlineQuantity : Type 0 where
 
 pub data Item : Type 0 where
   text_item : List ℕ → Item
-  ingredient_item cookwareItem timerItem inlineItem : ℕ → Item
+  ingredient_item cookware_item timer_item inline_item : ℕ → Item
 
 pub data Block : Type 0 where
   -- its number and its items, newest first
@@ -168,7 +168,7 @@ unfoldable pub source_of : Component → Source
 source_of c = record { span = c.span; quantity = c.quantity; note = c.note; modifiers_span = c.modifiers_span }
 
 unfoldable pub entry_with : Kind → Bool → Component → Option RecipeReference → Entry
-entry_with k inStep c r =
+entry_with k in_step c r =
     record {
       name = name_of (trimmed_text c.name) r;
       path = path_of r;
@@ -176,12 +176,12 @@ entry_with k inStep c r =
       quantity = on_some (amount_of (is_ingredient k)) c.quantity;
       note = on_some trimmed_text c.note;
       modifiers = c.modifiers;
-      relation = definition inStep [];
+      relation = definition in_step [];
       source = source_of c;
     }
 
 unfoldable pub entry_of : Kind → Bool → Component → Entry
-entry_of k inStep c = entry_with k inStep c (reference_in k (trimmed_text c.name))
+entry_of k in_step c = entry_with k in_step c (reference_in k (trimmed_text c.name))
 
 -- the same entry with another relation, and with other modifiers
 unfoldable pub set_relation : Relation → Entry → Entry

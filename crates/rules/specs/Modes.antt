@@ -3,7 +3,7 @@ use Rattle.std.specs.Prelude.{ℕ, ◌/◌, ◌%◌, List, [], ◌∷◌, Bool, 
 use Rattle.std.proofs.Math.Option.{Option, none, some}
 use Rattle.rules.specs.Basic.{pick, word_in}
 use Rattle.rules.specs.Text.{text_trimmed, text_outer_trimmed}
-use Rattle.rules.specs.Words.{DefineMode, mode_all, modeComponents, modeSteps, modeText, DuplicateMode, duplicate_new, duplicateReference, ConfigKey, config_keys}
+use Rattle.rules.specs.Words.{DefineMode, mode_all, mode_components, mode_steps, mode_text, DuplicateMode, duplicate_new, duplicate_reference, ConfigKey, config_keys}
 use Rattle.rules.specs.Event.{Text}
 
 pub record Modes : Type 0 where
@@ -16,25 +16,25 @@ first_modes = record { define = mode_all; duplicate = duplicate_new }
 
 unfoldable pub is_components : DefineMode → Bool
 is_components mode_all = false
-is_components modeComponents = true
-is_components modeSteps = false
-is_components modeText = false
+is_components mode_components = true
+is_components mode_steps = false
+is_components mode_text = false
 
 unfoldable pub is_steps : DefineMode → Bool
 is_steps mode_all = false
-is_steps modeComponents = false
-is_steps modeSteps = true
-is_steps modeText = false
+is_steps mode_components = false
+is_steps mode_steps = true
+is_steps mode_text = false
 
 unfoldable pub is_text : DefineMode → Bool
 is_text mode_all = false
-is_text modeComponents = false
-is_text modeSteps = false
-is_text modeText = true
+is_text mode_components = false
+is_text mode_steps = false
+is_text mode_text = true
 
 unfoldable pub is_reference : DuplicateMode → Bool
 is_reference duplicate_new = false
-is_reference duplicateReference = true
+is_reference duplicate_reference = true
 
 -- "Flags: 1 MODES, 2 INLINE_QUANTITIES, 4 ADVANCED_UNITS, added."
 unfoldable pub has_modes : ℕ → Bool

@@ -9,7 +9,7 @@ use Rattle.rules.specs.Event.{Span}
 use Rattle.rules.specs.Read.{Fields}
 use Rattle.rules.specs.Write.{kind_field, modifiers_field}
 use Rattle.rules.specs.Finding.{Finding, diag, parsed, is_error}
-use Rattle.rules.specs.Model.{Amount, Target, to_ingredient, toCookware, toStep, toSection, Relation, definition, reference, Entry, Timer, InlineQuantity, Item, text_item, ingredient_item, cookwareItem, timerItem, inlineItem, Block, step_block, text_block, Section, MetaEntry}
+use Rattle.rules.specs.Model.{Amount, Target, to_ingredient, to_cookware, to_step, to_section, Relation, definition, reference, Entry, Timer, InlineQuantity, Item, text_item, ingredient_item, cookware_item, timer_item, inline_item, Block, step_block, text_block, Section, MetaEntry}
 use Rattle.rules.specs.State.{State}
 
 -- the lines of a table that has the newest first, oldest first, before the lines `rest`;
@@ -41,13 +41,13 @@ or_minus (c ∷ s) = c ∷ s
 
 unfoldable pub target_word : Target → List ℕ
 target_word to_ingredient = codes "ingredient"
-target_word toCookware = codes "cookware"
-target_word toStep = codes "step"
-target_word toSection = codes "section"
+target_word to_cookware = codes "cookware"
+target_word to_step = codes "step"
+target_word to_section = codes "section"
 
 unfoldable pub relation_fields : Relation → Fields
-relation_fields (definition inStep by) =
-    codes "def" ∷ pick inStep (codes "step") (codes "list") ∷ or_minus (join_by comma (each decimal (reverse by))) ∷ []
+relation_fields (definition in_step by) =
+    codes "def" ∷ pick in_step (codes "step") (codes "list") ∷ or_minus (join_by comma (each decimal (reverse by))) ∷ []
 relation_fields (reference t i) = codes "ref" ∷ target_word t ∷ decimal i ∷ []
 
 -- ---- the lines, in the page's order
@@ -58,9 +58,9 @@ meta_line i m = line_of (codes "meta" ∷ encode m.key ∷ encode m.value ∷ []
 unfoldable pub item_fields : Item → Fields
 item_fields (text_item t) = codes "text" ∷ encode t ∷ []
 item_fields (ingredient_item i) = codes "ingredient" ∷ decimal i ∷ []
-item_fields (cookwareItem i) = codes "cookware" ∷ decimal i ∷ []
-item_fields (timerItem i) = codes "timer" ∷ decimal i ∷ []
-item_fields (inlineItem i) = codes "inline" ∷ decimal i ∷ []
+item_fields (cookware_item i) = codes "cookware" ∷ decimal i ∷ []
+item_fields (timer_item i) = codes "timer" ∷ decimal i ∷ []
+item_fields (inline_item i) = codes "inline" ∷ decimal i ∷ []
 
 unfoldable pub item_line : ℕ → Item → List ℕ
 item_line k i = line_of (codes "item" ∷ item_fields i)

@@ -5,12 +5,12 @@ use Rattle.std.proofs.Math.Option.{Option, none, some}
 use Rattle.rules.specs.Basic.{pick, is_empty, is_some, when, any, concat, on_some}
 use Rattle.rules.specs.Unicode.{is_alphanumeric}
 use Rattle.rules.specs.Utf8.{chars}
-use Rattle.rules.specs.Words.{BlockKind, step_kind, textKind, DefineMode, severe, mild}
+use Rattle.rules.specs.Words.{BlockKind, step_kind, text_kind, DefineMode, severe, mild}
 use Rattle.rules.specs.Event.{Span, Text, Quantity, Event, Between, meta_event, section_event, start_event, Inside, end_event, text_event, component_event, ComponentEvent, ingredient_event, cookware_event, timer_event, between, inside, parser_event, component_span}
 use Rattle.rules.specs.Units.{NamedUnit}
 use Rattle.rules.specs.Inline.{Piece, text_piece, quantity_piece, inline_pieces}
 use Rattle.rules.specs.Finding.{Finding, parsed, found, only_parsed}
-use Rattle.rules.specs.Model.{Kind, ingredient, cookware, trimmed_text, InlineQuantity, Item, text_item, ingredient_item, cookwareItem, timerItem, inlineItem, Block, step_block, text_block, Section}
+use Rattle.rules.specs.Model.{Kind, ingredient, cookware, trimmed_text, InlineQuantity, Item, text_item, ingredient_item, cookware_item, timer_item, inline_item, Block, step_block, text_block, Section}
 use Rattle.rules.specs.Modes.{is_components, is_text, has_inline}
 use Rattle.rules.specs.State.{Open, State, first_state, set_place, set_kept, table_of, set_table, set_timers, set_inline, report, set_block, over_limits, Step, Walk, Outcome, no_block, step_open, text_open, text_mode_open, next, stop, going, failed, refused, recipe, no_recipe, refusal}
 use Rattle.rules.specs.Metadata.{on_metadata, old_metadata}
@@ -40,7 +40,7 @@ on_section name st =
 
 unfoldable pub opened : DefineMode → BlockKind → Open
 opened mode step_kind = pick (is_text mode) (text_mode_open []) (step_open [])
-opened mode textKind = pick (is_text mode) (text_mode_open []) (text_open [])
+opened mode text_kind = pick (is_text mode) (text_mode_open []) (text_open [])
 
 -- a block closed and kept, and the number of the next step; "a block [counts] at its `end`"
 unfoldable pub keep_block : Block → ℕ → State → State
@@ -77,7 +77,7 @@ push_items new is st =
 unfoldable pub items_of : ℕ → List Piece → List Item
 items_of n [] = []
 items_of n (text_piece t ∷ ps) = text_item t ∷ items_of n ps
-items_of n (quantity_piece a u ∷ ps) = inlineItem n ∷ items_of (suc n) ps
+items_of n (quantity_piece a u ∷ ps) = inline_item n ∷ items_of (suc n) ps
 
 unfoldable pub quantities_of : List Piece → List InlineQuantity
 quantities_of [] = []
@@ -91,7 +91,7 @@ push_pieces ps is st =
 
 unfoldable pub item_of : Kind → ℕ → Item
 item_of ingredient i = ingredient_item i
-item_of cookware i = cookwareItem i
+item_of cookware i = cookware_item i
 
 unfoldable pub push_component : Kind → Made → List Item → State → State
 push_component k m is st =
@@ -122,7 +122,7 @@ module _ (units : List NamedUnit) (flags : ℕ) where
   unfoldable pub push_timer : Option Text → Option Quantity → List Item → State → State
   push_timer name q is st =
       report (timer_findings units flags q)
-      (push_items (timerItem (length st.tables.timers) ∷ []) is (set_timers (timer_of name q ∷ st.tables.timers) st))
+      (push_items (timer_item (length st.tables.timers) ∷ []) is (set_timers (timer_of name q ∷ st.tables.timers) st))
 
   unfoldable pub on_made : Kind → Made → List Item → State → Step
   on_made k m is st = unless_chained m (push_component k m is st)
@@ -135,7 +135,7 @@ module _ (units : List NamedUnit) (flags : ℕ) where
   -- 13 `end` of other kind
   unfoldable pub in_step_block : Inside → List Item → State → Step
   in_step_block (end_event step_kind) is st = next (close_step is st)
-  in_step_block (end_event textKind) is st = stop 13
+  in_step_block (end_event text_kind) is st = stop 13
   in_step_block (text_event t) is st = next (text_in_step t is st)
   in_step_block (component_event c) is st = on_component c is st
 
@@ -144,7 +144,7 @@ module _ (units : List NamedUnit) (flags : ℕ) where
 -- outside text mode: 13, and 14 component in a text block
 unfoldable pub in_text_block : Inside → List (List ℕ) → State → Step
 in_text_block (end_event step_kind) ts st = stop 13
-in_text_block (end_event textKind) ts st = next (close_text ts st)
+in_text_block (end_event text_kind) ts st = next (close_text ts st)
 in_text_block (text_event t) ts st = next (set_block (text_open (t.content ∷ ts)) st)
 in_text_block (component_event c) ts st = stop 14
 

@@ -2,7 +2,7 @@
 use Rattle.std.specs.Prelude.{ℕ, suc, List, [], ◌∷◌, ◌++◌, Bool, true, false, ◌&&◌, eqb}
 use Rattle.std.proofs.Math.Option.{Option, none, some}
 use Rattle.rules.specs.Basic.{pick}
-use Rattle.rules.specs.Words.{step_kind, textKind}
+use Rattle.rules.specs.Words.{step_kind, text_kind}
 use Rattle.rules.specs.Event.{Component, Intermediate, Event, Between, meta_event, section_event, start_event, Inside, end_event, text_event, component_event, ComponentEvent, ingredient_event, cookware_event, timer_event, between, inside, parser_event, component_span}
 use Rattle.rules.specs.Write.{write_line}
 use Rattle.rules.specs.Units.{NamedUnit}
@@ -101,16 +101,16 @@ module _ (flags : ℕ) where
   unfoldable pub plain_between : State → Between → List Event
   plain_between st (meta_event k v) = pick (has_modes flags && is_mode_key (key_of (key_text k))) [] (between (meta_event k v) ∷ [])
   plain_between st (section_event n) = between (section_event n) ∷ []
-  plain_between st (start_event textKind) = between (start_event textKind) ∷ []
+  plain_between st (start_event text_kind) = between (start_event text_kind) ∷ []
   plain_between st (start_event step_kind) =
-      pick (is_text st.modes.define) (between (start_event textKind) ∷ []) (unless_listed st (between (start_event step_kind)))
+      pick (is_text st.modes.define) (between (start_event text_kind) ∷ []) (unless_listed st (between (start_event step_kind)))
 
 -- ---- what each line becomes
 
 module _ (text : List ℕ) where
   -- "text-mode blocks written as `text` blocks with each component replaced by a `text` line of its span and source bytes"
   unfoldable pub in_plain_text : Inside → Inside
-  in_plain_text (end_event k) = end_event textKind
+  in_plain_text (end_event k) = end_event text_kind
   in_plain_text (text_event t) = text_event t
   in_plain_text (component_event c) = text_event (record { span = component_span c; content = source_text text (component_span c) })
 

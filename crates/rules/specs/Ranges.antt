@@ -19,17 +19,17 @@ ascending low [] = true
 ascending low ((a to b) ∷ rs) = ltb low a && leb a b && ascending b rs
 
 -- a line `CODE; STATUS; MAPPING`
-infixl 20 ◌foldsTo◌
+infixl 20 ◌folds_to◌
 pub data FoldLine : Type 0 where
-  ◌foldsTo◌ : ℕ → List ℕ → FoldLine
+  ◌folds_to◌ : ℕ → List ℕ → FoldLine
 
 -- the mapping of the line with the key c, or c itself; keys ascend
 module _ (c : ℕ) where
   unfoldable pub lookup : List FoldLine → List ℕ
   lookup [] = c ∷ []
-  lookup ((k foldsTo m) ∷ ls) = pick (ltb c k) (c ∷ []) (pick (eqb c k) m (lookup ls))
+  lookup ((k folds_to m) ∷ ls) = pick (ltb c k) (c ∷ []) (pick (eqb c k) m (lookup ls))
 
 -- "The folding table is ascending"
 unfoldable pub keys_ascend : ℕ → List FoldLine → Bool
 keys_ascend low [] = true
-keys_ascend low ((k foldsTo m) ∷ ls) = ltb low k && keys_ascend k ls
+keys_ascend low ((k folds_to m) ∷ ls) = ltb low k && keys_ascend k ls

@@ -4,7 +4,7 @@ use Rattle.std.proofs.Math.Option.{Option, none, some}
 use Rattle.rules.specs.Basic.{pick, codes, eq_list, minus, is_empty, on_some, word_in}
 use Rattle.rules.specs.Utf8.{is_utf8, chars}
 use Rattle.rules.specs.Sheet.{number_of, signed_of, Signed, fields_of, unescape}
-use Rattle.rules.specs.Words.{Severity, block_kinds, value_kinds, locks, references, targets, severe, mild, EventWord, event_words, meta_word, sectionWord, startWord, end_word, textWord, ingredientWord, cookwareWord, timerWord, errorWord, warningWord}
+use Rattle.rules.specs.Words.{Severity, block_kinds, value_kinds, locks, references, targets, severe, mild, EventWord, event_words, meta_word, section_word, start_word, end_word, text_word, ingredient_word, cookware_word, timer_word, error_word, warning_word}
 use Rattle.rules.specs.Event.{Span, Text, Quantity, Modifiers, Component, Intermediate, Event, meta_event, section_event, start_event, end_event, text_event, component_event, ingredient_event, cookware_event, timer_event, between, inside, parser_event}
 
 -- ---- a reader takes fields from the left, or finds the line ill-formed
@@ -199,15 +199,15 @@ read_finding s = do
 
 unfoldable pub read_after : EventWord → Reader Event
 read_after meta_word = read_meta
-read_after sectionWord = read_section
-read_after startWord = read_start
+read_after section_word = read_section
+read_after start_word = read_start
 read_after end_word = read_end
-read_after textWord = read_text_line
-read_after ingredientWord = read_ingredient
-read_after cookwareWord = read_cookware
-read_after timerWord = read_timer
-read_after errorWord = read_finding severe
-read_after warningWord = read_finding mild
+read_after text_word = read_text_line
+read_after ingredient_word = read_ingredient
+read_after cookware_word = read_cookware
+read_after timer_word = read_timer
+read_after error_word = read_finding severe
+read_after warning_word = read_finding mild
 
 unfoldable pub read_event : Reader Event
 read_event = do

@@ -20,16 +20,16 @@ eq_bool true b = b
 eq_bool false b = not b
 
 -- "The same-name search takes the last earlier component without REF; without an explicit REF on the new one, OPT must agree too."
-module _ (folded : List ℕ) (anyOpt is_opt : Bool) where
+module _ (folded : List ℕ) (any_opt is_opt : Bool) where
   unfoldable pub fits : Entry → Bool
-  fits e = not e.modifiers.ref && (anyOpt || eq_bool e.modifiers.opt is_opt) && eq_list (fold_name e.name) folded
+  fits e = not e.modifiers.ref && (any_opt || eq_bool e.modifiers.opt is_opt) && eq_list (fold_name e.name) folded
 
   unfoldable pub same_name_in : List Entry → Option Earlier
   same_name_in [] = none
   same_name_in (e ∷ es) = pick (fits e) (some (record { index = length es; entry = e })) (same_name_in es)
 
 unfoldable pub same_name_of : Bool → Entry → List Entry → Option Earlier
-same_name_of anyOpt new table = same_name_in (fold_name new.name) anyOpt new.modifiers.opt table
+same_name_of any_opt new table = same_name_in (fold_name new.name) any_opt new.modifiers.opt table
 
 -- the entry of an index
 module _ (i : ℕ) where
@@ -87,7 +87,7 @@ as_referring k (some d) new =
 -- ---- `set_referenced_from`: the definition at i gets the referrer n
 
 unfoldable pub referred_by : ℕ → Relation → Relation
-referred_by n (definition inStep by) = definition inStep (n ∷ by)
+referred_by n (definition in_step by) = definition in_step (n ∷ by)
 referred_by n (reference t j) = reference t j
 
 module _ (i n : ℕ) where
@@ -96,10 +96,10 @@ module _ (i n : ℕ) where
   set_referenced_from (e ∷ es) = pick (eqb i (length es)) (set_relation (referred_by n e.relation) e ∷ es) (e ∷ set_referenced_from es)
 
 unfoldable pub is_definition : Relation → Bool
-is_definition (definition inStep by) = true
+is_definition (definition in_step by) = true
 is_definition (reference t j) = false
 
 -- the indices that refer to a definition, oldest first
 unfoldable pub referrers : Relation → List ℕ
-referrers (definition inStep by) = reverse by
+referrers (definition in_step by) = reverse by
 referrers (reference t j) = []

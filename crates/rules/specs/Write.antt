@@ -4,7 +4,7 @@ use Rattle.std.proofs.Math.Option.{Option, none, some}
 use Rattle.rules.specs.Basic.{pick, codes, minus, when, decimal}
 use Rattle.rules.specs.Utf8.{encode}
 use Rattle.rules.specs.Sheet.{Signed, line_of}
-use Rattle.rules.specs.Words.{BlockKind, step_kind, textKind, ValueKind, number, range, textual, IntermediateTarget, target_step, targetSection, severe, mild}
+use Rattle.rules.specs.Words.{BlockKind, step_kind, text_kind, ValueKind, number, range, textual, IntermediateTarget, target_step, target_section, severe, mild}
 use Rattle.rules.specs.Event.{Span, Text, Quantity, Modifiers, Component, Intermediate, ComponentEvent, Event, meta_event, section_event, start_event, end_event, text_event, component_event, ingredient_event, cookware_event, timer_event, between, inside, parser_event}
 use Rattle.rules.specs.Read.{Fields}
 
@@ -46,7 +46,7 @@ signed_field v = when v.negative minus ++ decimal v.size
 
 unfoldable pub target_field : IntermediateTarget → List ℕ
 target_field target_step = codes "step"
-target_field targetSection = codes "section"
+target_field target_section = codes "section"
 
 unfoldable pub intermediate_fields : Intermediate → Fields
 intermediate_fields i =
@@ -54,7 +54,7 @@ intermediate_fields i =
 
 unfoldable pub block_kind_field : BlockKind → List ℕ
 block_kind_field step_kind = codes "step"
-block_kind_field textKind = codes "text"
+block_kind_field text_kind = codes "text"
 
 unfoldable pub component_fields : ComponentEvent → Fields
 component_fields (ingredient_event c i) = codes "ingredient" ∷ (named_fields c ++ opt_fields intermediate_fields i)

@@ -4,7 +4,7 @@ use mathlib.Core.Path.{◌≡◌, sym}
 use mathlib.Core.Option.{Option, none, some}
 use mathlib.Core.List.{List}
 use lib.ListN.{length, take, drop}
-use Rattle.rules.specs.Words.{EventWord, meta_word, sectionWord, startWord, end_word, textWord, ingredientWord, cookwareWord, timerWord, errorWord, warningWord, BlockKind, step_kind, textKind, ValueKind, number, range, textual, ConfigKey, define_key, duplicateKey, DefineMode, mode_all, modeComponents, modeSteps, modeText, DuplicateMode, duplicate_new, duplicateReference}
+use Rattle.rules.specs.Words.{EventWord, meta_word, section_word, start_word, end_word, text_word, ingredient_word, cookware_word, timer_word, error_word, warning_word, BlockKind, step_kind, text_kind, ValueKind, number, range, textual, ConfigKey, define_key, duplicate_key, DefineMode, mode_all, mode_components, mode_steps, mode_text, DuplicateMode, duplicate_new, duplicate_reference}
 use Rattle.rules.specs.Sheet.{last, more, lines}
 use Rattle.sheet.specs.declared.LineEnd.{LineEnd}
 use Rattle.sheet.specs.declared.LineEnd.TheVariants.{At, Nothing}
@@ -56,40 +56,40 @@ number_back_lem (some n) e = rw e
 abbrev pub event_of : Word → Option EventWord
 event_of word.Unknown = none
 event_of word.Meta = some meta_word
-event_of word.Section = some sectionWord
-event_of word.Start = some startWord
+event_of word.Section = some section_word
+event_of word.Start = some start_word
 event_of word.End = some end_word
-event_of word.Text = some textWord
-event_of word.Ingredient = some ingredientWord
-event_of word.Cookware = some cookwareWord
-event_of word.Timer = some timerWord
-event_of word.Error = some errorWord
-event_of word.Warning = some warningWord
+event_of word.Text = some text_word
+event_of word.Ingredient = some ingredient_word
+event_of word.Cookware = some cookware_word
+event_of word.Timer = some timer_word
+event_of word.Error = some error_word
+event_of word.Warning = some warning_word
 
 pub event_back : (o : Option EventWord) {r : Word} → r ≡ word_as o → o ≡ event_of r
 unfolding word_as
 event_back none e = rw e
 event_back (some meta_word) e = rw e
-event_back (some sectionWord) e = rw e
-event_back (some startWord) e = rw e
+event_back (some section_word) e = rw e
+event_back (some start_word) e = rw e
 event_back (some end_word) e = rw e
-event_back (some textWord) e = rw e
-event_back (some ingredientWord) e = rw e
-event_back (some cookwareWord) e = rw e
-event_back (some timerWord) e = rw e
-event_back (some errorWord) e = rw e
-event_back (some warningWord) e = rw e
+event_back (some text_word) e = rw e
+event_back (some ingredient_word) e = rw e
+event_back (some cookware_word) e = rw e
+event_back (some timer_word) e = rw e
+event_back (some error_word) e = rw e
+event_back (some warning_word) e = rw e
 
 abbrev pub block_of : BlockWord → Option BlockKind
 block_of block.Unknown = none
 block_of block.Step = some step_kind
-block_of block.Text = some textKind
+block_of block.Text = some text_kind
 
 pub block_back : (o : Option BlockKind) {r : BlockWord} → r ≡ block_as o → o ≡ block_of r
 unfolding block_as
 block_back none e = rw e
 block_back (some step_kind) e = rw e
-block_back (some textKind) e = rw e
+block_back (some text_kind) e = rw e
 
 abbrev pub value_of : ValueWord → Option ValueKind
 value_of value.Unknown = none
@@ -107,36 +107,36 @@ value_back (some textual) e = rw e
 abbrev pub key_of : KeyWord → Option ConfigKey
 key_of key.Unknown = none
 key_of key.Define = some define_key
-key_of key.Duplicate = some duplicateKey
+key_of key.Duplicate = some duplicate_key
 
 pub key_back : (o : Option ConfigKey) {r : KeyWord} → r ≡ key_as o → o ≡ key_of r
 unfolding key_as
 key_back none e = rw e
 key_back (some define_key) e = rw e
-key_back (some duplicateKey) e = rw e
+key_back (some duplicate_key) e = rw e
 
 abbrev pub define_of : DefineWord → Option DefineMode
 define_of define.Unknown = none
 define_of define.All = some mode_all
-define_of define.Components = some modeComponents
-define_of define.Steps = some modeSteps
-define_of define.Text = some modeText
+define_of define.Components = some mode_components
+define_of define.Steps = some mode_steps
+define_of define.Text = some mode_text
 
 pub define_back : (o : Option DefineMode) {r : DefineWord} → r ≡ define_as o → o ≡ define_of r
 unfolding define_as
 define_back none e = rw e
 define_back (some mode_all) e = rw e
-define_back (some modeComponents) e = rw e
-define_back (some modeSteps) e = rw e
-define_back (some modeText) e = rw e
+define_back (some mode_components) e = rw e
+define_back (some mode_steps) e = rw e
+define_back (some mode_text) e = rw e
 
 abbrev pub duplicate_of : DuplicateWord → Option DuplicateMode
 duplicate_of duplicate.Unknown = none
 duplicate_of duplicate.New = some duplicate_new
-duplicate_of duplicate.Reference = some duplicateReference
+duplicate_of duplicate.Reference = some duplicate_reference
 
 pub duplicate_back : (o : Option DuplicateMode) {r : DuplicateWord} → r ≡ duplicate_as o → o ≡ duplicate_of r
 unfolding duplicate_as
 duplicate_back none e = rw e
 duplicate_back (some duplicate_new) e = rw e
-duplicate_back (some duplicateReference) e = rw e
+duplicate_back (some duplicate_reference) e = rw e

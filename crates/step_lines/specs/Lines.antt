@@ -2,7 +2,7 @@
 use Rattle.std.specs.Prelude.{ℕ, suc, ◌≡◌, List, [], ◌∷◌, ◌++◌, length}
 use Rattle.rules.specs.Basic.{codes}
 use Rattle.rules.specs.Inline.{Piece, text_if_any}
-use Rattle.rules.specs.Model.{InlineQuantity, Item, ingredient_item, cookwareItem, timerItem, inlineItem}
+use Rattle.rules.specs.Model.{InlineQuantity, Item, ingredient_item, cookware_item, timer_item, inline_item}
 use Rattle.rules.specs.Pass.{items_of, quantities_of}
 use Rattle.rules.specs.Page.{item_line, inline_line}
 use Rattle.output.specs.Put.{Put}
@@ -20,9 +20,9 @@ module _ {A : Type 0} (line : ℕ → A → List ℕ) where
 -- an item that is no text, and its word
 unfoldable pub item_as : ItemKind → ℕ → Item
 item_as Ingredient i = ingredient_item i
-item_as Cookware i = cookwareItem i
-item_as Timer i = timerItem i
-item_as Inline i = inlineItem i
+item_as Cookware i = cookware_item i
+item_as Timer i = timer_item i
+item_as Inline i = inline_item i
 
 unfoldable pub kind_word : ItemKind → List ℕ
 kind_word Ingredient = codes "ingredient"

@@ -14,7 +14,7 @@ use Rattle.rules.specs.Finding.{Finding, found}
 use Rattle.rules.specs.Units.{NamedUnit, PhysicalQuantity, volume, mass, len, temperature, time, physical_number, same_physical, find_unit, read_units}
 use Rattle.rules.specs.Answer.{units_or}
 use Rattle.rules.specs.Modes.{has_advanced_units}
-use Rattle.rules.specs.Model.{Timer, Item, timerItem, is_textual, trimmed_text}
+use Rattle.rules.specs.Model.{Timer, Item, timer_item, is_textual, trimmed_text}
 use Rattle.rules.specs.State.{State, set_block, set_place, set_kept, set_tables, set_timers, report}
 use Rattle.rules.specs.Components.{lock_findings, time_unit, timer_unit, timer_checks, timer_findings, timer_of}
 use Rattle.rules.specs.Pass.{push_items, push_timer}
@@ -162,7 +162,7 @@ module _ {h r : Held} (l : h.counts.timers < 100000) (p : ItemsPushed 1 (with_ti
   unfolding with_timer
   pushed_is t sheet w =
       let st = state_in sheet w h in
-      let x : List Item = timerItem (length st.tables.timers) ∷ [] in
+      let x : List Item = timer_item (length st.tables.timers) ∷ [] in
       let q : length (replicate (h.counts.timers + 1) blank_timer) ≡ suc (length st.tables.timers) = length-replicate (h.counts.timers + 1) blank_timer ∙ (add-one h.counts.timers ∙ ap suc (sym (timers_count sheet w h))) in
       (p.by x refl).is sheet w
       ∙ (ap (λ (s : State). blank (push_items x [] s)) (with_timers_lem sheet w h (h.counts.timers + 1))

@@ -1,7 +1,7 @@
 -- What `timer` lines leave in work memory. Of a timer only that it is there is kept.
 use Rattle.std.specs.Prelude.{ℕ, List, [], ◌∷◌, length}
 use Rattle.rules.specs.Units.{NamedUnit}
-use Rattle.rules.specs.Model.{Timer, timerItem}
+use Rattle.rules.specs.Model.{Timer, timer_item}
 use Rattle.rules.specs.State.{State, set_timers}
 use Rattle.rules.specs.Components.{lock_findings, timer_unit, timer_checks}
 use Rattle.rules.specs.Pass.{push_items, push_timer}
@@ -38,7 +38,7 @@ pub record TimeChecked (us : List NamedUnit) (line : List ℕ) (q : OptQuantity)
 
 -- one timer and its item more
 unfoldable pub with_timer : Timer → State → State
-with_timer t st = push_items (timerItem (length st.tables.timers) ∷ []) [] (set_timers (t ∷ st.tables.timers) st)
+with_timer t st = push_items (timer_item (length st.tables.timers) ∷ []) [] (set_timers (t ∷ st.tables.timers) st)
 
 pub record TimerPushed (h₀ h : Held) : Type 0 where
   pub told : (t : Timer) → Told (with_timer t) h₀ h

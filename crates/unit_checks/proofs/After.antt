@@ -109,9 +109,9 @@ referrers_few pairs d (suc m) = by (eqb (get_or pairs (m * 2) 0) d) (referrers_f
     by true ih = omega arith
     by false ih = omega arith
 
-relation_few : (k : Kind) (x : Relation) (inStep : Bool) (index : ℕ) (by : List ℕ) → length (referrers (relation_as k x inStep index by)) ≤ length by
-relation_few k Definition inStep index by = unfold relation_as referrers in omega (arith, length-reverse by)
-relation_few k (Reference t) inStep index by = rw (referrers_none k t inStep index by) (omega arith)
+relation_few : (k : Kind) (x : Relation) (in_step : Bool) (index : ℕ) (by : List ℕ) → length (referrers (relation_as k x in_step index by)) ≤ length by
+relation_few k Definition in_step index by = unfold relation_as referrers in omega (arith, length-reverse by)
+relation_few k (Reference t) in_step index by = rw (referrers_none k t in_step index by) (omega arith)
 
 against_all : (us : List NamedUnit) (new : Entry) (table : List Entry) (is : List ℕ) → length (units_against us new table is) ≤ length is
 unfolding units_against

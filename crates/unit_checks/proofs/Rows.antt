@@ -167,11 +167,11 @@ pub step_definition : (r : RelationRecord) → r.relation ≡ Definition → InS
 unfolding is_defined_in_step relation_in relation_as
 step_definition r e = record { is = λ k by. rw e }
 
-referred_inside : (k : Kind) (x : Target) (inStep : Bool) (index : ℕ) (by : List ℕ) → is_defined_in_step (relation_as k (Reference x) inStep index by) ≡ true
+referred_inside : (k : Kind) (x : Target) (in_step : Bool) (index : ℕ) (by : List ℕ) → is_defined_in_step (relation_as k (Reference x) in_step index by) ≡ true
 unfolding is_defined_in_step relation_as
-referred_inside k Ingredient inStep index by = refl
-referred_inside k Step inStep index by = refl
-referred_inside k Section inStep index by = refl
+referred_inside k Ingredient in_step index by = refl
+referred_inside k Step in_step index by = refl
+referred_inside k Section in_step index by = refl
 
 pub step_reference : (r : RelationRecord) (x : Target) → r.relation ≡ Reference x → InStep r true
 unfolding relation_in

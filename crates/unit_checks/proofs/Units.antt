@@ -277,11 +277,11 @@ pub check_none : {us : List NamedUnit} {sheet line : List ℕ} {a : OptQuantity}
 unfolding unit_check opt_quantity_in on_some
 check_none {us} e = record { is = λ new p q. none_found (units_none us new _ (q ∙ rw e) _) }
 
-pub referrers_none : (k : Kind) (x : Target) (inStep : Bool) (index : ℕ) (by : List ℕ) → referrers (relation_as k (Reference x) inStep index by) ≡ []
+pub referrers_none : (k : Kind) (x : Target) (in_step : Bool) (index : ℕ) (by : List ℕ) → referrers (relation_as k (Reference x) in_step index by) ≡ []
 unfolding referrers relation_as
-referrers_none k Ingredient inStep index by = refl
-referrers_none k Step inStep index by = refl
-referrers_none k Section inStep index by = refl
+referrers_none k Ingredient in_step index by = refl
+referrers_none k Step in_step index by = refl
+referrers_none k Section in_step index by = refl
 
 module _ {us : List NamedUnit} {sheet line : List ℕ} {a : OptQuantity} {d : ℕ} {w₀ w₁ : List ℕ} {h₀ h₁ : Held} {r : Row} (e : r ≡ row_of (row_at 12 (take 6156 (drop 0 w₀)) d))
     (c : RowChecked us sheet line a d w₀ h₀ w₁ h₁) where

@@ -1,9 +1,9 @@
 use mathlib.Core.Path.{refl}
-use Rattle.reading.proofs.Leading.{word_led, word_read, no_tab_text, no_tab_ingredient, no_tab_start, no_tab_end, text_word, ingredient_word, start_word, end_word}
+use Rattle.reading.proofs.Leading.{word_led, word_read, no_tab_text, no_tab_ingredient, no_tab_start, no_tab_end, text_word_lem, ingredient_word, start_word, end_word}
 use Rattle.reading.proofs.first_word.Goals as goal
 
 pub returns-then-leads : goal.returns-then-leads
-returns-then-leads c = word_led _ _ c.leads.ensures c.if-leads.true no_tab_text text_word refl
+returns-then-leads c = word_led _ _ c.leads.ensures c.if-leads.true no_tab_text text_word_lem refl
 
 pub returns-then-leads-2 : goal.returns-then-leads-2
 returns-then-leads-2 c = word_led _ _ c.leads-2.ensures c.if-leads-2.true no_tab_ingredient ingredient_word refl
