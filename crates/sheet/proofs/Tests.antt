@@ -2,7 +2,7 @@
 use Prim.Native.Nat.{ℕ, suc, ◌+◌, ◌≤◌, ◌<◌}
 use mathlib.Core.Path.{◌≡◌, refl, ap, sym, ◌∙◌}
 use mathlib.Core.Bool.{Bool, true, false}
-use mathlib.Core.Option.{Option, some}
+use mathlib.Core.Option.{Option, none, some}
 use mathlib.Core.List.{List, [], ◌∷◌}
 use native.Mathlib.Numerals.{add-one}
 use native.Mathlib.Omega.{arith}
@@ -45,3 +45,8 @@ module _ {A : Type 0} (f : List ℕ) (w : List ℕ × A) (es : List (List ℕ ×
   pub miss : b ≡ false → word_in f es ≡ o
   unfolding word_in
   miss t = simp (sym q ∙ t) at e
+
+-- a table of which nothing is left
+pub ends : {A : Type 0} (f : List ℕ) {o : Option A} → word_in f [] ≡ o → none ≡ o
+unfolding word_in
+ends f e = e

@@ -7,55 +7,45 @@ use Rattle.rules.specs.Words.{duplicate_words}
 use Rattle.rules.specs.Utf8.{chars}
 use Rattle.rules.proofs.Ascii.{word_in_chars, ascii_duplicates}
 use Rattle.sheet.specs.Words.{duplicate_as}
-use Rattle.sheet.proofs.Tests.{hit, miss}
+use Rattle.sheet.proofs.Tests.{hit, miss, ends}
 use Rattle.sheet.proofs.duplicate_mode.Goals as goal
-
-abbrev F0 : tie.Start → List ℕ
-F0 c = c.args.f.now
-
-m0 : (c : tie.Start) → word_in (F0 c) duplicate_words ≡ word_in (chars (F0 c)) duplicate_words
-m0 c = sym (word_in_chars (F0 c) duplicate_words ascii_duplicates)
-
-abbrev F1 : tie.Else1 → List ℕ
-F1 c = F0 c.before.before.before.before
-
-m1 : (c : tie.Else1) → word_in (F1 c) (drop 1 duplicate_words) ≡ word_in (chars (F1 c)) duplicate_words
-m1 c = miss _ _ _ (m0 c.before.before.before.before) c.before.same_bytes.ensures c.if1.false
-
-abbrev F2 : tie.Else2 → List ℕ
-F2 c = F1 c.before.before.before
-
-m2 : (c : tie.Else2) → word_in (F2 c) (drop 2 duplicate_words) ≡ word_in (chars (F2 c)) duplicate_words
-m2 c = miss _ _ _ (m1 c.before.before.before) c.before.same-bytes2.ensures c.if2.false
-
-abbrev F3 : tie.Else3 → List ℕ
-F3 c = F2 c.before.before.before
-
-m3 : (c : tie.Else3) → word_in (F3 c) (drop 3 duplicate_words) ≡ word_in (chars (F3 c)) duplicate_words
-m3 c = miss _ _ _ (m2 c.before.before.before) c.before.same-bytes3.ensures c.if3.false
-
-abbrev F4 : tie.Else4 → List ℕ
-F4 c = F3 c.before.before.before
-
-m4 : (c : tie.Else4) → word_in (F4 c) (drop 4 duplicate_words) ≡ word_in (chars (F4 c)) duplicate_words
-m4 c = miss _ _ _ (m3 c.before.before.before) c.before.same-bytes4.ensures c.if4.false
 
 pub returns-then-same_bytes : goal.returns-then-same_bytes
 unfolding duplicate_as
-returns-then-same_bytes c = ap duplicate_as (hit _ _ _ (m0 c) c.same_bytes.ensures c.if-same_bytes.true)
+returns-then-same_bytes c =
+    let m0 : word_in (chars c.args.f.now) duplicate_words ≡ word_in (chars c.args.f.now) duplicate_words = refl in
+    ap duplicate_as (hit _ _ _ m0 c.same_bytes.ensures c.if-same_bytes.true)
 
 pub returns-then-same_bytes-2 : goal.returns-then-same_bytes-2
 unfolding duplicate_as
-returns-then-same_bytes-2 c = ap duplicate_as (hit _ _ _ (m1 c) c.same_bytes-2.ensures c.if-same_bytes-2.true)
+returns-then-same_bytes-2 c =
+    let m0 : word_in (chars c.args.f.now) duplicate_words ≡ word_in (chars c.args.f.now) duplicate_words = refl in
+    let m1 : word_in c.args.f.now (drop 1 duplicate_words) ≡ word_in (chars c.args.f.now) duplicate_words = miss _ _ _ m0 c.same_bytes.ensures c.if-same_bytes.false in
+    ap duplicate_as (hit _ _ _ m1 c.same_bytes-2.ensures c.if-same_bytes-2.true)
 
 pub returns-then-same_bytes-3 : goal.returns-then-same_bytes-3
 unfolding duplicate_as
-returns-then-same_bytes-3 c = ap duplicate_as (hit _ _ _ (m2 c) c.same_bytes-3.ensures c.if-same_bytes-3.true)
+returns-then-same_bytes-3 c =
+    let m0 : word_in (chars c.args.f.now) duplicate_words ≡ word_in (chars c.args.f.now) duplicate_words = refl in
+    let m1 : word_in c.args.f.now (drop 1 duplicate_words) ≡ word_in (chars c.args.f.now) duplicate_words = miss _ _ _ m0 c.same_bytes.ensures c.if-same_bytes.false in
+    let m2 : word_in c.args.f.now (drop 2 duplicate_words) ≡ word_in (chars c.args.f.now) duplicate_words = miss _ _ _ m1 c.same_bytes-2.ensures c.if-same_bytes-2.false in
+    ap duplicate_as (hit _ _ _ m2 c.same_bytes-3.ensures c.if-same_bytes-3.true)
 
 pub returns-then-same_bytes-4 : goal.returns-then-same_bytes-4
 unfolding duplicate_as
-returns-then-same_bytes-4 c = ap duplicate_as (hit _ _ _ (m3 c) c.same_bytes-4.ensures c.if-same_bytes-4.true)
+returns-then-same_bytes-4 c =
+    let m0 : word_in (chars c.args.f.now) duplicate_words ≡ word_in (chars c.args.f.now) duplicate_words = refl in
+    let m1 : word_in c.args.f.now (drop 1 duplicate_words) ≡ word_in (chars c.args.f.now) duplicate_words = miss _ _ _ m0 c.same_bytes.ensures c.if-same_bytes.false in
+    let m2 : word_in c.args.f.now (drop 2 duplicate_words) ≡ word_in (chars c.args.f.now) duplicate_words = miss _ _ _ m1 c.same_bytes-2.ensures c.if-same_bytes-2.false in
+    let m3 : word_in c.args.f.now (drop 3 duplicate_words) ≡ word_in (chars c.args.f.now) duplicate_words = miss _ _ _ m2 c.same_bytes-3.ensures c.if-same_bytes-3.false in
+    ap duplicate_as (hit _ _ _ m3 c.same_bytes-4.ensures c.if-same_bytes-4.true)
 
 pub returns : goal.returns
-unfolding duplicate_as word_in
-returns c = ap duplicate_as (m4 c)
+unfolding duplicate_as
+returns c =
+    let m0 : word_in (chars c.args.f.now) duplicate_words ≡ word_in (chars c.args.f.now) duplicate_words = refl in
+    let m1 : word_in c.args.f.now (drop 1 duplicate_words) ≡ word_in (chars c.args.f.now) duplicate_words = miss _ _ _ m0 c.same_bytes.ensures c.if-same_bytes.false in
+    let m2 : word_in c.args.f.now (drop 2 duplicate_words) ≡ word_in (chars c.args.f.now) duplicate_words = miss _ _ _ m1 c.same_bytes-2.ensures c.if-same_bytes-2.false in
+    let m3 : word_in c.args.f.now (drop 3 duplicate_words) ≡ word_in (chars c.args.f.now) duplicate_words = miss _ _ _ m2 c.same_bytes-3.ensures c.if-same_bytes-3.false in
+    let m4 : word_in c.args.f.now (drop 4 duplicate_words) ≡ word_in (chars c.args.f.now) duplicate_words = miss _ _ _ m3 c.same_bytes-4.ensures c.if-same_bytes-4.false in
+    ap duplicate_as (ends c.args.f.now m4)
