@@ -68,26 +68,25 @@ def literal(data):
     return "(concat (%s ∷ []))" % " ∷ ".join(pieces)
 
 
-def uses(inside):
-    specs = "Rattle·rules·specs.specs" if inside else "Rattle·rules.specs"
+def uses():
     return ("use Prim.Native.Nat.{ℕ}\n"
-            "use mathlib.Core.Path.{_≡_, refl}\n"
-            "use mathlib.Core.List.{List, [], _∷_}\n"
-            "use %s.Basic.{codes, concat}\n"
-            "use %s.Answer.{Lent, collectAnswer, plainAnswer, printed, flagsOf, wordsNeeded, bytesNeeded}\n"
-            "use %s.Evaluate.{evaluate}\n\n"
+            "use mathlib.Core.Path.{◌≡◌, refl}\n"
+            "use mathlib.Core.List.{List, [], ◌∷◌}\n"
+            "use Rattle.rules.specs.Basic.{codes, concat}\n"
+            "use Rattle.rules.specs.Answer.{Lent, collect_answer, plain_answer, printed, flags_of, words_needed, bytes_needed}\n"
+            "use Rattle.rules.specs.Evaluate.{evaluate}\n\n"
             "abbrev lent : ℕ → Lent\n"
-            "lent room = record { words = wordsNeeded; bytes = bytesNeeded; room = room }\n" % (specs, specs, specs))
+            "lent room = record { words = words_needed; bytes = bytes_needed; room = room }\n")
 
 
 def theorem(name, answer, case, prints):
-    return ("\npub %s : printed (%s %s %s %s (flagsOf %s) (lent %d)) ≡ %s\nunfolding evaluate\n%s = refl\n"
+    return ("\npub %s : printed (%s %s %s %s (flags_of %s) (lent %d)) ≡ %s\nunfolding evaluate\n%s = refl\n"
             % (name, answer, literal(case.sheet), literal(case.text), literal(case.units), literal(case.flags), case.room, literal(prints), name))
 
 
 def theorems(number, case):
-    return [("collect-%d" % number, theorem("collect-%d" % number, "collectAnswer", case, case.collect)),
-            ("plain-%d" % number, theorem("plain-%d" % number, "plainAnswer", case, case.plain))]
+    return [("collect_%d" % number, theorem("collect_%d" % number, "collect_answer", case, case.collect)),
+            ("plain_%d" % number, theorem("plain_%d" % number, "plain_answer", case, case.plain))]
 
 
 # ---- the cases that stay in the gate
@@ -180,16 +179,16 @@ def one_case(n, c, shows):
     out += "\n".join("-- " + r for r in broken([w + ("," if i + 1 < len(shows) else "") for i, w in enumerate(shows)], "").split("\n"))
     sheet = literal(c.sheet)
     if len(sheet) > 120:
-        out += "\nabbrev sheet-%d : List ℕ\nsheet-%d =\n%s\n" % (n, n, spread(sheet))
-        sheet = "sheet-%d" % n
-    for side, answer, prints in (("collect", "collectAnswer", c.collect), ("plain", "plainAnswer", c.plain)):
-        call = "printed (%s %s %s %s (flagsOf %s) (lent %d))" % (answer, sheet, put(c.text), put(c.units), put(c.flags), c.room)
+        out += "\nabbrev sheet_%d : List ℕ\nsheet_%d =\n%s\n" % (n, n, spread(sheet))
+        sheet = "sheet_%d" % n
+    for side, answer, prints in (("collect", "collect_answer", c.collect), ("plain", "plain_answer", c.plain)):
+        call = "printed (%s %s %s %s (flags_of %s) (lent %d))" % (answer, sheet, put(c.text), put(c.units), put(c.flags), c.room)
         to = spread(literal(prints))
         if "\n" not in to and len(call) + len(to) < 130:
-            out += "\npub %s-%d : %s ≡ %s" % (side, n, call, to.strip())
+            out += "\npub %s_%d : %s ≡ %s" % (side, n, call, to.strip())
         else:
-            out += "\npub %s-%d :\n    %s\n    ≡\n%s" % (side, n, call, to)
-        out += "\nunfolding evaluate\n%s-%d = refl\n" % (side, n)
+            out += "\npub %s_%d :\n    %s\n    ≡\n%s" % (side, n, call, to)
+        out += "\nunfolding evaluate\n%s_%d = refl\n" % (side, n)
     return out
 
 
@@ -224,7 +223,7 @@ def large_text():
     for name, sheet, text, units in LARGE:
         c = cases[name]
         assert (value(sheet), value(text), value(units), c.flags) == (c.sheet, c.text, c.units, b"7"), name
-        for side, answer, prints in (("collect", "collectAnswer", c.collect), ("plain", "plainAnswer", c.plain)):
+        for side, answer, prints in (("collect", "collect_answer", c.collect), ("plain", "plain_answer", c.plain)):
             if side == "plain" and name not in ("form-findings-1025",) or side == "collect" and name == "form-findings-1025":
                 continue
             if prints.startswith(b"refused"):
@@ -232,8 +231,8 @@ def large_text():
             else:
                 assert prints == b"recipe\tyes\n" + b"parse\tW\t1\n" * 1024
                 to = 'codes "recipe\\tyes\\n" ++ concat (replicate 1024 (codes "parse\\tW\\t1\\n"))'
-            out += ("\n-- limits: %s\npub %s-%s :\n    printed (%s (%s) %s %s 7 (lent %d))\n    ≡ %s\nunfolding evaluate\n%s-%s = refl\n"
-                    % (name, side, name, answer, sheet, text, units, c.room, to, side, name)).replace("([])", "[]")
+            out += ("\n-- limits: %s\npub %s_%s :\n    printed (%s (%s) %s %s 7 (lent %d))\n    ≡ %s\nunfolding evaluate\n%s_%s = refl\n"
+                    % (name, side, name.replace("-", "_"), answer, sheet, text, units, c.room, to, side, name.replace("-", "_"))).replace("([])", "[]")
     return out
 
 
@@ -243,13 +242,13 @@ def gate_texts():
              "\nabbrev four : List ℕ\nfour = codes \"kg\\tmass\\ng\\tmass\\nl\\tvolume\\nmin\\ttime\\n\"\n")
 
     def head(what):
-        return "-- %s\n-- Cases of the fixed list (crates/replay/data), generated by tools/evaluate_rules.py --gate.\n" % what + uses(True)
+        return "-- %s\n-- Cases of the fixed list (crates/replay/data), generated by tools/evaluate_rules.py --gate.\n" % what + uses()
 
     out = {
         "Answers.antt": head("Accepted sheets that together show every finding code and every kind of line.") + known,
         "Lost.antt": head("Accepted sheets for the rules that are easily lost.") + known,
         "Refusals.antt": head("Refused sheets and forms: every number that a short sheet reaches.") + known,
-        "Limits.antt": head("Limits, and the numbers that only a long input reaches.").replace("[], _∷_}\n", "[], _∷_, _++_}\nuse lib.ListN.{replicate}\n")
+        "Limits.antt": head("Limits, and the numbers that only a long input reaches.").replace("[], ◌∷◌}\n", "[], ◌∷◌, ◌++◌}\nuse lib.ListN.{replicate}\n")
         + "\nabbrev ten : List ℕ\nten = codes \"abcdefghij\"\n"
         + "\nabbrev kg : List ℕ\nkg = codes \"kg\\tmass\\n\"\n"
         + "\nabbrev warnings : ℕ → List ℕ\nwarnings n = concat (replicate n (codes \"warning\\t1\\n\"))\n" + large_text(),
@@ -271,11 +270,11 @@ def write_crate(name, modules):
     """modules: lists of (theorem's name, text); returns for each file the first line of each theorem"""
     root = os.path.join(WORK, "crates", name)
     shutil.rmtree(root, ignore_errors=True)
-    write(os.path.join(root, "src", "lib.rt"), "pub fn one() -> usize {\n    1\n}\n")
+    write(os.path.join(root, "src", "lib.rt"), "#![tactic(auto)]\n\npub fn one() -> usize {\n    1\n}\n")
     write(os.path.join(root, "proofs", "Lib.antt"), "".join("pub mod Part%d\n" % i for i in range(len(modules))))
     places = {}
     for i, module in enumerate(modules):
-        text = uses(False)
+        text = uses()
         starts = []
         for n, t in module:
             starts.append((text.count("\n") + 2, n))
