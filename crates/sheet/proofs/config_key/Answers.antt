@@ -13,20 +13,20 @@ use Rattle.sheet.proofs.config_key.Goals as goal
 pub returns-then-same_bytes : goal.returns-then-same_bytes
 unfolding key_as
 returns-then-same_bytes c =
-    let m0 : word_in (chars c.args.f.now) config_keys ≡ word_in (chars c.args.f.now) config_keys = refl in
+    let m0 : word_in c.args.f.now config_keys ≡ word_in (chars c.args.f.now) config_keys = sym (word_in_chars c.args.f.now config_keys ascii_keys) in
     ap key_as (hit _ _ _ m0 c.same_bytes.ensures c.if-same_bytes.true)
 
 pub returns-then-same_bytes-2 : goal.returns-then-same_bytes-2
 unfolding key_as
 returns-then-same_bytes-2 c =
-    let m0 : word_in (chars c.args.f.now) config_keys ≡ word_in (chars c.args.f.now) config_keys = refl in
+    let m0 : word_in c.args.f.now config_keys ≡ word_in (chars c.args.f.now) config_keys = sym (word_in_chars c.args.f.now config_keys ascii_keys) in
     let m1 : word_in c.args.f.now (drop 1 config_keys) ≡ word_in (chars c.args.f.now) config_keys = miss _ _ _ m0 c.same_bytes.ensures c.if-same_bytes.false in
     ap key_as (hit _ _ _ m1 c.same_bytes-2.ensures c.if-same_bytes-2.true)
 
 pub returns-then-same_bytes-3 : goal.returns-then-same_bytes-3
 unfolding key_as
 returns-then-same_bytes-3 c =
-    let m0 : word_in (chars c.args.f.now) config_keys ≡ word_in (chars c.args.f.now) config_keys = refl in
+    let m0 : word_in c.args.f.now config_keys ≡ word_in (chars c.args.f.now) config_keys = sym (word_in_chars c.args.f.now config_keys ascii_keys) in
     let m1 : word_in c.args.f.now (drop 1 config_keys) ≡ word_in (chars c.args.f.now) config_keys = miss _ _ _ m0 c.same_bytes.ensures c.if-same_bytes.false in
     let m2 : word_in c.args.f.now (drop 2 config_keys) ≡ word_in (chars c.args.f.now) config_keys = miss _ _ _ m1 c.same_bytes-2.ensures c.if-same_bytes-2.false in
     ap key_as (hit _ _ _ m2 c.same_bytes-3.ensures c.if-same_bytes-3.true)
@@ -34,7 +34,7 @@ returns-then-same_bytes-3 c =
 pub returns : goal.returns
 unfolding key_as
 returns c =
-    let m0 : word_in (chars c.args.f.now) config_keys ≡ word_in (chars c.args.f.now) config_keys = refl in
+    let m0 : word_in c.args.f.now config_keys ≡ word_in (chars c.args.f.now) config_keys = sym (word_in_chars c.args.f.now config_keys ascii_keys) in
     let m1 : word_in c.args.f.now (drop 1 config_keys) ≡ word_in (chars c.args.f.now) config_keys = miss _ _ _ m0 c.same_bytes.ensures c.if-same_bytes.false in
     let m2 : word_in c.args.f.now (drop 2 config_keys) ≡ word_in (chars c.args.f.now) config_keys = miss _ _ _ m1 c.same_bytes-2.ensures c.if-same_bytes-2.false in
     let m3 : word_in c.args.f.now (drop 3 config_keys) ≡ word_in (chars c.args.f.now) config_keys = miss _ _ _ m2 c.same_bytes-3.ensures c.if-same_bytes-3.false in

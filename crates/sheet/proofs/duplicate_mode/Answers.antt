@@ -13,20 +13,20 @@ use Rattle.sheet.proofs.duplicate_mode.Goals as goal
 pub returns-then-same_bytes : goal.returns-then-same_bytes
 unfolding duplicate_as
 returns-then-same_bytes c =
-    let m0 : word_in (chars c.args.f.now) duplicate_words ≡ word_in (chars c.args.f.now) duplicate_words = refl in
+    let m0 : word_in c.args.f.now duplicate_words ≡ word_in (chars c.args.f.now) duplicate_words = sym (word_in_chars c.args.f.now duplicate_words ascii_duplicates) in
     ap duplicate_as (hit _ _ _ m0 c.same_bytes.ensures c.if-same_bytes.true)
 
 pub returns-then-same_bytes-2 : goal.returns-then-same_bytes-2
 unfolding duplicate_as
 returns-then-same_bytes-2 c =
-    let m0 : word_in (chars c.args.f.now) duplicate_words ≡ word_in (chars c.args.f.now) duplicate_words = refl in
+    let m0 : word_in c.args.f.now duplicate_words ≡ word_in (chars c.args.f.now) duplicate_words = sym (word_in_chars c.args.f.now duplicate_words ascii_duplicates) in
     let m1 : word_in c.args.f.now (drop 1 duplicate_words) ≡ word_in (chars c.args.f.now) duplicate_words = miss _ _ _ m0 c.same_bytes.ensures c.if-same_bytes.false in
     ap duplicate_as (hit _ _ _ m1 c.same_bytes-2.ensures c.if-same_bytes-2.true)
 
 pub returns-then-same_bytes-3 : goal.returns-then-same_bytes-3
 unfolding duplicate_as
 returns-then-same_bytes-3 c =
-    let m0 : word_in (chars c.args.f.now) duplicate_words ≡ word_in (chars c.args.f.now) duplicate_words = refl in
+    let m0 : word_in c.args.f.now duplicate_words ≡ word_in (chars c.args.f.now) duplicate_words = sym (word_in_chars c.args.f.now duplicate_words ascii_duplicates) in
     let m1 : word_in c.args.f.now (drop 1 duplicate_words) ≡ word_in (chars c.args.f.now) duplicate_words = miss _ _ _ m0 c.same_bytes.ensures c.if-same_bytes.false in
     let m2 : word_in c.args.f.now (drop 2 duplicate_words) ≡ word_in (chars c.args.f.now) duplicate_words = miss _ _ _ m1 c.same_bytes-2.ensures c.if-same_bytes-2.false in
     ap duplicate_as (hit _ _ _ m2 c.same_bytes-3.ensures c.if-same_bytes-3.true)
@@ -34,7 +34,7 @@ returns-then-same_bytes-3 c =
 pub returns-then-same_bytes-4 : goal.returns-then-same_bytes-4
 unfolding duplicate_as
 returns-then-same_bytes-4 c =
-    let m0 : word_in (chars c.args.f.now) duplicate_words ≡ word_in (chars c.args.f.now) duplicate_words = refl in
+    let m0 : word_in c.args.f.now duplicate_words ≡ word_in (chars c.args.f.now) duplicate_words = sym (word_in_chars c.args.f.now duplicate_words ascii_duplicates) in
     let m1 : word_in c.args.f.now (drop 1 duplicate_words) ≡ word_in (chars c.args.f.now) duplicate_words = miss _ _ _ m0 c.same_bytes.ensures c.if-same_bytes.false in
     let m2 : word_in c.args.f.now (drop 2 duplicate_words) ≡ word_in (chars c.args.f.now) duplicate_words = miss _ _ _ m1 c.same_bytes-2.ensures c.if-same_bytes-2.false in
     let m3 : word_in c.args.f.now (drop 3 duplicate_words) ≡ word_in (chars c.args.f.now) duplicate_words = miss _ _ _ m2 c.same_bytes-3.ensures c.if-same_bytes-3.false in
@@ -43,7 +43,7 @@ returns-then-same_bytes-4 c =
 pub returns : goal.returns
 unfolding duplicate_as
 returns c =
-    let m0 : word_in (chars c.args.f.now) duplicate_words ≡ word_in (chars c.args.f.now) duplicate_words = refl in
+    let m0 : word_in c.args.f.now duplicate_words ≡ word_in (chars c.args.f.now) duplicate_words = sym (word_in_chars c.args.f.now duplicate_words ascii_duplicates) in
     let m1 : word_in c.args.f.now (drop 1 duplicate_words) ≡ word_in (chars c.args.f.now) duplicate_words = miss _ _ _ m0 c.same_bytes.ensures c.if-same_bytes.false in
     let m2 : word_in c.args.f.now (drop 2 duplicate_words) ≡ word_in (chars c.args.f.now) duplicate_words = miss _ _ _ m1 c.same_bytes-2.ensures c.if-same_bytes-2.false in
     let m3 : word_in c.args.f.now (drop 3 duplicate_words) ≡ word_in (chars c.args.f.now) duplicate_words = miss _ _ _ m2 c.same_bytes-3.ensures c.if-same_bytes-3.false in

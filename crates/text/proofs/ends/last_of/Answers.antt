@@ -1,8 +1,8 @@
 use native.Mathlib.Omega.{arith}
-use mathlib.Core.Logic.{⊎_elim}
 use Rattle.text.proofs.Backward.{tells_goes, tells_stays}
 use Rattle.text.specs.Trims.{last_unclear}
 use Rattle.content.proofs.Chars.{content_step}
+use Rattle.text.proofs.ends.last_of.Goals.{then-i-gt0+else-s-i-eq92, else-i-gt0}
 use Rattle.text.proofs.ends.last_of.Goals as goal
 
 pub returns-then-s-lt1 : goal.returns-then-s-lt1
@@ -19,8 +19,8 @@ returns-then-i-c c = last_unclear
 
 pub returns-then-is_dropped : goal.returns-then-is_dropped
 returns-then-is_dropped c =
-    tells_goes _ _ _ c.last_start-i.ensures (⊎_elim (λ w. λ _. w.2.left) (λ w. λ h. absurd (omega (arith, w.left))) c.if-i-gt0.branch) c.char_in-c.ensures c.if-i-c.false _ c.is_dropped.ensures c.if-is_dropped.true
+    tells_goes _ _ _ c.last_start-i.ensures (elim c.if-i-gt0.branch [ then-i-gt0+else-s-i-eq92 w ↦ λ _. w.if-s-i-eq92.false | else-i-gt0 w ↦ λ h. absurd (omega (arith, w.if-i-gt0.false)) ]) c.char_in-c.ensures c.if-i-c.false _ c.is_dropped.ensures c.if-is_dropped.true
 
 pub returns : goal.returns
 returns c =
-    tells_stays _ _ _ c.last_start-i.ensures (⊎_elim (λ w. λ _. w.2.left) (λ w. λ h. absurd (omega (arith, w.left))) c.if-i-gt0.branch) c.char_in-c.ensures c.if-i-c.false _ c.is_dropped.ensures c.if-is_dropped.false
+    tells_stays _ _ _ c.last_start-i.ensures (elim c.if-i-gt0.branch [ then-i-gt0+else-s-i-eq92 w ↦ λ _. w.if-s-i-eq92.false | else-i-gt0 w ↦ λ h. absurd (omega (arith, w.if-i-gt0.false)) ]) c.char_in-c.ensures c.if-i-c.false _ c.is_dropped.ensures c.if-is_dropped.false
