@@ -12,7 +12,7 @@ pub slice_bounds-end_of-start : goal.slice_bounds-end_of-start
 slice_bounds-end_of-start c = omega (arith, name_from _ _ _ _ c.requires.1 c.requires.2 c.letters_start.ensures)
 
 pub overflow_add-result : goal.overflow_add-result
-overflow_add-result c = omega (arith, name_to _ _ _ _ c.requires.1 c.requires.2 c.letters_start.ensures _ c.end_of_lem.ensures)
+overflow_add-result c = omega (arith, name_to _ _ _ _ c.requires.1 c.requires.2 c.letters_start.ensures _ c.end_of-size.ensures)
 
 pub returns : goal.returns
-returns c = unit_there _ _ _ _ c.requires.1 c.requires.2 c.letters_start.ensures _ c.end_of_lem.ensures
+returns c = unit_there _ _ _ _ c.requires.1 c.requires.2 c.letters_start.ensures _ c.end_of-size.ensures

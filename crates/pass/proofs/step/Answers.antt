@@ -2,16 +2,16 @@ use Rattle.pass.proofs.Steps.{step_failed, step_over, step_stopped, step_going}
 use Rattle.pass.proofs.step.Goals as goal
 
 pub returns-then-is_error : goal.returns-then-is_error
-returns-then-is_error c = (step_failed c.is_error_lem.ensures c.if-is_error.true, c.requires.3)
+returns-then-is_error c = (step_failed c.is_error.ensures c.if-is_error.true, c.requires.3)
 
 pub on_event-requires : goal.on_event-requires
 on_event-requires c = c.requires
 
 pub returns-then-over_limits : goal.returns-then-over_limits
-returns-then-over_limits c = (step_over c.is_error_lem.ensures c.if-is_error.false c.on_event.ensures.0 _ c.in-Next.is c.over_limits.ensures c.if-over_limits.true, c.on_event.ensures.1)
+returns-then-over_limits c = (step_over c.is_error.ensures c.if-is_error.false c.on_event.ensures.0 _ c.in-Next.is c.over_limits.ensures c.if-over_limits.true, c.on_event.ensures.1)
 
 pub returns-in-Stop : goal.returns-in-Stop
-returns-in-Stop c = (step_stopped c.is_error_lem.ensures c.if-is_error.false c.on_event.ensures.0 _ c.in-Stop.is, c.on_event.ensures.1)
+returns-in-Stop c = (step_stopped c.is_error.ensures c.if-is_error.false c.on_event.ensures.0 _ c.in-Stop.is, c.on_event.ensures.1)
 
 pub returns-else-over_limits : goal.returns-else-over_limits
-returns-else-over_limits c = (step_going c.is_error_lem.ensures c.if-is_error.false c.on_event.ensures.0 _ c.in-Next.is c.over_limits.ensures c.if-over_limits.false c.requires.1 c.requires.2, c.on_event.ensures.1)
+returns-else-over_limits c = (step_going c.is_error.ensures c.if-is_error.false c.on_event.ensures.0 _ c.in-Next.is c.over_limits.ensures c.if-over_limits.false c.requires.1 c.requires.2, c.on_event.ensures.1)

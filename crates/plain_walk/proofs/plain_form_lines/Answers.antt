@@ -38,7 +38,7 @@ pub plain_of-p-requires : goal.plain_of-p-requires
 plain_of-p-requires c = (c.requires.0, c.event_of-e.ensures.within, form_long c.loop-at.invariant, form_few c.loop-at.invariant)
 
 pub put_plain-n-requires : goal.put_plain-n-requires
-put_plain-n-requires c = (c.requires.2, form_fit c.loop-at.invariant c.line_end.ensures c.in-At.is c.event_of-e.ensures c.plain_of_lem.ensures)
+put_plain-n-requires c = (c.requires.2, form_fit c.loop-at.invariant c.line_end.ensures c.in-At.is c.event_of-e.ensures c.plain_of-p.ensures)
 
 pub follow_event-f-requires : goal.follow_event-f-requires
 follow_event-f-requires c = (c.requires.0, c.event_of-e.ensures.within, form_room c.loop-at.invariant (omega (arith, c.loop-at-test.true, c.requires.1)), form_inline c.loop-at.invariant)
@@ -53,7 +53,7 @@ pub loop-at-smaller : goal.loop-at-smaller
 loop-at-smaller c = omega (arith, (c.line_end.ensures.inside _ c.in-At.is).0, (c.line_end.ensures.inside _ c.in-At.is).1)
 
 pub loop-at-preserved : goal.loop-at-preserved
-loop-at-preserved c = form_next c.loop-at.invariant c.line_end.ensures c.in-At.is c.event_of-e.ensures c.line_fault-fault.ensures c.if-fault-ne0.false c.plain_of_lem.ensures c.put_plain-n.ensures c.follow_event-f.ensures
+loop-at-preserved c = form_next c.loop-at.invariant c.line_end.ensures c.in-At.is c.event_of-e.ensures c.line_fault-fault.ensures c.if-fault-ne0.false c.plain_of-p.ensures c.put_plain-n.ensures c.follow_event-f.ensures
 
 pub shape_of-out : goal.shape_of-out
 shape_of-out c = search (rules, form_kept c.loop-at.invariant)

@@ -24,7 +24,7 @@ pub event_of-v-requires : goal.event_of-v-requires
 event_of-v-requires c = lined_known c.loop-at.invariant.0.rest c.line_end.ensures c.in-At.is
 
 pub returns-then-is_error : goal.returns-then-is_error
-returns-then-is_error c = seeking_found c.loop-at.invariant.0 c.line_end.ensures c.in-At.is c.event_of-v.ensures c.is_error_lem.ensures c.if-is_error.true
+returns-then-is_error c = seeking_found c.loop-at.invariant.0 c.line_end.ensures c.in-At.is c.event_of-v.ensures c.is_error.ensures c.if-is_error.true
 
 pub overflow_add-at : goal.overflow_add-at
 overflow_add-at c = search (rules, (c.line_end.ensures.inside _ c.in-At.is).0, (c.line_end.ensures.inside _ c.in-At.is).1)
@@ -36,7 +36,7 @@ pub loop-at-smaller : goal.loop-at-smaller
 loop-at-smaller c = omega (arith, (c.line_end.ensures.inside _ c.in-At.is).0, (c.line_end.ensures.inside _ c.in-At.is).1)
 
 pub loop-at-preserved : goal.loop-at-preserved
-loop-at-preserved c = (seeking_on c.loop-at.invariant.0 c.line_end.ensures c.in-At.is c.event_of-v.ensures c.is_error_lem.ensures c.if-is_error.false, c.loop-at.invariant.1)
+loop-at-preserved c = (seeking_on c.loop-at.invariant.0 c.line_end.ensures c.in-At.is c.event_of-v.ensures c.is_error.ensures c.if-is_error.false, c.loop-at.invariant.1)
 
 pub returns : goal.returns
 returns c = seeking_ends c.loop-at.invariant.0 c.loop-at-test.false
