@@ -318,22 +318,19 @@ fn usable(room: usize) -> usize
     4294967295
 }
 
-#[unsafe(no_mangle)]
-pub extern "C" fn recipe_words() -> usize
+pub fn recipe_words() -> usize
     ensures { result ≡ words_needed }
 {
     inputs::WORDS
 }
 
-#[unsafe(no_mangle)]
-pub extern "C" fn recipe_bytes() -> usize
+pub fn recipe_bytes() -> usize
     ensures { result ≡ bytes_needed }
 {
     inputs::BYTES
 }
 
-#[unsafe(no_mangle)]
-pub extern "C" fn recipe_collect(
+pub fn recipe_collect(
     sheet: &[u8],
     text: &[u8],
     units: &[u8],
@@ -350,8 +347,7 @@ pub extern "C" fn recipe_collect(
     code(r)
 }
 
-#[unsafe(no_mangle)]
-pub extern "C" fn recipe_plain_form(
+pub fn recipe_plain_form(
     sheet: &[u8],
     text: &[u8],
     units: &[u8],

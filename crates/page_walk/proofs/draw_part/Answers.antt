@@ -26,7 +26,7 @@ pub line_turn-r-requires : goal.line_turn-r-requires
 line_turn-r-requires c = (c.requires.0, c.requires.1.text_utf8, c.requires.1.indexed, walked_ready c.requires.1 c.loop-from.invariant c.line_end.ensures c.in-At.is)
 
 pub overflow_add-n : goal.overflow_add-n
-overflow_add-n c = let b : length c.args.out.now + 1 < 2 ^ 64 = omega (arith, c.well-formed.1.1.1.1.1.1.1.0.1) in record { fits = walked_fits c.requires.1 c.loop-from.invariant c.line_end.ensures c.in-At.is c.if-out-n.false c.line_turn-r.ensures b }
+overflow_add-n c = let b : length c.args.out.now + 1 < 2 ^ 64 = omega (arith, c.well_formed.1.1.1.1.1.1.1.0.1) in record { fits = walked_fits c.requires.1 c.loop-from.invariant c.line_end.ensures c.in-At.is c.if-out-n.false c.line_turn-r.ensures b }
 
 pub overflow_add-from : goal.overflow_add-from
 overflow_add-from c = record { fits = end_fits (c.line_end.ensures.inside _ c.in-At.is).1 c.requires.1.sheet_short }
