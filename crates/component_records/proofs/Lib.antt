@@ -3,5 +3,3 @@ pub mod Rows
 pub mod Records
 pub mod Pairs
 pub mod Lent
-pub mod Hand
-pub mod Again

@@ -163,3 +163,11 @@ module _ (all : List Component) where
           back = back i h;
           fits = λ own. let o = own_is_one (at i) own in let c = counted_upto (suc i) m h in let r = room in let l = length_linked ps i in omega (arith, o, c, r, l);
         }
+
+    -- a turn may be done
+    pub asked : {all' : List Component} {i n : ℕ} {ps' : List ℕ} → all' ≡ all → n ≡ counted i → ps' ≡ linked ps i → m ≤ 513 → i < m
+        → (i < length all') × (i < 513) × (n < 513) × LinkableAt all' i n (length ps')
+    asked {i = i} a b c few l =
+        let le = counted_le i in
+        let k : counted i < 513 = omega (arith, le) in
+        rw (a, b, c) (omega arith, omega arith, k, linkable_at i l)

@@ -106,8 +106,8 @@ pub fn component_at(words: &[u32], from: usize, count: usize, i: usize) -> Compo
 
 // All records that the caller lends: those of the rows, and empty ones after them.
 pub fn lend_records(words: &[u32], from: usize, count: usize, all: &mut [Component])
-    requires { (count ≤ 513) × (0 < count → from + count * 12 ≤ length words.now) × (count ≤ length all.now) }
-    ensures { all.exit.now ≡ records_in words.now from count ++ replicate (length all.entry.now - count) no_component }
+    requires { (count ≤ 513) × (0 < count → from + count * 12 ≤ length words.now) × (count ≤ length all.old) }
+    ensures { all.new ≡ records_in words.now from count ++ replicate (length all.old - count) no_component }
 {
     let mut i = 0;
     while i < all.len() {
@@ -153,9 +153,9 @@ pub fn set_referenced_from(
     pairs: &mut [u32],
     n: usize,
 ) -> Linked
-    requires { (references_to < count) × (count ≤ length all.now) × (count ≤ 513) × (n < 513) × (n * 2 + 2 ≤ length pairs.old) }
-    ensures { (all.exit.now ≡ all.entry.now)
-        × LinkedAs (get_or all.entry.now references_to no_component).relation.relation pairs.old n references_to count pairs.new result }
+    requires { (references_to < count) × (count ≤ length all.old) × (count ≤ 513) × (n < 513) × (n * 2 + 2 ≤ length pairs.old) }
+    ensures { (all.new ≡ all.old)
+        × LinkedAs (get_or all.old references_to no_component).relation.relation pairs.old n references_to count pairs.new result }
 {
     link(
         all[references_to].relation.relation,
@@ -194,10 +194,10 @@ fn place_after(l: Linked, n: usize) -> usize
 
 // The pair of the component at i, at n, where it has one; the place of the next pair.
 fn link_record(all: &mut [Component], i: usize, pairs: &mut [u32], n: usize) -> usize
-    requires { (i < length all.now) × (i < 513) × (n < 513) × LinkableAt all.now i n (length pairs.old) }
-    ensures { (all.exit.now ≡ all.entry.now)
-        × (pairs.new ≡ sets pairs.old (n * 2) (pair_at i (get_or all.entry.now i no_component)))
-        × (result ≡ n + own_at (get_or all.entry.now i no_component)) }
+    requires { (i < length all.old) × (i < 513) × (n < 513) × LinkableAt all.old i n (length pairs.old) }
+    ensures { (all.new ≡ all.old)
+        × (pairs.new ≡ sets pairs.old (n * 2) (pair_at i (get_or all.old i no_component)))
+        × (result ≡ n + own_at (get_or all.old i no_component)) }
 {
     let g = all[i].relation;
     if is_own_reference(g) {
@@ -208,10 +208,10 @@ fn link_record(all: &mut [Component], i: usize, pairs: &mut [u32], n: usize) -> 
 
 // The pairs of the first `count` records, and how many they are.
 pub fn link_records(all: &mut [Component], count: usize, pairs: &mut [u32]) -> usize
-    requires { (count ≤ 513) × (count ≤ length all.now) × Linkable (take count all.now) (length pairs.old) }
-    ensures { (all.exit.now ≡ all.entry.now)
-        × (pairs.new ≡ pairs_of (take count all.entry.now) ++ drop (length (pairs_of (take count all.entry.now))) pairs.old)
-        × (result ≡ own_count (take count all.entry.now)) }
+    requires { (count ≤ 513) × (count ≤ length all.old) × Linkable (take count all.old) (length pairs.old) }
+    ensures { (all.new ≡ all.old)
+        × (pairs.new ≡ pairs_of (take count all.old) ++ drop (length (pairs_of (take count all.old))) pairs.old)
+        × (result ≡ own_count (take count all.old)) }
 {
     let mut n = 0;
     let mut i = 0;
@@ -232,9 +232,9 @@ pub fn lend_table(
     all: &mut [Component],
     pairs: &mut [u32],
 ) -> usize
-    requires { (count ≤ 513) × (0 < count → from + count * 12 ≤ length words.now) × (count ≤ length all.now)
+    requires { (count ≤ 513) × (0 < count → from + count * 12 ≤ length words.now) × (count ≤ length all.old)
         × Linkable (records_in words.now from count) (length pairs.old) }
-    ensures { (all.exit.now ≡ records_in words.now from count ++ replicate (length all.entry.now - count) no_component)
+    ensures { (all.new ≡ records_in words.now from count ++ replicate (length all.old - count) no_component)
         × (pairs.new ≡ pairs_of (records_in words.now from count)
         ++ replicate (length pairs.old - length (pairs_of (records_in words.now from count))) 0)
         × (result ≡ own_count (records_in words.now from count)) }
