@@ -2,6 +2,4 @@ pub mod Counts
 pub mod Rows
 pub mod Passes
 pub mod Leaves
-pub mod Shared
-pub mod Literal
 pub mod Referrers

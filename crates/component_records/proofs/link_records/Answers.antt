@@ -11,6 +11,8 @@ link_record-n-requires c =
 pub returns : goal.returns
 returns c =
     let v = c.loop-i.invariant in
-    let done : c.loop-i.i ≡ c.args.count = omega arith in
-    (v.kept, rw done at v.pairs ∙ all_linked c.args.all.now c.args.count c.args.pairs.now c.requires.1 c.requires.2,
-    rw done at v.number ∙ counted_is c.args.all.now c.args.count c.requires.1)
+    let done : c.loop-i.i ≡ c.args.count = omega arith in (
+      v.kept,
+      rw done at v.pairs ∙ all_linked c.args.all.now c.args.count c.args.pairs.now c.requires.1 c.requires.2,
+      rw done at v.number ∙ counted_is c.args.all.now c.args.count c.requires.1,
+    )
