@@ -4,8 +4,8 @@
 ghost use Rattle.std.specs.Prelude.{◌≡◌, ◌≤◌, ◌*◌};
 ghost use Rattle.letters.specs.Tables.{unicode_tables};
 
-use libc::STDOUT_FILENO;
 use letters::Folded;
+use libc::STDOUT_FILENO;
 
 const POINTS: u32 = 1114112;
 

@@ -20,8 +20,8 @@ ghost use Rattle.text.specs.Names.{start_cursor, step_of, fold_from, rest, told}
 ghost use Rattle.text.specs.Seams.{Met};
 
 use ends::Last;
-use meets::Meeting;
 use letters::Folded;
+use meets::Meeting;
 
 // Which characters a trimming drops at both ends.
 #[derive(Clone, Copy)]
