@@ -9,7 +9,7 @@ and its work memory, on each call, which is counted; the Rust's page is written 
 The Rust: the sheet and unit list read by harness/src/sheet.rs, `parse_events` of cooklang-rs, the page written by harness/src/page.rs.
 "the pass" is what `parse_events` takes of it. Neither the reader nor the writer of the harness was made to be fast.
 
-Run by hand, with valgrind, after `rt staticlib recipe` (or with RECIPE_LIB_DIR): bench/collect.py [--times TIMES] [--rust-only] [--further] [WORD ...]
+Run by hand, with valgrind, after `tools/build.py recipe` (or with RECIPE_LIB_DIR): bench/collect.py [--times TIMES] [--rust-only] [--further] [WORD ...]
 (a word chooses the inputs whose names hold it; --further: inputs made to be slow)."""
 import argparse
 import os

@@ -5,6 +5,7 @@ event, so that nothing but reading is done, twice: `replay` asks for the page an
 import os
 import re
 import subprocess
+import sys
 import tempfile
 
 HERE = os.path.dirname(os.path.dirname(os.path.abspath(__file__)))
@@ -37,7 +38,7 @@ def count(replay, work, bytes_):
 def main():
     replay = os.environ.get("REPLAY")
     if not replay:
-        subprocess.run(["rt", "check", "replay"], cwd=HERE, check=True, stdout=subprocess.DEVNULL)
+        subprocess.run([sys.executable, os.path.join(HERE, "tools", "build.py"), "replay"], check=True)
         replay = os.path.join(HERE, "target", "bin", "replay")
     with tempfile.TemporaryDirectory() as work:
         for name in ("paper.txt", "decisions.txt", "limits.txt"):

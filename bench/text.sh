@@ -5,7 +5,7 @@
 # both to their ends. Run by hand: bench/text.sh
 set -euo pipefail
 cd "$(dirname "$0")/.."
-rt check stream >/dev/null
+python3 tools/build.py stream
 work=$(mktemp -d)
 trap 'rm -r "$work"' EXIT
 python3 - "$work" <<'PY'

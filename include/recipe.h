@@ -1,6 +1,6 @@
 /* Recipe pages and plain forms from Cooklang event sheets.
  *
- * Link with target/staticlib/librecipe.a (made by `rt staticlib recipe`; x86-64). The library allocates nothing, keeps
+ * Link with target/staticlib/librecipe.a (made by `tools/build.py recipe`; x86-64). The library allocates nothing, keeps
  * nothing between calls, calls nothing but memcpy, memmove and memset, and may be used from several threads at once as
  * long as each lends its own memory. No input makes it read or write outside what is lent, loop for ever or stop the
  * program: this is proved of its source, as is what is said below of answers and of what is left in memory.

@@ -19,7 +19,7 @@ def programs():
         subprocess.run(["cargo", "build", "-q", "--release", "--offline"], cwd=folder, check=True)
         harness = os.path.join(folder, "target", "release", "harness")
     if not replay:
-        subprocess.run(["rt", "check", "replay"], cwd=HERE, check=True, stdout=subprocess.DEVNULL)
+        subprocess.run([sys.executable, os.path.join(HERE, "tools", "build.py"), "replay"], check=True)
         replay = os.path.join(HERE, "target", "bin", "replay")
     return harness, replay
 

@@ -286,7 +286,7 @@ def write_crate(name, modules):
 
 def check(name):
     env = dict(os.environ, RT_JOBS="1", RT_CUT="600")
-    r = subprocess.run(["rt", "check", name], cwd=WORK, env=env, stdout=subprocess.PIPE, stderr=subprocess.STDOUT, text=True)
+    r = subprocess.run(["rt", "check"], cwd=os.path.join(WORK, "crates", name), env=env, stdout=subprocess.PIPE, stderr=subprocess.STDOUT, text=True)
     return r.returncode == 0, r.stdout
 
 
@@ -317,7 +317,7 @@ def main():
     a, _, b = o.range.partition(":")
     cases = list(enumerate(cases))[int(a or 0):int(b) if b else None]
     shutil.rmtree(WORK, ignore_errors=True)
-    shutil.copytree(os.path.join(HERE, "crates", "rules"), os.path.join(WORK, "crates", "rules"), ignore=shutil.ignore_patterns("must-fail"))
+    shutil.copytree(os.path.join(HERE, "crates", "rules"), os.path.join(WORK, "crates", "rules"), ignore=shutil.ignore_patterns("must-fail", "out"))
     by_name = {}
     todo = []
     for n, c in cases:

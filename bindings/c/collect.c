@@ -1,7 +1,7 @@
 /* Collects the recipe in a directory (recipe.cook, units.tsv, flags, events.tsv) and prints its page, or the refusal, as the
  * program `collect` does. From the repository's root:
  *
- *     rt staticlib recipe
+ *     python3 tools/build.py recipe
  *     cc -std=c99 -Wall -Wextra -pedantic -Iinclude bindings/c/collect.c target/staticlib/librecipe.a -o target/collect-c
  *     target/collect-c examples/rye
  */

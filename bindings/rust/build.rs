@@ -1,4 +1,4 @@
-//! Tells the linker where librecipe.a is: in RECIPE_LIB_DIR, or where `rt staticlib recipe` puts it.
+//! Tells the linker where librecipe.a is: in RECIPE_LIB_DIR, or where `tools/build.py recipe` puts it.
 use std::path::PathBuf;
 
 fn main() {
@@ -8,7 +8,7 @@ fn main() {
         .unwrap_or_else(|| PathBuf::from(env!("CARGO_MANIFEST_DIR")).join("../../target/staticlib"));
     let archive = dir.join("librecipe.a");
     if !archive.exists() {
-        panic!("{} is not there: run `rt staticlib recipe`, or set RECIPE_LIB_DIR", archive.display());
+        panic!("{} is not there: run `python3 tools/build.py recipe`, or set RECIPE_LIB_DIR", archive.display());
     }
     println!("cargo:rerun-if-changed={}", archive.display());
     println!("cargo:rustc-link-search=native={}", dir.display());
