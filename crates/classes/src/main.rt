@@ -5,7 +5,7 @@ ghost use Rattle.std.specs.Prelude.{◌≡◌, ◌≤◌, ◌*◌};
 ghost use Rattle.letters.specs.Tables.{unicode_tables};
 
 use letters::Folded;
-use libc::STDOUT_FILENO;
+use std::io;
 
 const POINTS: u32 = 1114112;
 
@@ -111,37 +111,37 @@ fn changed(t: &[u32]) -> u32
     n
 }
 
-fn show(s: Sum) {
-    io::write_all(STDOUT_FILENO, b"\t");
-    io::print_decimal(STDOUT_FILENO, wide(s.count));
-    io::write_all(STDOUT_FILENO, b"\t");
-    io::print_decimal(STDOUT_FILENO, s.total);
-    io::write_all(STDOUT_FILENO, b"\n");
+fn show(rt: &impl Print, s: Sum) -> io::Result<()> {
+    rt.write_all(b"\t")?;
+    rt.print(s.count)?;
+    rt.write_all(b"\t")?;
+    rt.print(s.total)?;
+    rt.write_all(b"\n")
 }
 
-fn show_classes(t: &[u32])
+fn show_classes(rt: &impl Print, t: &[u32]) -> io::Result<()>
     requires { t.now ≡ unicode_tables }
 {
-    io::write_all(STDOUT_FILENO, b"white");
-    show(members(t, Class::White));
-    io::write_all(STDOUT_FILENO, b"alphabetic");
-    show(members(t, Class::Alphabetic));
-    io::write_all(STDOUT_FILENO, b"numeric");
-    show(members(t, Class::Numeric));
-    io::write_all(STDOUT_FILENO, b"alphanumeric");
-    show(members(t, Class::Alphanumeric));
+    rt.write_all(b"white")?;
+    show(rt, members(t, Class::White))?;
+    rt.write_all(b"alphabetic")?;
+    show(rt, members(t, Class::Alphabetic))?;
+    rt.write_all(b"numeric")?;
+    show(rt, members(t, Class::Numeric))?;
+    rt.write_all(b"alphanumeric")?;
+    show(rt, members(t, Class::Alphanumeric))
 }
 
-fn show_folding(t: &[u32])
+fn show_folding(rt: &impl Print, t: &[u32]) -> io::Result<()>
     requires { t.now ≡ unicode_tables }
 {
-    io::write_all(STDOUT_FILENO, b"folding\t");
-    io::print_decimal(STDOUT_FILENO, wide(changed(t)));
-    show(foldings(t));
+    rt.write_all(b"folding\t")?;
+    rt.print(changed(t))?;
+    show(rt, foldings(t))
 }
 
-fn main() {
+fn main(rt: HostRuntime) -> io::Result<()> {
     let tables = letters::unicode_tables();
-    show_classes(&tables);
-    show_folding(&tables);
+    show_classes(&rt, &tables)?;
+    show_folding(&rt, &tables)
 }

@@ -1,11 +1,11 @@
 // Reads lines of fields from standard input, and writes what the readers and writers of the sheet say of each.
 #![tactic(auto)]
 
-use libc::{STDIN_FILENO, STDOUT_FILENO};
 use sheet::{
     BlockWord, DefineWord, DuplicateWord, KeyWord, Length, LineEnd, Number, Signed, Unescaped,
     ValueWord, Word,
 };
+use std::io;
 
 fn event_number(w: Word) -> u32 {
     match w {
@@ -200,13 +200,14 @@ fn put_refusals(out: &mut [u8], at: usize) -> usize {
     d
 }
 
-fn main() {
-    let mut text = io::large_buffer();
-    let n = io::read_full(STDIN_FILENO, &mut text);
-    let mut out = io::large_buffer();
+fn main(rt: HostRuntime) -> io::Result<()> {
+    let mut text = host::large_buffer();
+    let n = host::read_full(&mut rt.stdin(), &mut text)?;
+    let mut out = host::large_buffer();
     let a = put_lines(&mut out, 0, &text[..n]);
     let b = put_refusals(&mut out, a);
     if b <= 65536 {
-        io::write_all(STDOUT_FILENO, &out[..b]);
+        rt.write_all(&out[..b])?;
     }
+    Ok(())
 }

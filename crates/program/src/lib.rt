@@ -5,10 +5,13 @@
 #![tactic(auto)]
 
 ghost use Rattle.std.specs.Prelude.{◌≤◌, ◌≡◌, length};
+ghost use Rattle.std.specs.Io.{ReadsAtMost};
 ghost use Rattle.recipe.specs.Answers.{lent_of};
 ghost use Rattle.program.specs.Prints.{AnswerPrinted};
 
-use libc::STDOUT_FILENO;
+use std::fs;
+use std::io;
+use std::rt::Files;
 
 // What a program prints, at the front of the output, and how much: of the page, or of the plain form.
 fn answer(
@@ -64,55 +67,40 @@ fn out_room() -> [u8; 1048576]
     [0; 1048576]
 }
 
-fn print_answer(plain: bool, sheet: &[u8], text: &[u8], units: &[u8], flags: u32) {
+fn print_answer(
+    rt: &impl Print,
+    plain: bool,
+    sheet: &[u8],
+    text: &[u8],
+    units: &[u8],
+    flags: u32,
+) -> io::Result<()> {
     let mut words = words_room();
     let mut bytes = text_room();
     let mut out = out_room();
     let n = answer(
         plain, sheet, text, units, flags, &mut words, &mut bytes, &mut out,
     );
-    if !io::write_all(STDOUT_FILENO, &out[..n]) {
-        os::fail(b"standard output");
-    }
+    rt.write_all(&out[..n])
 }
 
-#[derive(Clone, Copy)]
-enum Got {
-    // How many bytes at the front of the room.
-    Bytes(usize),
-    Unreadable,
+// How many bytes of a file were read, at the front of the room: until the room is full or the file
+// ends.
+fn read_all(rt: &impl Files, name: &str, room: &mut [u8]) -> io::Result<usize>
+    ensures { ReadsAtMost result room.new }
+{
+    let mut file = fs::open(rt, name)?;
+    host::read_full(&mut file, room)
 }
 
-// Reads until the room is full or the file ends.
-fn read_all(fd: i32, room: &mut [u8]) -> Got {
-    let mut n = 0;
-    while n < room.len() {
-        let got = libc::read(fd, &mut room[n..]);
-        if got < 0 {
-            return Got::Unreadable;
-        }
-        let k = io::count(got, &room[n..]);
-        if k == 0 {
-            return Got::Bytes(n);
-        }
-        n += k;
+// The same; a file that cannot be read is named on standard error.
+fn read_file(rt: &(impl Files + Eprint), name: &str, room: &mut [u8]) -> io::Result<usize>
+    ensures { ReadsAtMost result room.new }
+{
+    let got = read_all(rt, name, room);
+    if got.is_err() {
+        eprintln!(rt; "{name} cannot be read")?;
     }
-    Got::Bytes(n)
-}
-
-fn read_file(name: &[u8], room: &mut [u8]) -> Got {
-    let fd = os::open_read(name);
-    if fd < 0 {
-        os::fail(name);
-        return Got::Unreadable;
-    }
-    let got = read_all(fd, room);
-    let Got::Bytes(n) = got else {
-        os::fail(name);
-        libc::close(fd);
-        return Got::Unreadable;
-    };
-    libc::close(fd);
     got
 }
 
@@ -125,35 +113,38 @@ fn front<'a>(room: &'a [u8], n: usize) -> &'a [u8] {
 }
 
 // The files, one after the other; what was read is handed on.
-fn with_flags(plain: bool, text: &[u8], units: &[u8], flags: u32) {
+fn with_flags(
+    rt: &(impl Files + Print + Eprint),
+    plain: bool,
+    text: &[u8],
+    units: &[u8],
+    flags: u32,
+) -> io::Result<()> {
     let mut room = sheet_room();
-    let Got::Bytes(n) = read_file(b"events.tsv", &mut room) else {
-        return;
-    };
-    print_answer(plain, front(&room, n), text, units, flags);
+    let n = read_file(rt, "events.tsv", &mut room)?;
+    print_answer(rt, plain, front(&room, n), text, units, flags)
 }
 
-fn with_units(plain: bool, text: &[u8], units: &[u8]) {
+fn with_units(
+    rt: &(impl Files + Print + Eprint),
+    plain: bool,
+    text: &[u8],
+    units: &[u8],
+) -> io::Result<()> {
     let mut room = [0u8; 2];
-    let Got::Bytes(n) = read_file(b"flags", &mut room) else {
-        return;
-    };
-    with_flags(plain, text, units, inputs::read_flags(front(&room, n)));
+    let n = read_file(rt, "flags", &mut room)?;
+    with_flags(rt, plain, text, units, inputs::read_flags(front(&room, n)))
 }
 
-fn with_text(plain: bool, text: &[u8]) {
+fn with_text(rt: &(impl Files + Print + Eprint), plain: bool, text: &[u8]) -> io::Result<()> {
     let mut room = units_room();
-    let Got::Bytes(n) = read_file(b"units.tsv", &mut room) else {
-        return;
-    };
-    with_units(plain, text, front(&room, n));
+    let n = read_file(rt, "units.tsv", &mut room)?;
+    with_units(rt, plain, text, front(&room, n))
 }
 
 // A program: the plain form, or the page.
-pub fn run(plain: bool) {
+pub fn run(rt: &(impl Files + Print + Eprint), plain: bool) -> io::Result<()> {
     let mut room = text_room();
-    let Got::Bytes(n) = read_file(b"recipe.cook", &mut room) else {
-        return;
-    };
-    with_text(plain, front(&room, n));
+    let n = read_file(rt, "recipe.cook", &mut room)?;
+    with_text(rt, plain, front(&room, n))
 }

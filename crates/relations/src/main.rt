@@ -10,9 +10,9 @@ ghost use Rattle.inputs.specs.Inputs.{GoodInputs};
 ghost use Rattle.model.specs.Memory.{Sound};
 
 use inputs::Inputs;
-use libc::STDOUT_FILENO;
 use model::{Held, RelationRecord};
 use pass::Ran;
+use std::io;
 use stored_cases::{Case, Stored, part};
 
 // ---- components
@@ -25,53 +25,70 @@ fn put_word(out: &mut [u8], is_ingredient: bool) -> usize {
 }
 
 // Its kind, index and relation as a line.
-fn show_component(pairs: &[u32], m: usize, r: RelationRecord, index: u32, is_ingredient: bool)
+fn show_component(
+    rt: &impl Print,
+    pairs: &[u32],
+    m: usize,
+    r: RelationRecord,
+    index: u32,
+    is_ingredient: bool,
+) -> io::Result<()>
     requires { (m ≤ 513) × (m * 2 ≤ length pairs.now) }
 {
-    let mut out = io::buffer();
+    let mut out = host::buffer();
     let a = put_word(&mut out, is_ingredient);
     let b = output::put_number(&mut out, a, index);
     let c = entry_lines::put_relation(&mut out, b, pairs, m, r, index, is_ingredient);
     let n = output::put_byte(&mut out, c, b'\n');
-    io::write_all(STDOUT_FILENO, part(&out, 0, n));
+    rt.write_all(part(&out, 0, n))
 }
 
-fn show_components(rows: &[u32], n: usize, pairs: &[u32], m: usize, is_ingredient: bool)
+fn show_components(
+    rt: &impl Print,
+    rows: &[u32],
+    n: usize,
+    pairs: &[u32],
+    m: usize,
+    is_ingredient: bool,
+) -> io::Result<()>
     requires { (n ≤ 513) × (n * 12 ≤ length rows.now) × (m ≤ 513) × (m * 2 ≤ length pairs.now) }
 {
     let mut i = 0;
     while i < n {
         let row = model::row_at(rows, i);
         let relation = row.relation;
-        show_component(pairs, m, relation, i as u32, is_ingredient);
+        show_component(rt, pairs, m, relation, i as u32, is_ingredient)?;
         i += 1;
     }
+    Ok(())
 }
 
-fn show_both(words: &[u32], h: Held)
+fn show_both(rt: &impl Print, words: &[u32], h: Held) -> io::Result<()>
     requires { Sound words.now h }
 {
     show_components(
+        rt,
         &words[0..6156],
         h.counts.ingredients,
         &words[9240..10266],
         h.counts.ingredient_pairs,
         true,
-    );
+    )?;
     show_components(
+        rt,
         &words[6156..9240],
         h.counts.cookware,
         &words[10266..10780],
         h.counts.cookware_pairs,
         false,
-    );
+    )
 }
 
 // ---- the recipe
 
-fn show_count(what: &[u8], n: usize) {
-    io::write_all(STDOUT_FILENO, what);
-    io::print_decimal(STDOUT_FILENO, n as u64);
+fn show_count(rt: &impl Print, what: &[u8], n: usize) -> io::Result<()> {
+    rt.write_all(what)?;
+    rt.print(n)
 }
 
 // The findings after the end: 3 comes last.
@@ -84,30 +101,31 @@ fn findings(h: Held) -> usize
     h.counts.findings + 1
 }
 
-fn show_counts(h: Held)
+fn show_counts(rt: &impl Print, h: Held) -> io::Result<()>
     requires { (h.counts.sections ≤ 128) × (h.counts.findings ≤ 1024) }
 {
     let ended = memory::begin_section(h, false);
-    show_count(b"ingredients ", h.counts.ingredients);
-    show_count(b", cookware ", h.counts.cookware);
-    show_count(b", timers ", h.counts.timers);
-    show_count(b", inline ", h.counts.inline);
-    show_count(b", sections ", ended.counts.sections);
-    show_count(b", blocks ", h.counts.blocks);
-    show_count(b", items ", h.counts.items);
-    show_count(b", findings ", findings(h));
-    io::write_all(STDOUT_FILENO, b"\n");
+    show_count(rt, b"ingredients ", h.counts.ingredients)?;
+    show_count(rt, b", cookware ", h.counts.cookware)?;
+    show_count(rt, b", timers ", h.counts.timers)?;
+    show_count(rt, b", inline ", h.counts.inline)?;
+    show_count(rt, b", sections ", ended.counts.sections)?;
+    show_count(rt, b", blocks ", h.counts.blocks)?;
+    show_count(rt, b", items ", h.counts.items)?;
+    show_count(rt, b", findings ", findings(h))?;
+    rt.write_all(b"\n")
 }
 
-fn show_refusal(number: u32, line: u32) {
-    let mut out = io::buffer();
+fn show_refusal(rt: &impl Print, number: u32, line: u32) -> io::Result<()> {
+    let mut out = host::buffer();
     let n = output::write_refusal(&mut out, number, line);
-    io::write_all(STDOUT_FILENO, part(&out, 0, n));
+    rt.write_all(part(&out, 0, n))
 }
 
 // ---- cases
 
 fn run(
+    rt: &impl Print,
     t: &[u32],
     sheet: &[u8],
     text: &[u8],
@@ -115,24 +133,28 @@ fn run(
     index: &[u32],
     flags: u32,
     words: &mut [u32],
-)
+) -> io::Result<()>
     requires { (t.now ≡ unicode_tables) × GoodInputs sheet.now text.now units.now flags (length words.old) 65536 × Indexed units.now index.now }
 {
     match pass::run(t, sheet, text, units, index, flags, words) {
         Ran::Recipe(h) => {
-            show_counts(h);
-            show_both(words, h);
+            show_counts(rt, h)?;
+            show_both(rt, words, h)
         }
-        Ran::Failed => {
-            io::write_all(STDOUT_FILENO, b"no recipe\n");
-        }
-        Ran::Refused(n, l) => {
-            show_refusal(n, l);
-        }
+        Ran::Failed => rt.write_all(b"no recipe\n"),
+        Ran::Refused(n, l) => show_refusal(rt, n, l),
     }
 }
 
-fn check_and_run(t: &[u32], sheet: &[u8], text: &[u8], units: &[u8], flags: u32, words: &mut [u32])
+fn check_and_run(
+    rt: &impl Print,
+    t: &[u32],
+    sheet: &[u8],
+    text: &[u8],
+    units: &[u8],
+    flags: u32,
+    words: &mut [u32],
+) -> io::Result<()>
     requires { t.now ≡ unicode_tables }
 {
     let mut index = [0u32; 2305];
@@ -145,43 +167,40 @@ fn check_and_run(t: &[u32], sheet: &[u8], text: &[u8], units: &[u8], flags: u32,
         words.len(),
         inputs::BYTES,
     ) {
-        Inputs::Refused(n, l) => {
-            show_refusal(n, l);
-        }
-        Inputs::Good => {
-            run(t, sheet, text, units, &index, flags, words);
-        }
+        Inputs::Refused(n, l) => show_refusal(rt, n, l),
+        Inputs::Good => run(rt, t, sheet, text, units, &index, flags, words),
     }
 }
 
-fn relate(t: &[u32], s: &[u8], c: Case, words: &mut [u32])
+fn relate(rt: &impl Print, t: &[u32], s: &[u8], c: Case, words: &mut [u32]) -> io::Result<()>
     requires { t.now ≡ unicode_tables }
 {
-    io::write_all(STDOUT_FILENO, part(s, c.name, c.sheet));
-    io::write_all(STDOUT_FILENO, b"\n");
+    rt.write_all(part(s, c.name, c.sheet))?;
+    rt.write_all(b"\n")?;
     let sheet = part(s, c.sheet, c.text);
     let text = part(s, c.text, c.units);
     let units = part(s, c.units, c.flags);
     let flags = inputs::read_flags(part(s, c.flags, c.collect));
-    check_and_run(t, sheet, text, units, flags, words);
+    check_and_run(rt, t, sheet, text, units, flags, words)
 }
 
 // All cases of a file. Nothing is read after what is not as the format says.
-fn relate_all(t: &[u32], s: &[u8], words: &mut [u32])
+fn relate_all(rt: &impl Print, t: &[u32], s: &[u8], words: &mut [u32]) -> io::Result<()>
     requires { t.now ≡ unicode_tables }
 {
     let mut at = 0;
     while at < s.len() {
         let Stored::At(c) = stored_cases::case_at(s, at) else {
-            return;
+            return Ok(());
         };
-        relate(t, s, c, words);
+        relate(rt, t, s, c, words)?;
         let next = stored_cases::next_case(s, c);
         if next <= at {
-            return;
+            return Ok(());
         }
         at = next;
     }
+    Ok(())
 }
 
 fn words_room() -> [u32; 45661]
@@ -190,10 +209,10 @@ fn words_room() -> [u32; 45661]
     [0; 45661]
 }
 
-fn main() {
+fn main(rt: HostRuntime) -> io::Result<()> {
     let t = letters::unicode_tables();
     let mut words = words_room();
     let mut space = stored_cases::room();
-    let n = stored_cases::read_file(b"cases.txt", &mut space);
-    relate_all(&t, part(&space, 0, n), &mut words);
+    let n = stored_cases::read_file(&rt, "cases.txt", &mut space)?;
+    relate_all(&rt, &t, part(&space, 0, n), &mut words)
 }

@@ -6,8 +6,9 @@
 
 ghost use Rattle.std.specs.Prelude.{◌≡◌, length};
 
-use libc::STDOUT_FILENO;
 use recipe::Answer;
+use std::io;
+use std::rt::Files;
 use stored_cases::{Case, Stored, part, show, starts};
 
 // Places in a list of counts: all pages or forms, refused by 1 to 24, pages without a recipe, forms other than the sheet, all
@@ -90,7 +91,7 @@ fn is_cleared(r: Answer, words: &[u32], bytes: &[u8], out: &[u8]) -> bool {
 // ---- a case
 
 fn is_refusal(number: u32, line: u32, stored: &[u8]) -> bool {
-    let mut out = io::buffer();
+    let mut out = host::buffer();
     let n = output::write_refusal(&mut out, number, line);
     sheet::same_bytes(part(&out, 0, n), stored)
 }
@@ -247,12 +248,17 @@ fn out_room() -> [u8; 1048576]
     [0; 1048576]
 }
 
-fn replay_file(plain: bool, name: &[u8], counts: &mut [u64; 29]) {
+fn replay_file(
+    rt: &impl Files,
+    plain: bool,
+    name: &str,
+    counts: &mut [u64; 29],
+) -> io::Result<()> {
     let mut space = stored_cases::room();
     let mut words = words_room();
     let mut bytes = bytes_room();
     let mut out = out_room();
-    let n = stored_cases::read_file(name, &mut space);
+    let n = stored_cases::read_file(rt, name, &mut space)?;
     replay_all(
         plain,
         part(&space, 0, n),
@@ -261,50 +267,57 @@ fn replay_file(plain: bool, name: &[u8], counts: &mut [u64; 29]) {
         &mut out,
         counts,
     );
+    Ok(())
 }
 
-fn replay_files(plain: bool, counts: &mut [u64; 29]) {
-    replay_file(plain, b"paper.txt", counts);
-    replay_file(plain, b"decisions.txt", counts);
-    replay_file(plain, b"generated.txt", counts);
-    replay_file(plain, b"limits.txt", counts);
+fn replay_files(rt: &impl Files, plain: bool, counts: &mut [u64; 29]) -> io::Result<()> {
+    replay_file(rt, plain, "paper.txt", counts)?;
+    replay_file(rt, plain, "decisions.txt", counts)?;
+    replay_file(rt, plain, "generated.txt", counts)?;
+    replay_file(rt, plain, "limits.txt", counts)
 }
 
 // How many were refused by each number, to `last`, each after these words.
-fn show_refused(words: &[u8], counts: &[u64; 29], last: usize) {
+fn show_refused(
+    rt: &impl Print,
+    words: &[u8],
+    counts: &[u64; 29],
+    last: usize,
+) -> io::Result<()> {
     let mut i = 1;
     while i <= 24 {
         if last < i {
-            return;
+            return Ok(());
         }
-        io::write_all(STDOUT_FILENO, words);
-        io::print_decimal(STDOUT_FILENO, i as u64);
-        show(b": ", count_of(counts, i));
+        rt.write_all(words)?;
+        rt.print(i)?;
+        show(rt, b": ", count_of(counts, i))?;
         i += 1;
     }
+    Ok(())
 }
 
-fn show_pages(counts: &[u64; 29]) {
-    show(b"cases ", count_of(counts, CASES));
-    show(b"pages ", count_of(counts, GIVEN));
-    show(b"without recipe ", count_of(counts, WITHOUT));
-    show_refused(b"refused ", counts, 20);
-    show(b"different ", count_of(counts, DIFFERENT));
+fn show_pages(rt: &impl Print, counts: &[u64; 29]) -> io::Result<()> {
+    show(rt, b"cases ", count_of(counts, CASES))?;
+    show(rt, b"pages ", count_of(counts, GIVEN))?;
+    show(rt, b"without recipe ", count_of(counts, WITHOUT))?;
+    show_refused(rt, b"refused ", counts, 20)?;
+    show(rt, b"different ", count_of(counts, DIFFERENT))
 }
 
-fn show_forms(counts: &[u64; 29]) {
-    show(b"plain forms of cases ", count_of(counts, CASES));
-    show(b"forms ", count_of(counts, GIVEN));
-    show(b"other than the sheet ", count_of(counts, CHANGED));
-    show_refused(b"form refused ", counts, 24);
-    show(b"forms different ", count_of(counts, DIFFERENT));
+fn show_forms(rt: &impl Print, counts: &[u64; 29]) -> io::Result<()> {
+    show(rt, b"plain forms of cases ", count_of(counts, CASES))?;
+    show(rt, b"forms ", count_of(counts, GIVEN))?;
+    show(rt, b"other than the sheet ", count_of(counts, CHANGED))?;
+    show_refused(rt, b"form refused ", counts, 24)?;
+    show(rt, b"forms different ", count_of(counts, DIFFERENT))
 }
 
-fn main() {
+fn main(rt: HostRuntime) -> io::Result<()> {
     let mut pages = [0u64; 29];
-    replay_files(false, &mut pages);
-    show_pages(&pages);
+    replay_files(&rt, false, &mut pages)?;
+    show_pages(&rt, &pages)?;
     let mut forms = [0u64; 29];
-    replay_files(true, &mut forms);
-    show_forms(&forms);
+    replay_files(&rt, true, &mut forms)?;
+    show_forms(&rt, &forms)
 }

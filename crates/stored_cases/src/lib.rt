@@ -3,9 +3,12 @@
 #![tactic(auto)]
 
 ghost use Rattle.std.specs.Prelude.{◌≡◌, length, get_or, replicate};
+ghost use Rattle.std.specs.Io.{ReadsAtMost};
 ghost use Rattle.stored_cases.specs.Cases.{part_of, after_of, starts_with, number_at, read_as, laid_out, parts_at, case_at, stored_as};
 
-use libc::STDOUT_FILENO;
+use std::fs;
+use std::io;
+use std::rt::Files;
 
 // A number, and the place after the byte that ends it.
 #[derive(Clone, Copy)]
@@ -227,21 +230,16 @@ pub fn room() -> [u8; 2097152]
     [0; 2097152]
 }
 
-// How many bytes of a file were read; 0, and a line to standard error, where it cannot be opened.
-pub fn read_file(name: &[u8], space: &mut [u8]) -> usize {
-    let fd = os::open_read(name);
-    if fd < 0 {
-        os::fail(name);
-        return 0;
-    }
-    let n = io::read_full(fd, space);
-    libc::close(fd);
-    n
+// How many bytes of a file were read, at the front of the room; a longer file fills it.
+pub fn read_file(rt: &impl Files, name: &str, space: &mut [u8]) -> io::Result<usize>
+    ensures { ReadsAtMost result space.new }
+{
+    let mut file = fs::open(rt, name)?;
+    host::read_full(&mut file, space)
 }
 
 // Prints some words and a number as a line.
-pub fn show(what: &[u8], n: u64) {
-    io::write_all(STDOUT_FILENO, what);
-    io::print_decimal(STDOUT_FILENO, n);
-    io::write_all(STDOUT_FILENO, b"\n");
+pub fn show(rt: &impl Print, what: &[u8], n: u64) -> io::Result<()> {
+    rt.write_all(what)?;
+    rt.println(n)
 }

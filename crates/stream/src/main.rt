@@ -8,7 +8,7 @@
 ghost use Rattle.std.specs.Prelude.{◌≡◌, ◌≤◌, length};
 ghost use Rattle.letters.specs.Tables.{unicode_tables};
 
-use libc::{STDIN_FILENO, STDOUT_FILENO};
+use std::io;
 use text::Step;
 
 #[derive(Clone, Copy)]
@@ -88,60 +88,60 @@ fn folded(t: &[u32], s: &[u8]) -> Sum
     }
 }
 
-fn put(n: u64, after: &[u8]) {
-    io::print_decimal(STDOUT_FILENO, n);
-    io::write_all(STDOUT_FILENO, after);
+fn put(rt: &impl Print, n: u64, after: &[u8]) -> io::Result<()> {
+    rt.print(n)?;
+    rt.write_all(after)
 }
 
-fn show_counts(n: Counts) {
-    put(n.points, b"\t");
-    put(n.white, b"\t");
-    put(n.alphabetic, b"\t");
-    put(n.alphanumeric, b"\t");
+fn show_counts(rt: &impl Print, n: Counts) -> io::Result<()> {
+    put(rt, n.points, b"\t")?;
+    put(rt, n.white, b"\t")?;
+    put(rt, n.alphabetic, b"\t")?;
+    put(rt, n.alphanumeric, b"\t")
 }
 
-fn show_place(line: &[u8]) {
+fn show_place(rt: &impl Print, line: &[u8]) -> io::Result<()> {
     let p = content::name_place(line);
-    put(wide(p.end), b"\t");
-    put(wide(p.start), b"\t");
+    put(rt, wide(p.end), b"\t")?;
+    put(rt, wide(p.start), b"\t")
 }
 
-fn show_same(t: &[u32], before: &[u8], line: &[u8])
+fn show_same(rt: &impl Print, t: &[u32], before: &[u8], line: &[u8]) -> io::Result<()>
     requires { t.now ≡ unicode_tables }
 {
     let same = text::same_name(t, before, line);
-    put(one(same), b"\t");
+    put(rt, one(same), b"\t")?;
     let equal = content::same_parts(before, line);
-    put(one(equal), b"\n");
+    put(rt, one(equal), b"\n")
 }
 
-fn show_read(t: &[u32], line: &[u8])
+fn show_read(rt: &impl Print, t: &[u32], line: &[u8]) -> io::Result<()>
     requires { t.now ≡ unicode_tables }
 {
-    show_counts(count(t, line));
+    show_counts(rt, count(t, line))?;
     let any = text::has_alphanumeric(t, line);
-    put(one(any), b"\t");
+    put(rt, one(any), b"\t")?;
     let f = folded(t, line);
-    put(f.count, b"\t");
-    put(f.total, b"\t");
+    put(rt, f.count, b"\t")?;
+    put(rt, f.total, b"\t")
 }
 
-fn show_trimmed(t: &[u32], line: &[u8], work: &mut [u8])
+fn show_trimmed(rt: &impl Print, t: &[u32], line: &[u8], work: &mut [u8]) -> io::Result<()>
     requires { t.now ≡ unicode_tables }
 {
     let r = text::text_outer_trimmed(t, line);
-    put(wide(r.len()), b"\t");
+    put(rt, wide(r.len()), b"\t")?;
     let n = text::put_text_trimmed(t, work, 0, line);
-    put(wide(n), b"\t");
+    put(rt, wide(n), b"\t")
 }
 
-fn show_line(t: &[u32], before: &[u8], line: &[u8], work: &mut [u8])
+fn show_line(rt: &impl Print, t: &[u32], before: &[u8], line: &[u8], work: &mut [u8]) -> io::Result<()>
     requires { t.now ≡ unicode_tables }
 {
-    show_read(t, line);
-    show_trimmed(t, line, work);
-    show_place(line);
-    show_same(t, before, line);
+    show_read(rt, t, line)?;
+    show_trimmed(rt, t, line, work)?;
+    show_place(rt, line)?;
+    show_same(rt, t, before, line)
 }
 
 // The place of the first line feed from a place on, or the end.
@@ -159,7 +159,7 @@ fn line_end(s: &[u8], at: usize) -> usize
     i
 }
 
-fn show_lines(t: &[u32], s: &[u8], work: &mut [u8])
+fn show_lines(rt: &impl Print, t: &[u32], s: &[u8], work: &mut [u8]) -> io::Result<()>
     requires { t.now ≡ unicode_tables }
 {
     let mut from = 0;
@@ -167,17 +167,18 @@ fn show_lines(t: &[u32], s: &[u8], work: &mut [u8])
     let mut at = 0;
     while at < s.len() {
         let end = line_end(s, at);
-        show_line(t, &s[from..to], &s[at..end], work);
+        show_line(rt, t, &s[from..to], &s[at..end], work)?;
         from = at;
         to = end;
         at = end + 1;
     }
+    Ok(())
 }
 
-fn main() {
+fn main(rt: HostRuntime) -> io::Result<()> {
     let tables = letters::unicode_tables();
-    let mut space = io::large_buffer();
-    let mut work = io::large_buffer();
-    let n = io::read_full(STDIN_FILENO, &mut space);
-    show_lines(&tables, &space[..n], &mut work);
+    let mut space = host::large_buffer();
+    let mut work = host::large_buffer();
+    let n = host::read_full(&mut rt.stdin(), &mut space)?;
+    show_lines(&rt, &tables, &space[..n], &mut work)
 }

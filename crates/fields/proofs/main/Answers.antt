@@ -7,5 +7,5 @@ use Rattle.fields.proofs.main.Goals as goal
 
 pub slice_bounds-write_all-end : goal.slice_bounds-write_all-end
 slice_bounds-write_all-end c =
-    let h : c.put_refusals.result ≤ length c.put_refusals.new.0 = omega (arith, c.if-b-le65536.true, c.put_refusals.auto.0, c.put_lines-a.auto.0, c.large_buffer-out.ensures) in
+    let h : c.put_refusals-b.result ≤ length c.put_refusals-b.new.0 = omega (arith, c.if-b-le65536.true, c.put_refusals-b.auto.0, c.put_lines-a.auto.0, c.large_buffer-out.ensures) in
     sym (length-take-le _ _ h)
