@@ -1,5 +1,3 @@
-use mathlib.Core.Logic.{⊎_elim}
-use Prim.Native.Nat.{◌-◌}
 use native.Mathlib.Omega.{arith}
 use Rattle.classes.proofs.changed.Goals.{then-is_changed, else-is_changed}
 use Rattle.classes.proofs.changed.Goals as goal

@@ -1,5 +1,4 @@
 use borrow.Author.Rules.{rules}
-use Prim.Native.Nat.{◌-◌}
 use Rattle.sheet.proofs.Scans.{field_to}
 use Rattle.fields.proofs.put_fields.Goals as goal
 

@@ -1,5 +1,4 @@
 use borrow.Author.Rules.{rules}
-use Prim.Native.Nat.{◌-◌}
 use Rattle.fields.proofs.put_lines.Goals as goal
 
 pub slice_bounds-put_fields-count-in-loop-e : goal.slice_bounds-put_fields-count-in-loop-e
