@@ -6,9 +6,8 @@ ghost use Rattle.std.specs.Prelude.{◌≡◌, length, get_or, replicate};
 ghost use Rattle.std.specs.Io.{ReadsAtMost};
 ghost use Rattle.stored_cases.specs.Cases.{part_of, after_of, starts_with, number_at, read_as, laid_out, parts_at, case_at, stored_as};
 
-use std::fs;
-use std::io;
 use std::rt::Files;
+use std::{fs, io};
 
 // A number, and the place after the byte that ends it.
 #[derive(Clone, Copy)]

@@ -1,5 +1,4 @@
 use native.Mathlib.Omega.{arith}
-use Prim.Native.Nat.{◌-◌}
 use Rattle.stored_cases.proofs.Numbers.{no_digits, one_digit_more, nine_digits, number_starts, file_ends, no_digit, number_ends, byte_below, byte_above, tenth_digit, digit}
 use Rattle.stored_cases.proofs.read_number.Goals as goal
 
