@@ -9,9 +9,8 @@ ghost use Rattle.std.specs.Io.{ReadsAtMost};
 ghost use Rattle.recipe.specs.Answers.{lent_of};
 ghost use Rattle.program.specs.Prints.{AnswerPrinted};
 
-use std::fs;
-use std::io;
 use std::rt::Files;
+use std::{fs, io};
 
 // What a program prints, at the front of the output, and how much: of the page, or of the plain form.
 fn answer(

@@ -248,12 +248,7 @@ fn out_room() -> [u8; 1048576]
     [0; 1048576]
 }
 
-fn replay_file(
-    rt: &impl Files,
-    plain: bool,
-    name: &str,
-    counts: &mut [u64; 29],
-) -> io::Result<()> {
+fn replay_file(rt: &impl Files, plain: bool, name: &str, counts: &mut [u64; 29]) -> io::Result<()> {
     let mut space = stored_cases::room();
     let mut words = words_room();
     let mut bytes = bytes_room();
@@ -278,12 +273,7 @@ fn replay_files(rt: &impl Files, plain: bool, counts: &mut [u64; 29]) -> io::Res
 }
 
 // How many were refused by each number, to `last`, each after these words.
-fn show_refused(
-    rt: &impl Print,
-    words: &[u8],
-    counts: &[u64; 29],
-    last: usize,
-) -> io::Result<()> {
+fn show_refused(rt: &impl Print, words: &[u8], counts: &[u64; 29], last: usize) -> io::Result<()> {
     let mut i = 1;
     while i <= 24 {
         if last < i {

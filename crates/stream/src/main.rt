@@ -135,7 +135,13 @@ fn show_trimmed(rt: &impl Print, t: &[u32], line: &[u8], work: &mut [u8]) -> io:
     put(rt, wide(n), b"\t")
 }
 
-fn show_line(rt: &impl Print, t: &[u32], before: &[u8], line: &[u8], work: &mut [u8]) -> io::Result<()>
+fn show_line(
+    rt: &impl Print,
+    t: &[u32],
+    before: &[u8],
+    line: &[u8],
+    work: &mut [u8],
+) -> io::Result<()>
     requires { t.now ≡ unicode_tables }
 {
     show_read(rt, t, line)?;
