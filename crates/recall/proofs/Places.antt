@@ -60,7 +60,7 @@ module _ (line : List ℕ) (at : ℕ) where
             let t = is_one_lem read_text _ e d in
             let b : f ≡ get_or (drop 2 (fields_from line at)) 0 [] = k ∙ ap (λ (x : Fields). get_or x 0 []) q in
             let c : content_of f ≡ some t.one.content = rw b (text_content _ t.is_read) in
-            rw (t.is_one, field_part line n h k, plains.content_of_lem f c)
+            rw (t.holds_one, field_part line n h k, plains.content_of_lem f c)
 
         pub unit_there : UnitRead line at (At (record { from = n; to = n + length f }))
         unit_there = record { is = there_is; within = λ p e. let a : n ≡ p.from = cc in let b : n + length f ≡ p.to = cc in let w = field_to line n k h in (omega arith, omega arith) }
@@ -88,4 +88,4 @@ module _ (line : List ℕ) (h : is_of_kind ingredient (parse_line line) ≡ true
   quantity_present d e w =
       let o = is_one_lem read_quantity _ quantity_here.is_read d in
       let t = quantity_unit _ o.is_read in
-      record { is = rw o.is_one (w.is o.one.unit t.left (ap (opt read_text) e ∙ t.is_read)); within = w.within }
+      record { is = rw o.holds_one (w.is o.one.unit t.left (ap (opt read_text) e ∙ t.is_read)); within = w.within }

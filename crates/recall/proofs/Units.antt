@@ -112,7 +112,7 @@ module _ (fs : Fields) {t : Text} {gs : Fields} (e : read_text fs ≡ some (t, g
 pub record One {A : Type 0} (r : Reader A) (fs : Fields) (o : Option A) (gs : Fields) : Type 0 where
   pub one : A
   pub is_read : r fs ≡ some (one, gs)
-  pub is_one_lem : o ≡ some one
+  pub holds_one : o ≡ some one
 
 -- what tells whether it stands there
 abbrev pub dash : Reader (Unit {0})
@@ -123,7 +123,7 @@ module _ {A : Type 0} (r : Reader A) where
   unfolding got_one
   one_got fs none q e = no_some e
   one_got fs (some p) q e =
-      record { one = p.0; is_read = q ∙ ap (λ (y : Option A × Fields). some (p.0, y.1)) (some_inj e); is_one_lem = sym (ap (λ (y : Option A × Fields). y.0) (some_inj e)) }
+      record { one = p.0; is_read = q ∙ ap (λ (y : Option A × Fields). some (p.0, y.1)) (some_inj e); holds_one = sym (ap (λ (y : Option A × Fields). y.0) (some_inj e)) }
 
   one_there : (t : Bool) (f : List ℕ) (hs : Fields) {ls gs : Fields} {o : Option A}
       → some (some tt, ls) ≡ pick t (some (none, hs)) (got_one (dash (f ∷ hs))) → pick t (some (none, hs)) (got_one (r (f ∷ hs))) ≡ some (o, gs) → One r (f ∷ hs) o gs
