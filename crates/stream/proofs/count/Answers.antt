@@ -1,5 +1,4 @@
 use native.Mathlib.Omega.{arith}
-use Prim.Native.Nat.{◌-◌}
 use Rattle.content.proofs.Chars.{content_step}
 use Rattle.stream.proofs.count.Goals as goal
 
