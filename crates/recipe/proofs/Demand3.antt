@@ -40,7 +40,7 @@ gives s room x form h = rw (h.0, h.2, le-leb (length form) room h.1)
 -- ---- the theorem
 module _ (sheet text units : List ℕ) (flags : ℕ) (m : Lent) (w b o : List ℕ) (r : Answer) (p : PlainFormed sheet text units flags m w b o r) where
   rule : PlainForm sheet text units flags
-  rule = rules-proofs.plain_form sheet text units flags
+  rule = rules-proofs.plain_form_holds sheet text units flags
 
   answers : answer_of r o ≡ lent_to m (plain_form sheet text units flags)
   answers = p.is ∙ plain_lent sheet text units flags m

@@ -7,4 +7,4 @@ pub returns : goal.returns
 returns c =
     let s = c.args in
     coded (collect_answer s.sheet.now s.text.now s.units.now s.flags) s.out.now c.collect-r.ensures refl c.usable-room.ensures
-    (front_long _ s.out.now c.usable-room.ensures.1) c.collect-r.auto.1.1.1.1.1.1.0 c.clear_from.ensures c.code.ensures
+    (front_long _ s.out.now c.usable-room.ensures.1) c.collect-r.auto.out c.clear_from.ensures c.code.ensures
