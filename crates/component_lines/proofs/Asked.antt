@@ -1,6 +1,6 @@
 -- The same-name search where it is not asked for.
 use Prim.Native.Nat.{ℕ}
-use mathlib.Core.Path.{◌≡◌, refl, ap, sym, ◌∙◌}
+use mathlib.Core.Path.{◌≡◌, refl, sym, ◌∙◌}
 use mathlib.Core.Bool.{Bool, true, false, ◌||◌}
 use mathlib.Core.List.{List}
 use mathlib.Core.Option.{Option}
@@ -12,8 +12,6 @@ use Rattle.rules.specs.Modes.{Modes, is_steps, is_reference}
 use Rattle.rules.specs.Reference.{Earlier, is_explicit, treat_as_reference, refers_to, redundant_new, reference_findings}
 use Rattle.rules.specs.Components.{made_with}
 use Rattle.rules.proofs.Basics.{no_truth}
-use Rattle.model.specs.declared.Define.{Define}
-use Rattle.model.specs.declared.Duplicate.{Duplicate}
 use Rattle.model.specs.declared.Held.{Held}
 use Rattle.lookup.specs.declared.Same.{Same}
 use Rattle.lookup.specs.declared.Same.TheVariants.{At, Nothing}

@@ -1,5 +1,4 @@
 use native.Mathlib.Omega.{arith}
-use Prim.Native.Nat.{◌-◌}
 use mathlib.Core.Path.{refl}
 use Rattle.content.proofs.Compare.{chars_step, ascii_chars, chars_ending}
 use Rattle.chains.proofs.Hashing.{hash_starts, hash_on, hash_ends}

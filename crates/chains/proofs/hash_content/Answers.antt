@@ -1,5 +1,4 @@
 use native.Mathlib.Omega.{arith}
-use Prim.Native.Nat.{◌-◌}
 use mathlib.Core.Path.{refl, sym, ◌∙◌}
 use Rattle.content.proofs.Kept.{wide_in}
 use Rattle.chains.proofs.Hashing.{hash_starts, hash_on, hash_ends}

@@ -1,5 +1,4 @@
 use native.Mathlib.Omega.{arith}
-use Prim.Native.Nat.{◌-◌}
 use Rattle.content.proofs.Chars.{content_step}
 use Rattle.config_keys.proofs.Keys.{passing, pass_on, pass_end}
 use Rattle.config_keys.proofs.ends_in_bracket.Goals as goal

@@ -1,6 +1,5 @@
 use borrow.Author.Rules.{rules}
 use native.Mathlib.Omega.{arith}
-use Prim.Native.Nat.{◌-◌}
 use Rattle.output.proofs.Puts.{put_past, keeps}
 use Rattle.entry_lines.proofs.Rows.{lined_none, lined_more, lined_all, row_ready}
 use Rattle.entry_lines.proofs.put_entries.Goals as goal

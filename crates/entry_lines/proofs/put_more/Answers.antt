@@ -1,4 +1,3 @@
-use Prim.Native.Nat.{◌-◌}
 use Rattle.output.proofs.Puts.{starts, turn, step, ends_in, ends_out}
 use Rattle.entry_lines.proofs.Relations.{turn_more, turn_none, next_later}
 use Rattle.entry_lines.proofs.put_more.Goals as goal

@@ -1,6 +1,5 @@
 use borrow.Author.Rules.{rules}
 use native.Mathlib.Omega.{arith}
-use Prim.Native.Nat.{◌-◌}
 use mathlib.Core.Path.{refl}
 use Rattle.output.proofs.Puts.{keeps}
 use Rattle.finding_lines.proofs.Tables.{list_starts, list_on, list_ends, window_long}

@@ -1,6 +1,5 @@
 use borrow.Author.Rules.{rules}
 use native.Mathlib.Omega.{arith}
-use Prim.Native.Nat.{◌-◌}
 use Rattle.finding_lines.proofs.Parsers.{write_starts, write_cut, write_ill, write_on, write_ends}
 use Rattle.finding_lines.proofs.parsed_lines.Goals as goal
 

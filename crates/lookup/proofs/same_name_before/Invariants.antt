@@ -1,4 +1,3 @@
-use Prim.Native.Nat.{◌-◌}
 use Rattle.lookup.proofs.Names.{Searching}
 use Rattle.lookup.proofs.same_name_before.Given as goal
 

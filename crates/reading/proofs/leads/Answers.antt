@@ -1,5 +1,4 @@
 use native.Mathlib.Omega.{arith}
-use Prim.Native.Nat.{◌-◌}
 use mathlib.Core.Path.{refl}
 use Rattle.reading.proofs.Leading.{leads_short, leads_on, leads_off, leads_end}
 use Rattle.reading.proofs.leads.Goals as goal

@@ -1,6 +1,5 @@
 use borrow.Author.Rules.{rules}
 use native.Mathlib.Omega.{arith}
-use Prim.Native.Nat.{◌-◌}
 use Rattle.reading.proofs.Sheets.{walk_starts, walk_done, walk_cut, walk_fault, walk_on}
 use Rattle.reading.proofs.read_sheet.Goals as goal
 

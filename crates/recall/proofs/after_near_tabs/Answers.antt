@@ -1,6 +1,4 @@
-use Prim.Native.Nat.{◌-◌}
 use mathlib.Core.Path.{refl}
-use mathlib.Core.Logic.{⊎_elim}
 use Rattle.recall.proofs.Tabs.{turn_tab, turn_other, too_few, none_left}
 use Rattle.recall.proofs.after_near_tabs.Goals.{then-line-i-eq9, else-line-i-eq9}
 use Rattle.recall.proofs.after_near_tabs.Goals as goal

@@ -1,5 +1,4 @@
 use native.Mathlib.Omega.{arith}
-use Prim.Native.Nat.{◌-◌}
 use mathlib.Core.Path.{refl, ◌∙◌}
 use Rattle.recall.proofs.Tabs.{all_past, pass_eight}
 use Rattle.recall.proofs.after_tabs.Goals as goal

@@ -1,7 +1,5 @@
 use native.Mathlib.Omega.{arith}
-use Prim.Native.Nat.{◌-◌}
 use mathlib.Core.Path.{◌∙◌}
-use mathlib.Core.Logic.{⊎_elim}
 use Rattle.recall.proofs.Tabs.{tabs_none, tabs_few, tabs_hit, tabs_miss, tabs_whole}
 use Rattle.recall.proofs.tabs_in_eight.Goals.{then-line-at-eq9, else-line-at-eq9}
 use Rattle.recall.proofs.tabs_in_eight.Goals as goal

@@ -1,5 +1,4 @@
 use native.Mathlib.Omega.{arith}
-use Prim.Native.Nat.{◌-◌}
 use Rattle.unit_index.proofs.Adds.{add_starts, add_ends, add_out, add_named, add_twice, add_on}
 use Rattle.unit_index.proofs.add_lines.Goals as goal
 

@@ -1,5 +1,4 @@
 use native.Mathlib.Omega.{arith}
-use Prim.Native.Nat.{◌-◌}
 use Rattle.unit_index.proofs.Adds.{clear_starts, clear_on, clear_ends}
 use Rattle.unit_index.proofs.clear_heads.Goals as goal
 

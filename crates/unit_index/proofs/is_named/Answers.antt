@@ -1,6 +1,5 @@
 use native.Mathlib.Omega.{arith}
 use mathlib.Core.Path.{ap, sym, ◌∙◌}
-use Prim.Native.Nat.{◌-◌}
 use Rattle.rules.specs.Basic.{eq_list}
 use Rattle.content.specs.Contents.{content_in}
 use Rattle.unit_index.proofs.Searches.{linked_below, line_few, line_in, line_name}
