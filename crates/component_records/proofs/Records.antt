@@ -25,9 +25,9 @@ set_after (x ∷ xs) y c zs = ap (λ (l : List Component). x ∷ l) (set_after x
 set_at : (xs : List Component) (i : ℕ) (y c : Component) (zs : List Component) → length xs ≡ i → set (xs ++ (y ∷ zs)) i c ≡ (xs ++ (c ∷ [])) ++ zs
 set_at xs i y c zs e = subst (λ (k : ℕ). set (xs ++ (y ∷ zs)) k c ≡ (xs ++ (c ∷ [])) ++ zs) e (set_after xs y c zs)
 
-get_d_after : (xs : List Component) (c d : Component) → get_or (xs ++ (c ∷ [])) (length xs) d ≡ c
-get_d_after [] c d = refl
-get_d_after (x ∷ xs) c d = get_d_after xs c d
+get_or_after : (xs : List Component) (c d : Component) → get_or (xs ++ (c ∷ [])) (length xs) d ≡ c
+get_or_after [] c d = refl
+get_or_after (x ∷ xs) c d = get_or_after xs c d
 
 by_test : {X : Type 0} (t : Bool) → (t ≡ true → X) → (t ≡ false → X) → X
 by_test true f g = f refl
@@ -55,7 +55,7 @@ module _ (words : List ℕ) (from : ℕ) where
       last e =
           subst (λ (k : ℕ). get_or (records_in words from n ++ (component_in words from n ∷ [])) k no_component ≡ component_in words from k) (sym e)
           (subst (λ (k : ℕ). get_or (records_in words from n ++ (component_in words from n ∷ [])) k no_component ≡ component_in words from n) (length_records n)
-          (get_d_after (records_in words from n) (component_in words from n) no_component))
+          (get_or_after (records_in words from n) (component_in words from n) no_component))
 
   -- the records are the front of what is lent
   pub take_records : (n : ℕ) (zs : List Component) → take n (records_in words from n ++ zs) ≡ records_in words from n

@@ -10,7 +10,7 @@ ghost use Rattle.rules.specs.Unicode.{is_white_space};
 ghost use Rattle.content.specs.Contents.{content_in};
 ghost use Rattle.content.specs.Parts.{Field};
 ghost use Rattle.rules.specs.Text.{is_not_alphabetic};
-ghost use Rattle.rules.specs.Inline.{is_no_digit, is_digit_or_point, points as pointsIn};
+ghost use Rattle.rules.specs.Inline.{is_no_digit, is_digit_or_point, points as points_in};
 ghost use Rattle.letters.specs.Tables.{unicode_tables};
 ghost use Rattle.unit_index.specs.Index.{Indexed};
 ghost use Rattle.inline.specs.Scans.{is_not_white, lead_size, is_solid, is_solid_e3, part, Front, SignAt, UnitPart};
@@ -194,7 +194,7 @@ fn letters_start(t: &[u32], s: &[u8]) -> usize
 
 // How many points a text holds.
 fn points(s: &[u8]) -> usize
-    ensures { result ≡ pointsIn (content_in s.now) }
+    ensures { result ≡ points_in (content_in s.now) }
 {
     let mut n = 0;
     let mut i = 0;

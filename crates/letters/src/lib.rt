@@ -5,7 +5,7 @@ mod tables;
 ghost use Rattle.std.specs.Prelude.{◌≡◌, true, false, [], ◌∷◌, ◌+◌, ◌≤◌, ◌<◌, length, get_or};
 ghost use Rattle.rules.specs.Basic.{within};
 ghost use Rattle.rules.specs.Ranges.{member};
-ghost use Rattle.rules.specs.Unicode.{is_white_space, is_alphabetic, is_numeric, is_alphanumeric, fold as foldRule};
+ghost use Rattle.rules.specs.Unicode.{is_white_space, is_alphabetic, is_numeric, is_alphanumeric, fold as fold_rule};
 ghost use Rattle.letters.specs.Search.{Ascending, Place, zipped};
 ghost use Rattle.letters.specs.Tables.{near_code, unicode_tables};
 ghost use Rattle.letters.specs.Folded.{folded_of, row_of};
@@ -188,7 +188,7 @@ fn row(a: u32, b: u32, c: u32) -> Folded
 // Japanese, Hangul.
 fn is_still(c: u32) -> bool
     requires { 0x588 ≤ c }
-    ensures { result ≡ true → c ∷ [] ≡ foldRule c }
+    ensures { result ≡ true → c ∷ [] ≡ fold_rule c }
 {
     if c < 0x2cf3 {
         return c < 0x10a0;
@@ -210,7 +210,7 @@ fn row_at(t: &[u32], k: usize) -> Folded
 // The folding of one of the code points that have a word each.
 fn fold_near(t: &[u32], i: usize) -> Folded
     requires { (t.now ≡ unicode_tables) × (i < 1800) }
-    ensures { folded_of result ≡ foldRule (near_code i) }
+    ensures { folded_of result ≡ fold_rule (near_code i) }
 {
     let x = t[NEAR + i];
     if x < 0x110000 {
@@ -223,7 +223,7 @@ fn fold_near(t: &[u32], i: usize) -> Folded
 // The folding by a search in the table.
 fn fold_in(t: &[u32], c: u32) -> Folded
     requires { t.now ≡ unicode_tables }
-    ensures { folded_of result ≡ foldRule c }
+    ensures { folded_of result ≡ fold_rule c }
 {
     let k = lower_bound(&t[KEYS..FIRST], c);
     if k < 1557 {
@@ -236,7 +236,7 @@ fn fold_in(t: &[u32], c: u32) -> Folded
 
 pub fn fold(t: &[u32], c: u32) -> Folded
     requires { t.now ≡ unicode_tables }
-    ensures { folded_of result ≡ foldRule c }
+    ensures { folded_of result ≡ fold_rule c }
 {
     if c < 128 {
         if is_within(65, 90, c) {

@@ -1,4 +1,4 @@
--- Demand 3 of the program: from the contract of `plain_form` and the rules' theorem `plain_form`.
+-- Demand 3 of the program: from the contract of `plain_form` and the rules' theorem `plain_form_holds`.
 use Prim.Native.Nat.{ℕ, ◌≤◌}
 use mathlib.Core.Path.{◌≡◌, refl, sym, subst, ◌∙◌}
 use mathlib.Core.Bool.{Bool, true, false}

@@ -1,4 +1,4 @@
--- Demand 3: `plain_form`, the statement of specs/PlainForm.antt for any bytes and any flags.
+-- Demand 3: `plain_form_holds`, the statement of specs/PlainForm.antt for any bytes and any flags.
 use Prim.Native.Nat.{ℕ, suc, ◌+◌}
 use mathlib.Core.Path.{◌≡◌, refl, sym, ap, ◌∙◌, subst}
 use mathlib.Core.List.{List, []}

@@ -2,7 +2,7 @@
 #![tactic(auto)]
 
 ghost use Rattle.std.specs.Prelude.{◌≡◌, ◌&&◌, List, ℕ, length};
-ghost use Rattle.rules.specs.Event.{text_spans, quantity_spans, intermediate_spans, named_spans, component_spans, spans_of, between as betweenRule, inside as insideRule};
+ghost use Rattle.rules.specs.Event.{text_spans, quantity_spans, intermediate_spans, named_spans, component_spans, spans_of, between as between_rule, inside as inside_rule};
 ghost use Rattle.rules.specs.Answer.{is_good_span};
 ghost use Rattle.parts.specs.Views.{span_in, opt_text_in, opt_quantity_in};
 ghost use Rattle.components.specs.Views.{component_in, opt_intermediate_in};
@@ -116,7 +116,7 @@ fn component_event_good(text: &[u8], v: events::ComponentEvent) -> bool
 }
 
 fn between_good(text: &[u8], v: events::Between) -> bool
-    ensures { GoodsIn text.now (λ (line : List ℕ). spans_of (betweenRule (between_in line v))) result }
+    ensures { GoodsIn text.now (λ (line : List ℕ). spans_of (between_rule (between_in line v))) result }
 {
     match v {
         events::Between::Meta(k, t) => {
@@ -132,7 +132,7 @@ fn between_good(text: &[u8], v: events::Between) -> bool
 }
 
 fn inside_good(text: &[u8], v: events::Inside) -> bool
-    ensures { GoodsIn text.now (λ (line : List ℕ). spans_of (insideRule (inside_in line v))) result }
+    ensures { GoodsIn text.now (λ (line : List ℕ). spans_of (inside_rule (inside_in line v))) result }
 {
     match v {
         events::Inside::End(k) => true,
