@@ -47,6 +47,11 @@ pub length_pairs : (cs : List Component) → length (pairs_of cs) ≡ own_count 
 unfolding pairs_of
 length_pairs cs = length_from 0 cs
 
+pub count_le : (cs : List Component) → own_count cs ≤ length cs
+unfolding own_count
+count_le [] = omega arith
+count_le (c ∷ cs) = let o = own_one c in let h = count_le cs in omega (arith, o, h)
+
 -- ---- one record more
 pub count_snoc : (cs : List Component) (c : Component) → own_count (cs ++ (c ∷ [])) ≡ own_count cs + own_at c
 unfolding own_count

@@ -7,7 +7,7 @@ use native.Mathlib.Omega.{arith}
 use mathlib.Core.Bool.{Bool, true, false}
 use mathlib.Core.List.{List, [], ◌∷◌, ◌++◌, append_assoc, append-nil}
 use lib.Dec.{ltb}
-use lib.ListN.{length, get_or, set, take, drop, replicate, replicate-append-replicate, get_or-append}
+use lib.ListN.{length, get_or, set, take, drop, replicate, length-set, replicate-append-replicate, get_or-append}
 use lib.Seq.{drop-cons, drop-length, take-append_seam}
 use borrow.Author.Tests.{lt-ltb, le-ltb, ltb-true, ltb-false}
 use Rattle.rules.specs.Basic.{pick}
@@ -69,6 +69,10 @@ module _ (words : List ℕ) (from count : ℕ) where
   abbrev pub filled : List Component → ℕ → List Component
   filled ys zero = ys
   filled ys (suc i) = set (filled ys i) i (shown_at i)
+
+  pub length_filled : (ys : List Component) (i : ℕ) → length (filled ys i) ≡ length ys
+  length_filled ys zero = refl
+  length_filled ys (suc i) = length-set (filled ys i) i (shown_at i) ∙ length_filled ys i
 
   abbrev shown : ℕ → List Component
   shown zero = []
