@@ -1,4 +1,6 @@
 -- From what the functions on work memory leave to the rules' lines.
+use Rattle.std.specs.Prelude.{None, Option, Some, Ok, Err}
+use Rattle.std.specs.Option as option
 use Prim.Native.Nat.{ℕ, suc, ◌+◌, ◌≤◌, ◌<◌}
 use mathlib.Core.Path.{◌≡◌, refl, sym, ap, ◌∙◌}
 use mathlib.Core.List.{List, [], ◌∷◌}
@@ -18,38 +20,40 @@ use Rattle.rules.specs.Pass.{is_open, opened, keep_block, close_text, close_step
 use Rattle.parts.specs.Views.{span_in, opt_text_in}
 use Rattle.parts.specs.declared.Span.{Span}
 use Rattle.parts.specs.declared.TextView.{TextView}
-use Rattle.parts.specs.declared.OptText.{OptText}
-use Rattle.parts.specs.declared.OptText.TheVariants as text
-use Rattle.events.specs.Views.{block_in, severity_in, component_event_in, inside_in}
-use Rattle.events.specs.declared.BlockKind.{BlockKind}
-use Rattle.events.specs.declared.BlockKind.TheVariants as block
+use Rattle.events.specs.Views.{severity_in, component_event_in, inside_in}
+use Rattle.sheet.specs.declared.BlockKind.{BlockKind}
+use Rattle.sheet.specs.declared.BlockKind.TheVariants as block
 use Rattle.events.specs.declared.Severity.{Severity}
 use Rattle.events.specs.declared.Severity.TheVariants as severity
 use Rattle.events.specs.declared.ComponentEvent.{ComponentEvent}
 use Rattle.events.specs.declared.ComponentEvent.TheVariants as component
 use Rattle.components.specs.Views.{component_in}
 use Rattle.components.specs.declared.ComponentView.{ComponentView}
-use Rattle.components.specs.declared.OptIntermediate.{OptIntermediate}
-use Rattle.parts.specs.declared.OptQuantity.{OptQuantity}
 use Rattle.events.specs.declared.Inside.{Inside}
 use Rattle.events.specs.declared.Inside.TheVariants as inside
 use Rattle.model.specs.Blank.{blank, blank_step, blank_place, blank_kept, blank_open, blank_block}
 use Rattle.model.specs.Rows.{finding_of, block_of}
-use Rattle.model.specs.Memory.{define_of, open_of, state_of, state_in, Sound}
+use Rattle.model.specs.Memory.{open_of, state_of, state_in, Sound}
 use Rattle.model.specs.Fits.{AllFit}
 use Rattle.model.specs.Small.{with_block, with_items}
-use Rattle.model.specs.declared.Define.{Define}
-use Rattle.model.specs.declared.Define.TheVariants.{All, Components, Steps, Text}
+use Rattle.sheet.specs.declared.Define.{Define}
+use Rattle.sheet.specs.declared.Define.TheVariants.{All, Components, Steps, Text}
 use Rattle.model.specs.declared.Open.{Open}
 use Rattle.model.specs.declared.Open.TheVariants.{Nothing, Step as StepBlock, Text as TextBlock, TextMode}
 use Rattle.model.specs.declared.Noted.{Noted}
 use Rattle.model.specs.declared.Held.{Held}
 use Rattle.model.proofs.Blanks.{blank_report}
-use Rattle.memory.specs.Pushes.{FindingPushed, BlockKept, SectionBegun}
+use Rattle.memory.specs.Pushes.{FindingPushed, BlockKept, SectionBegun, is_open_block}
 use Rattle.memory.proofs.Smalls.{state_blank, with_block_lem}
+use Rattle.memory.proofs.Endings.{open_as}
 use Rattle.memory.proofs.Bounds.{sound_block, sound_items, fit_block}
-use Rattle.blocks.specs.declared.Passed.TheVariants.{Next, Stop}
+use Rattle.refusals.specs.declared.Reason.{Reason}
+use Rattle.refusals.specs.declared.Reason.TheVariants.{OtherEnd, ComponentInText as in_text}
+use Rattle.refusals.specs.Told.{number_of}
 use Rattle.blocks.specs.Lined.{Told, Went, step_in, SoundStep, FitStep, Stepped, start_block, OpenNow, SectionDone, ItemsPushed, SpanOf, InTextBlock, InTextMode, kind_open, StepEnded, ComponentInText}
+use Rattle.parts.specs.declared.QuantityView.{QuantityView}
+use Rattle.components.specs.declared.Intermediate.{Intermediate}
+use Rattle.sheet.specs.Words.{block_in, define_of}
 
 -- ---- another open block
 
@@ -105,38 +109,19 @@ kind_text e = rw e
 
 -- ---- modes
 
-module _ {d : Define} where
-  pub components_all : d ≡ All → false ≡ is_components (define_of d)
-  unfolding is_components define_of
-  components_all e = rw e
+pub components_not : {d : Define} → (d ≡ Components → ⊥) → false ≡ is_components (define_of d)
+unfolding is_components define_of
+components_not {d = All} n = refl
+components_not {d = Components} n = absurd (n refl)
+components_not {d = Steps} n = refl
+components_not {d = Text} n = refl
 
-  pub components_components : d ≡ Components → true ≡ is_components (define_of d)
-  unfolding is_components define_of
-  components_components e = rw e
-
-  pub components_steps : d ≡ Steps → false ≡ is_components (define_of d)
-  unfolding is_components define_of
-  components_steps e = rw e
-
-  pub components_text : d ≡ Text → false ≡ is_components (define_of d)
-  unfolding is_components define_of
-  components_text e = rw e
-
-  pub text_all : d ≡ All → false ≡ is_text (define_of d)
-  unfolding is_text define_of
-  text_all e = rw e
-
-  pub text_components : d ≡ Components → false ≡ is_text (define_of d)
-  unfolding is_text define_of
-  text_components e = rw e
-
-  pub text_steps : d ≡ Steps → false ≡ is_text (define_of d)
-  unfolding is_text define_of
-  text_steps e = rw e
-
-  pub text_text_lem : d ≡ Text → true ≡ is_text (define_of d)
-  unfolding is_text define_of
-  text_text_lem e = rw e
+pub text_not : {d : Define} → (d ≡ Text → ⊥) → false ≡ is_text (define_of d)
+unfolding is_text define_of
+text_not {d = All} n = refl
+text_not {d = Components} n = refl
+text_not {d = Steps} n = refl
+text_not {d = Text} n = absurd (n refl)
 
 -- ---- whether a block is open, and sections
 
@@ -144,36 +129,16 @@ open_now : (sheet w : List ℕ) (h : Held) → (state_in sheet w h).place.block 
 unfolding state_in state_of
 open_now sheet w h = refl
 
-pub open_as : {h : Held} (o : Open) (r : Bool) → h.block ≡ o → r ≡ is_open (open_of o) → OpenNow h r
-open_as {h} o r e q = record { is = λ sheet w. q ∙ sym (ap is_open (open_now sheet w h ∙ ap open_of e)) }
+pub open_is : {h : Held} {r : Bool} → r ≡ is_open_block h.block → OpenNow h r
+open_is {h} e = record { is = λ sheet w. e ∙ sym (ap is_open (open_now sheet w h) ∙ open_as h.block) }
 
-module _ {h : Held} where
-  pub open_nothing : h.block ≡ Nothing → OpenNow h false
-  unfolding is_open open_of
-  open_nothing e = open_as Nothing false e refl
-
-  pub open_step : h.block ≡ StepBlock → OpenNow h true
-  unfolding is_open open_of
-  open_step e = open_as StepBlock true e refl
-
-  pub open_text : h.block ≡ TextBlock → OpenNow h true
-  unfolding is_open open_of
-  open_text e = open_as TextBlock true e refl
-
-  pub open_mode : h.block ≡ TextMode → OpenNow h true
-  unfolding is_open open_of
-  open_mode e = open_as TextMode true e refl
-
-pub section_as : {h r : Held} (n : OptText) {b : Bool} → SectionBegun h b r → ((line : List ℕ) → is_some (opt_text_in line n) ≡ b) → SectionDone n h r
+section_as : {h r : Held} (n : Option TextView) {b : Bool} → SectionBegun h b r → ((line : List ℕ) → is_some (opt_text_in line n) ≡ b) → SectionDone n h r
 section_as n s e = record { at = λ line. record { is = λ sheet w. s.is sheet w (opt_text_in line n) (e line); sound = s.sound } }
 
-pub section_bare : {h r : Held} {n : OptText} → n ≡ text.Absent → SectionBegun h false r → SectionDone n h r
+pub section_done : {h r : Held} (n : Option TextView) {b : Bool} → b ≡ option.is_some n → SectionBegun h b r → SectionDone n h r
 unfolding opt_text_in is_some
-section_bare {n = n} e s = section_as n s (λ line. rw e)
-
-pub section_named : {h r : Held} {n : OptText} (t : TextView) → n ≡ text.Present t → SectionBegun h true r → SectionDone n h r
-unfolding opt_text_in is_some
-section_named {n = n} t e s = section_as n s (λ line. rw e)
+section_done None e s = section_as None s (λ line. sym e)
+section_done (Some t) e s = section_as (Some t) s (λ line. sym e)
 
 -- ---- findings
 
@@ -225,23 +190,6 @@ items_is : (sheet w : List ℕ) (h : Held) (new : List Item) (m : ℕ) → pick 
     → state_in sheet w (with_items m (with_block StepBlock h)) ≡ blank (push_items new [] (state_in sheet w h))
 items_is sheet w h new m e =
     sym (items_blank new (state_in sheet w h) m (rw (define_of_lem sheet w h, items_of sheet w h) e) ∙ (ap (items_as m) (state_blank sheet w h) ∙ items_with sheet w h m))
-
-module _ {d : Define} (i m : ℕ) where
-  pub after_all : d ≡ All → m ≡ pick (is_components (define_of d)) i m
-  unfolding is_components define_of
-  after_all e = rw e
-
-  pub after_components : d ≡ Components → i ≡ pick (is_components (define_of d)) i m
-  unfolding is_components define_of
-  after_components e = rw e
-
-  pub after_steps : d ≡ Steps → m ≡ pick (is_components (define_of d)) i m
-  unfolding is_components define_of
-  after_steps e = rw e
-
-  pub after_text : d ≡ Text → m ≡ pick (is_components (define_of d)) i m
-  unfolding is_components define_of
-  after_text e = rw e
 
 most_items : (b : Bool) (i m k : ℕ) → i ≤ k → m ≤ k → pick b i m ≤ k
 most_items true i m k p q = p
@@ -319,57 +267,57 @@ module _ {w : List ℕ} {h₀ h : Held} {b : Bool} (e : b ≡ is_components (def
 
 -- ---- lines in a block
 
-pub stepped : {f : State → State} {w₀ w : List ℕ} {h₀ h : Held} → Went f w₀ h₀ w h → Stepped (λ st. next (f st)) w₀ h₀ w (Next h)
+pub stepped : {f : State → State} {w₀ w : List ℕ} {h₀ h : Held} → Went f w₀ h₀ w h → Stepped (λ st. next (f st)) w₀ h₀ w (Ok h)
 unfolding step_in SoundStep FitStep blank_step
 stepped g = record { is = λ sheet. ap next (g.is sheet); sound = g.sound; fit = g.fit }
 
-pub stopped : {w₀ w : List ℕ} {h₀ : Held} (n : ℕ) → Stepped (λ st. stop n) w₀ h₀ w (Stop n)
+pub stopped : {w₀ w : List ℕ} {h₀ : Held} (r : Reason) → Stepped (λ st. stop (number_of r)) w₀ h₀ w (Err r)
 unfolding step_in SoundStep FitStep blank_step
-stopped n = record { is = λ sheet. refl; sound = tt; fit = λ sheet a. tt }
+stopped r = record { is = λ sheet. refl; sound = tt; fit = λ sheet a. tt }
 
 module _ {w₀ w : List ℕ} {h₀ : Held} {k : BlockKind} where
-  pub step_ended : {h : Held} → k ≡ block.Step → Went (close_step []) w₀ h₀ w h → StepEnded k w₀ h₀ w (Next h)
+  pub step_ended : {h : Held} → k ≡ block.Step → Went (close_step []) w₀ h₀ w h → StepEnded k w₀ h₀ w (Ok h)
   unfolding in_step_block block_in
   step_ended e g = rw e record { at = λ units flags. stepped g }
 
-  pub step_refused : k ≡ block.Text → StepEnded k w₀ h₀ w (Stop 13)
+  pub step_refused : k ≡ block.Text → StepEnded k w₀ h₀ w (Err OtherEnd)
   unfolding in_step_block block_in
-  step_refused e = rw e record { at = λ units flags. stopped 13 }
+  step_refused e = rw e record { at = λ units flags. stopped OtherEnd }
 
 module _ {w₀ w : List ℕ} {h₀ : Held} {e : Inside} where
-  pub text_ended : {h : Held} (k : BlockKind) → e ≡ inside.End k → k ≡ block.Text → Went (close_text []) w₀ h₀ w h → InTextBlock e w₀ h₀ w (Next h)
+  pub text_ended : {h : Held} (k : BlockKind) → e ≡ inside.End k → k ≡ block.Text → Went (close_text []) w₀ h₀ w h → InTextBlock e w₀ h₀ w (Ok h)
   unfolding in_text_block inside_in block_in
   text_ended k p q g = rw (p, q) record { at = λ line. stepped g }
 
-  pub text_refused : (k : BlockKind) → e ≡ inside.End k → k ≡ block.Step → InTextBlock e w₀ h₀ w (Stop 13)
+  pub text_refused : (k : BlockKind) → e ≡ inside.End k → k ≡ block.Step → InTextBlock e w₀ h₀ w (Err OtherEnd)
   unfolding in_text_block inside_in block_in
-  text_refused k p q = rw (p, q) record { at = λ line. stopped 13 }
+  text_refused k p q = rw (p, q) record { at = λ line. stopped OtherEnd }
 
-  pub text_component : (c : ComponentEvent) → e ≡ inside.Component c → InTextBlock e w₀ h₀ w (Stop 14)
+  pub text_component : (c : ComponentEvent) → e ≡ inside.Component c → InTextBlock e w₀ h₀ w (Err in_text)
   unfolding in_text_block inside_in
-  text_component c p = rw p record { at = λ line. stopped 14 }
+  text_component c p = rw p record { at = λ line. stopped in_text }
 
-  pub mode_ended : {h : Held} (k : BlockKind) → e ≡ inside.End k → Went (close_text []) w₀ h₀ w h → InTextMode e w₀ h₀ w (Next h)
+  pub mode_ended : {h : Held} (k : BlockKind) → e ≡ inside.End k → Went (close_text []) w₀ h₀ w h → InTextMode e w₀ h₀ w (Ok h)
   unfolding in_text_mode inside_in
   mode_ended k p g = rw p record { at = λ text line. stepped g }
 
-  pub mode_component : {h : Held} (c : ComponentEvent) → e ≡ inside.Component c → ComponentInText c w₀ h₀ w h → InTextMode e w₀ h₀ w (Next h)
+  pub mode_component : {h : Held} (c : ComponentEvent) → e ≡ inside.Component c → ComponentInText c w₀ h₀ w h → InTextMode e w₀ h₀ w (Ok h)
   unfolding in_text_mode inside_in
   mode_component c p g = rw p record { at = λ text line. stepped (g.at text line) }
 
 module _ {w : List ℕ} {h₀ h : Held} {e : Inside} (z : Sound w h₀) (t : TextView) (p : e ≡ inside.Text t) where
-  pub text_more : h ≡ with_block TextBlock h₀ → InTextBlock e w h₀ w (Next h)
+  pub text_more : h ≡ with_block TextBlock h₀ → InTextBlock e w h₀ w (Ok h)
   unfolding in_text_block inside_in blank_open open_of
   text_more q = rw (p, q) record { at = λ line. stepped (record { is = λ sheet. block_is sheet w h₀ TextBlock _ refl; sound = sound_block z TextBlock; fit = λ sheet a. fit_block a TextBlock }) }
 
-  pub mode_more : h ≡ with_block TextMode h₀ → InTextMode e w h₀ w (Next h)
+  pub mode_more : h ≡ with_block TextMode h₀ → InTextMode e w h₀ w (Ok h)
   unfolding in_text_mode inside_in blank_open open_of
   mode_more q = rw (p, q) record { at = λ text line. stepped (record { is = λ sheet. block_is sheet w h₀ TextMode _ refl; sound = sound_block z TextMode; fit = λ sheet a. fit_block a TextMode }) }
 
 -- ---- the span of a component
 
 module _ {c : ComponentEvent} {s : Span} where
-  pub span_ingredient : (v : ComponentView) (i : OptIntermediate) → c ≡ component.Ingredient v i → s ≡ v.span → SpanOf c s
+  pub span_ingredient : (v : ComponentView) (i : Option Intermediate) → c ≡ component.Ingredient v i → s ≡ v.span → SpanOf c s
   unfolding component_event_in component_in rules.component_span
   span_ingredient v i e q = rw (e, q) record { is = λ line. refl }
 
@@ -377,7 +325,7 @@ module _ {c : ComponentEvent} {s : Span} where
   unfolding component_event_in component_in rules.component_span
   span_cookware v e q = rw (e, q) record { is = λ line. refl }
 
-  pub span_timer : (t : Span) (n : OptText) (a : OptQuantity) → c ≡ component.Timer t n a → s ≡ t → SpanOf c s
+  pub span_timer : (t : Span) (n : Option TextView) (a : Option QuantityView) → c ≡ component.Timer t n a → s ≡ t → SpanOf c s
   unfolding component_event_in rules.component_span
   span_timer t n a e q = rw (e, q) record { is = λ line. refl }
 

@@ -9,20 +9,16 @@ ghost use Rattle.rules.specs.Modes.{is_components, is_text};
 ghost use Rattle.rules.specs.State.{report};
 ghost use Rattle.rules.specs.Pass.{close_step, close_text};
 ghost use Rattle.events.specs.Views.{severity_in};
-ghost use Rattle.model.specs.Memory.{define_of, Sound};
+ghost use Rattle.model.specs.Memory.{Sound};
 ghost use Rattle.model.specs.Small.{with_block};
 ghost use Rattle.blocks.specs.Lined.{Told, Went, start_block, kind_open, OpenNow, SectionDone, ItemsPushed, SpanOf, InTextBlock, InTextMode, StepEnded, ComponentInText};
+ghost use Rattle.sheet.specs.Words.{define_of};
 
-use events::{BlockKind, ComponentEvent, Inside, Severity};
-use model::{Define, Held, Open};
-use parts::{OptText, Span};
-
-// What a line leaves: the small state after it, or the number of a refusal.
-#[derive(Clone, Copy)]
-pub enum Passed {
-    Next(Held),
-    Stop(u32),
-}
+use events::{ComponentEvent, Inside, Severity};
+use model::{Held, Open};
+use parts::{Span, TextView};
+use refusals::Reason;
+use sheet::{BlockKind, Define};
 
 fn with_block(h: Held, block: Open) -> Held
     ensures { result ≡ with_block block h }
@@ -42,24 +38,13 @@ fn with_block(h: Held, block: Open) -> Held
 pub fn is_open(h: Held) -> bool
     ensures { OpenNow h result }
 {
-    let block = h.block;
-    match block {
-        Open::Nothing => false,
-        Open::Step => true,
-        Open::Text => true,
-        Open::TextMode => true,
-    }
+    memory::is_open(h.block)
 }
 
 pub fn is_components(d: Define) -> bool
     ensures { result ≡ is_components (define_of d) }
 {
-    match d {
-        Define::All => false,
-        Define::Components => true,
-        Define::Steps => false,
-        Define::Text => false,
-    }
+    matches!(d, Define::Components)
 }
 
 // The block that a `start` opens outside text mode.
@@ -75,12 +60,7 @@ fn block_of(kind: BlockKind) -> Open
 pub fn is_text(d: Define) -> bool
     ensures { result ≡ is_text (define_of d) }
 {
-    match d {
-        Define::All => false,
-        Define::Components => false,
-        Define::Steps => false,
-        Define::Text => true,
-    }
+    matches!(d, Define::Text)
 }
 
 pub fn on_start(h: Held, kind: BlockKind) -> Held
@@ -94,14 +74,12 @@ pub fn on_start(h: Held, kind: BlockKind) -> Held
     with_block(h, block)
 }
 
-pub fn on_section(h: Held, name: OptText) -> Held
+pub fn on_section(h: Held, name: Option<TextView>) -> Held
     requires { h.counts.sections < 100000 }
     ensures { SectionDone name h result }
 {
-    match name {
-        OptText::Absent => memory::begin_section(h, false),
-        OptText::Present(t) => memory::begin_section(h, true),
-    }
+    let named = name.is_some();
+    memory::begin_section(h, named)
 }
 
 // An `error` or `warning` of the parser.
@@ -125,12 +103,7 @@ pub fn on_finding(words: &mut [u32], h: Held, severity: Severity, number: u32) -
 fn items_after(d: Define, items: usize, more: usize) -> usize
     ensures { result ≡ pick (is_components (define_of d)) items more }
 {
-    match d {
-        Define::All => more,
-        Define::Components => items,
-        Define::Steps => more,
-        Define::Text => more,
-    }
+    if is_components(d) { items } else { more }
 }
 
 // The items of a step.
@@ -157,16 +130,16 @@ fn close_step(words: &mut [u32], h: Held) -> Held
     memory::keep_step(words, h)
 }
 
-pub fn end_step(words: &mut [u32], h: Held, kind: BlockKind) -> Passed
+pub fn end_step(words: &mut [u32], h: Held, kind: BlockKind) -> Result<Held, Reason>
     requires { Sound words.old h × (h.counts.here < 1025) × (h.counts.blocks < 100000) × (h.counts.counter < 100000) }
     ensures { StepEnded kind words.old h words.new result }
 {
     match kind {
         BlockKind::Step => {
             let n = close_step(words, h);
-            Passed::Next(n)
+            Ok(n)
         }
-        BlockKind::Text => Passed::Stop(13),
+        BlockKind::Text => Err(Reason::OtherEnd),
     }
 }
 
@@ -177,23 +150,23 @@ fn close_text(words: &mut [u32], h: Held) -> Held
     memory::keep_text(words, h)
 }
 
-pub fn in_text_block(words: &mut [u32], h: Held, e: Inside) -> Passed
+pub fn in_text_block(words: &mut [u32], h: Held, e: Inside) -> Result<Held, Reason>
     requires { Sound words.old h × (h.counts.here < 1025) × (h.counts.blocks < 100000) }
     ensures { InTextBlock e words.old h words.new result }
 {
     match e {
         Inside::End(kind) => match kind {
-            BlockKind::Step => Passed::Stop(13),
+            BlockKind::Step => Err(Reason::OtherEnd),
             BlockKind::Text => {
                 let n = close_text(words, h);
-                Passed::Next(n)
+                Ok(n)
             }
         },
         Inside::Text(t) => {
             let n = with_block(h, Open::Text);
-            Passed::Next(n)
+            Ok(n)
         }
-        Inside::Component(c) => Passed::Stop(14),
+        Inside::Component(c) => Err(Reason::ComponentInText),
     }
 }
 
@@ -219,22 +192,22 @@ fn component_in_text(words: &mut [u32], h: Held, c: ComponentEvent) -> Held
     memory::push_finding(words, n, x)
 }
 
-pub fn in_text_mode(words: &mut [u32], h: Held, e: Inside) -> Passed
+pub fn in_text_mode(words: &mut [u32], h: Held, e: Inside) -> Result<Held, Reason>
     requires { Sound words.old h × (h.counts.here < 1025) × (h.counts.blocks < 100000) × (h.counts.findings < 1544) }
     ensures { InTextMode e words.old h words.new result }
 {
     match e {
         Inside::End(kind) => {
             let n = close_text(words, h);
-            Passed::Next(n)
+            Ok(n)
         }
         Inside::Text(t) => {
             let n = with_block(h, Open::TextMode);
-            Passed::Next(n)
+            Ok(n)
         }
         Inside::Component(c) => {
             let n = component_in_text(words, h, c);
-            Passed::Next(n)
+            Ok(n)
         }
     }
 }

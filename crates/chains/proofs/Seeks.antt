@@ -3,7 +3,7 @@ use Prim.Native.Nat.{ℕ, zero, suc, ◌≤◌, ◌<◌}
 use mathlib.Core.Path.{◌≡◌, refl, ap, sym, ◌∙◌}
 use mathlib.Core.Bool.{Bool, true, false}
 use mathlib.Core.List.{List}
-use mathlib.Core.Option.{Option, none, some}
+use Rattle.std.specs.Prelude.{Option, None, Some}
 use native.Mathlib.Omega.{arith}
 use borrow.Author.Tests.{eq-eqb, eqb-true}
 use lib.Dec.{eqb}
@@ -15,7 +15,7 @@ use Rattle.chains.specs.Rows.{find_in, head_in}
 -- ---- the row of a key
 
 module _ (keys : ℕ → List ℕ) where
-  pub find_hit : (k : List ℕ) (i : ℕ) → eq_list k (keys i) ≡ true → find_in keys k (suc i) ≡ some i
+  pub find_hit : (k : List ℕ) (i : ℕ) → eq_list k (keys i) ≡ true → find_in keys k (suc i) ≡ Some i
   unfolding find_in
   find_hit k i e = rw e
 
@@ -24,34 +24,34 @@ module _ (keys : ℕ → List ℕ) where
   find_miss k i e = rw e
 
   -- a row that is found
-  pub find_below : (k : List ℕ) (n i : ℕ) → find_in keys k n ≡ some i → i < n
+  pub find_below : (k : List ℕ) (n i : ℕ) → find_in keys k n ≡ Some i → i < n
   unfolding find_in
   find_below k zero i q = no_some q
   find_below k (suc j) i q = go (eq_list k (keys j)) q (λ p. find_below k j i p)
     where
-      go : (t : Bool) → pick t (some j) (find_in keys k j) ≡ some i → (find_in keys k j ≡ some i → i < j) → i < suc j
+      go : (t : Bool) → pick t (Some j) (find_in keys k j) ≡ Some i → (find_in keys k j ≡ Some i → i < j) → i < suc j
       go true p ih = let z : j ≡ i = some_inj p in omega arith
       go false p ih = let z = ih p in omega arith
 
-  pub find_equal : (k : List ℕ) (n i : ℕ) → find_in keys k n ≡ some i → eq_list k (keys i) ≡ true
+  pub find_equal : (k : List ℕ) (n i : ℕ) → find_in keys k n ≡ Some i → eq_list k (keys i) ≡ true
   unfolding find_in
   find_equal k zero i q = no_some q
   find_equal k (suc j) i q = go (eq_list k (keys j)) refl q (λ p. find_equal k j i p)
     where
-      go : (t : Bool) → eq_list k (keys j) ≡ t → pick t (some j) (find_in keys k j) ≡ some i → (find_in keys k j ≡ some i → eq_list k (keys i) ≡ true) → eq_list k (keys i) ≡ true
+      go : (t : Bool) → eq_list k (keys j) ≡ t → pick t (Some j) (find_in keys k j) ≡ Some i → (find_in keys k j ≡ Some i → eq_list k (keys i) ≡ true) → eq_list k (keys i) ≡ true
       go true e p ih = let z : j ≡ i = some_inj p in ap (λ (x : ℕ). eq_list k (keys x)) (sym z) ∙ e
       go false e p ih = ih p
 
   -- none is found: the last differs, and none of those before is it
-  pub find_none : (k : List ℕ) (i : ℕ) → find_in keys k (suc i) ≡ none → (eq_list k (keys i) ≡ false) × (find_in keys k i ≡ none)
+  pub find_none : (k : List ℕ) (i : ℕ) → find_in keys k (suc i) ≡ None → (eq_list k (keys i) ≡ false) × (find_in keys k i ≡ None)
   unfolding find_in
   find_none k i q = go (eq_list k (keys i)) q
     where
-      go : (t : Bool) → pick t (some i) (find_in keys k i) ≡ none → (t ≡ false) × (find_in keys k i ≡ none)
+      go : (t : Bool) → pick t (Some i) (find_in keys k i) ≡ None → (t ≡ false) × (find_in keys k i ≡ None)
       go true p = no_some (sym p)
       go false p = (refl, p)
 
-  pub find_others : (k : List ℕ) (n : ℕ) → find_in keys k n ≡ none → (i : ℕ) → i < n → eq_list k (keys i) ≡ false
+  pub find_others : (k : List ℕ) (n : ℕ) → find_in keys k n ≡ None → (i : ℕ) → i < n → eq_list k (keys i) ≡ false
   find_others k zero q i l = absurd (omega arith)
   find_others k (suc n) q i l =
       let z = find_none k n q in
@@ -95,14 +95,14 @@ module _ (hash : List ℕ → ℕ) (keys : ℕ → List ℕ) where
       go true e p ih = let z : j ≡ i = omega arith in ap (λ (x : ℕ). find_in keys k (suc x)) z
       go false e p ih = find_miss keys k j (other_key k j e) ∙ ih p
 
-  find_gone : (k : List ℕ) (n : ℕ) → head_in hash keys (hash k) n ≡ 0 → find_in keys k n ≡ none
+  find_gone : (k : List ℕ) (n : ℕ) → head_in hash keys (hash k) n ≡ 0 → find_in keys k n ≡ None
   unfolding head_in find_in
   find_gone k zero q = refl
   find_gone k (suc j) q = go (eqb (hash (keys j)) (hash k)) refl q (λ p. find_gone k j p)
     where
-      go : (t : Bool) → eqb (hash (keys j)) (hash k) ≡ t → pick t (suc j) (head_in hash keys (hash k) j) ≡ 0 → (head_in hash keys (hash k) j ≡ 0 → find_in keys k j ≡ none) → pick (eq_list k (keys j)) (some j) (find_in keys k j) ≡ none
+      go : (t : Bool) → eqb (hash (keys j)) (hash k) ≡ t → pick t (suc j) (head_in hash keys (hash k) j) ≡ 0 → (head_in hash keys (hash k) j ≡ 0 → find_in keys k j ≡ None) → pick (eq_list k (keys j)) (Some j) (find_in keys k j) ≡ None
       go true e p ih = absurd (omega arith)
-      go false e p ih = ap (λ (t : Bool). pick t (some j) (find_in keys k j)) (other_key k j e) ∙ ih p
+      go false e p ih = ap (λ (t : Bool). pick t (Some j) (find_in keys k j)) (other_key k j e) ∙ ih p
 
   -- ---- the walk along a chain
 
@@ -119,14 +119,14 @@ module _ (hash : List ℕ → ℕ) (keys : ℕ → List ℕ) where
     pub seek_most : p ≤ n
     seek_most = omega (arith, head_most (hash k) v.upto, v.at, v.most)
 
-    pub seek_gone : p ≡ 0 → none ≡ find_in keys k n
+    pub seek_gone : p ≡ 0 → None ≡ find_in keys k n
     seek_gone q = sym (sym v.is ∙ find_gone k v.upto (sym v.at ∙ q))
 
     module _ {i : ℕ} (q : p ≡ suc i) where
       here : find_in keys k (suc i) ≡ find_in keys k n
       here = sym (find_skip k v.upto i (sym v.at ∙ q)) ∙ v.is
 
-      pub seek_hit : eq_list k (keys i) ≡ true → some i ≡ find_in keys k n
+      pub seek_hit : eq_list k (keys i) ≡ true → Some i ≡ find_in keys k n
       seek_hit e = sym (find_hit keys k i e) ∙ here
 
       pub seek_hash : hash (keys i) ≡ hash k
@@ -145,8 +145,8 @@ module _ (keys also : ℕ → List ℕ) where
   unfolding find_in
   find_same k zero e = refl
   find_same k (suc j) e =
-      ap (λ (x : List ℕ). pick (eq_list k x) (some j) (find_in keys k j)) (e j (omega arith))
-      ∙ ap (λ (o : Option ℕ). pick (eq_list k (also j)) (some j) o) (find_same k j (λ i l. e i (omega arith)))
+      ap (λ (x : List ℕ). pick (eq_list k x) (Some j) (find_in keys k j)) (e j (omega arith))
+      ∙ ap (λ (o : Option ℕ). pick (eq_list k (also j)) (Some j) o) (find_same k j (λ i l. e i (omega arith)))
 
 module _ (hash : List ℕ → ℕ) (keys also : ℕ → List ℕ) where
   pub head_same : (b n : ℕ) → ((i : ℕ) → i < n → keys i ≡ also i) → head_in hash keys b n ≡ head_in hash also b n

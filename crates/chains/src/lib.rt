@@ -6,17 +6,11 @@ ghost use Rattle.rules.specs.Utf8.{chars};
 ghost use Rattle.content.specs.Contents.{content_in, kept_in};
 ghost use Rattle.chains.specs.Hashes.{Hashed};
 
-fn wide(x: u32) -> usize
-    ensures { result ≡ x }
-{
-    x as usize
-}
-
 fn mixed(h: usize, c: u32) -> usize
     requires { h < 1024 }
     ensures { (result ≡ (h * 31 + c) % 1024) × (result < 1024) }
 {
-    (h * 31 + wide(c)) % 1024
+    (h * 31 + c as usize) % 1024
 }
 
 // The hash of the content of a field, its blanks collapsed.

@@ -2,7 +2,7 @@
 use Prim.Native.Nat.{ℕ, ◌+◌, ◌<◌, ◌≤◌}
 use mathlib.Core.Path.{refl}
 use mathlib.Core.Bool.{Bool}
-use mathlib.Core.Option.{Option, none, some}
+use Rattle.std.specs.Prelude.{Option, None, Some}
 use mathlib.Core.List.{List, []}
 use native.Mathlib.Omega.{arith}
 use lib.ListN.{length}
@@ -10,24 +10,24 @@ use Rattle.rules.specs.Event as rules
 use Rattle.rules.specs.Model.{Source}
 use Rattle.rules.specs.Checks.{note_check, reference_checks}
 use Rattle.parts.specs.declared.Span.{Span}
-use Rattle.parts.specs.declared.OptText.{OptText}
-use Rattle.parts.specs.declared.OptQuantity.{OptQuantity}
 use Rattle.parts.specs.Views.{span_in, opt_text_in}
 use Rattle.model.specs.Memory.{Sound}
 use Rattle.model.specs.declared.Held.{Held}
 use Rattle.checks.specs.Reports.{Reported, NoteChecked, QuantityChecked, ReferenceChecked}
 use Rattle.checks.proofs.Reports.{reported_seq, reported_count, reported_sound}
 use Rattle.checks.proofs.Laws.{said}
+use Rattle.parts.specs.declared.QuantityView.{QuantityView}
+use Rattle.parts.specs.declared.TextView.{TextView}
 
 -- a note makes one finding at most
 note_one : (implicit : Bool) (o : Option rules.Text) (d : Source) → length (note_check implicit o d) ≤ 1
 unfolding note_check
-note_one implicit none d = omega arith
-note_one implicit (some n) d = omega arith
+note_one implicit None d = omega arith
+note_one implicit (Some n) d = omega arith
 
-module _ {implicit : Bool} {note : OptText} {s : Span} {old : OptText} {w₀ w : List ℕ} {h₀ h : Held} (k : NoteChecked implicit note s old w₀ h₀ w h) where
+module _ {implicit : Bool} {note : Option TextView} {s : Span} {old : Option TextView} {w₀ w : List ℕ} {h₀ h : Held} (k : NoteChecked implicit note s old w₀ h₀ w h) where
   unfoldable plain : Source
-  plain = record { span = span_in s; quantity = none; note = opt_text_in [] old; modifiers_span = span_in s }
+  plain = record { span = span_in s; quantity = None; note = opt_text_in [] old; modifiers_span = span_in s }
 
   noted : Reported (note_check implicit (opt_text_in [] note) plain) w₀ h₀ w h
   unfolding plain
@@ -39,7 +39,7 @@ module _ {implicit : Bool} {note : OptText} {s : Span} {old : OptText} {w₀ w :
   pub note_room : h₀.counts.findings + 2 < 1544 → h.counts.findings + 1 < 1544
   note_room l = let c = reported_count noted in let m = note_one implicit (opt_text_in [] note) plain in omega arith
 
-  pub both_checked : {in_step : Bool} {a b : OptQuantity} {w₁ : List ℕ} {h₁ : Held} → QuantityChecked implicit in_step a s b w h w₁ h₁
+  pub both_checked : {in_step : Bool} {a b : Option QuantityView} {w₁ : List ℕ} {h₁ : Held} → QuantityChecked implicit in_step a s b w h w₁ h₁
       → ReferenceChecked implicit in_step note a s old b w₀ h₀ w₁ h₁
   both_checked q =
       record {

@@ -2,7 +2,7 @@
 use Prim.Native.Nat.{ℕ, zero, suc, ◌+◌, ◌-◌, ◌<◌, ◌≤◌}
 use mathlib.Core.Path.{◌≡◌, refl, ◌∙◌}
 use mathlib.Core.Bool.{Bool, true, false, not}
-use mathlib.Core.Option.{some}
+use Rattle.std.specs.Prelude.{Some, None, Option}
 use mathlib.Core.List.{List, [], ◌∷◌, ◌++◌}
 use native.Mathlib.Omega.{arith}
 use lib.ListN.{length}
@@ -14,16 +14,15 @@ use Rattle.rules.specs.Model.{Source, Entry, amount_of, is_textual}
 use Rattle.rules.specs.Checks.{note_check, note_place, widened, quantity_check, quantity_span, text_check, is_defined_in_step, unit_pair, unit_finding, unit_place, quantity_place, compatible_unit}
 use Rattle.parts.specs.declared.Span.{Span}
 use Rattle.parts.specs.declared.TextView.{TextView}
-use Rattle.parts.specs.declared.OptText.{OptText}
-use Rattle.parts.specs.declared.OptText.TheVariants as text
 use Rattle.parts.specs.declared.QuantityView.{QuantityView}
-use Rattle.parts.specs.declared.OptQuantity.{OptQuantity}
-use Rattle.parts.specs.declared.OptQuantity.TheVariants as quantity
-use Rattle.parts.specs.Views.{span_in, SpanWithin, text_in, opt_text_in, OptTextWithin, kind_in, quantity_in, opt_quantity_in, QuantityWithin, OptQuantityWithin}
+use Rattle.parts.specs.Views.{span_in, SpanWithin, text_in, opt_text_in, OptTextWithin, quantity_in, opt_quantity_in, QuantityWithin, OptQuantityWithin}
 use Rattle.model.specs.declared.Held.{Held}
 use Rattle.compatible.specs.Fitting.{unit_in}
 use Rattle.checks.specs.Reports.{Reported, nothing, NoteWithin, NoteChecked, QuantityChecked, place_with, place_of, UnitsChecked}
 use Rattle.checks.proofs.Reports.{reported_seq, reported_count}
+use Rattle.sheet.specs.Words.{kind_in}
+use Rattle.sheet.specs.declared.ValueKind.{ValueKind}
+use Rattle.sheet.specs.declared.ValueKind.TheVariants.{Number, Range, Textual}
 
 -- nothing was found, or what was found is said otherwise
 pub none_found : {fs : List Finding} {w : List ℕ} {h : Held} → fs ≡ [] → Reported fs w h w h
@@ -34,14 +33,14 @@ said e r = rw e r
 
 -- ---- 18
 
-pub note_within : (n : OptText) (v : TextView) → NoteWithin n → n ≡ text.Present v → SpanWithin v.span
+pub note_within : (n : Option TextView) (v : TextView) → NoteWithin n → n ≡ Some v → SpanWithin v.span
 unfolding NoteWithin
 note_within n v w e = rw e at w
 
-pub note_read : (line : List ℕ) (n : OptText) → OptTextWithin line n → NoteWithin n
+pub note_read : (line : List ℕ) (n : Option TextView) → OptTextWithin line n → NoteWithin n
 unfolding NoteWithin OptTextWithin
-note_read line text.Absent w = tt
-note_read line (text.Present v) w = w.span
+note_read line None w = tt
+note_read line (Some v) w = w.span
 
 module _ (s : Span) where
   pub widened_first : {e : ℕ} → s.start ≡ 0 → e ≡ s.end + 1 → span_in (record { start = 0; end = e }) ≡ widened (span_in s)
@@ -52,20 +51,20 @@ module _ (s : Span) where
   unfolding span_in widened
   widened_other h e = rw (h, e)
 
-module _ {implicit : Bool} {note : OptText} {s : Span} {old : OptText} {w₀ : List ℕ} {h₀ : Held} where
-  pub note_none : note ≡ text.Absent → NoteChecked implicit note s old w₀ h₀ w₀ h₀
+module _ {implicit : Bool} {note : Option TextView} {s : Span} {old : Option TextView} {w₀ : List ℕ} {h₀ : Held} where
+  pub note_none : note ≡ None → NoteChecked implicit note s old w₀ h₀ w₀ h₀
   unfolding note_check opt_text_in
   note_none e = record { is = λ line other d p q. none_found (rw e) }
 
-  module _ {w : List ℕ} {h : Held} (v : TextView) (r : Span) (e : note ≡ text.Present v) (x : span_in r ≡ widened (span_in v.span)) where
-    pub note_end : old ≡ text.Absent → Reported (found_two 18 (span_in r) (span_in (record { start = s.end; end = s.end })) implicit ∷ []) w₀ h₀ w h → NoteChecked implicit note s old w₀ h₀ w h
+  module _ {w : List ℕ} {h : Held} (v : TextView) (r : Span) (e : note ≡ Some v) (x : span_in r ≡ widened (span_in v.span)) where
+    pub note_end : old ≡ None → Reported (found_two 18 (span_in r) (span_in (record { start = s.end; end = s.end })) implicit ∷ []) w₀ h₀ w h → NoteChecked implicit note s old w₀ h₀ w h
     note_end o k = record { is = λ line other d p q. said (same line other d p q) k }
       where
         same : (line other : List ℕ) (d : Source) → d.span ≡ span_in s → d.note ≡ opt_text_in other old
             → note_check implicit (opt_text_in line note) d ≡ found_two 18 (span_in r) (span_in (record { start = s.end; end = s.end })) implicit ∷ []
         same line other d p q = unfold note_check note_place opt_text_in text_in in rw (e, p, q, o, x) (unfold span_in in refl)
 
-    pub note_note : (u : TextView) → old ≡ text.Present u → Reported (found_two 18 (span_in r) (span_in u.span) implicit ∷ []) w₀ h₀ w h → NoteChecked implicit note s old w₀ h₀ w h
+    pub note_note : (u : TextView) → old ≡ Some u → Reported (found_two 18 (span_in r) (span_in u.span) implicit ∷ []) w₀ h₀ w h → NoteChecked implicit note s old w₀ h₀ w h
     note_note u o k = record { is = λ line other d p q. said (same line other d p q) k }
       where
         same : (line other : List ℕ) (d : Source) → d.span ≡ span_in s → d.note ≡ opt_text_in other old
@@ -74,18 +73,24 @@ module _ {implicit : Bool} {note : OptText} {s : Span} {old : OptText} {w₀ : L
 
 -- ---- 19 and 20
 
-module _ {implicit in_step : Bool} {a b : OptQuantity} {s : Span} {w₀ : List ℕ} {h₀ : Held} where
-  pub quantity_none : a ≡ quantity.Absent → QuantityChecked implicit in_step a s b w₀ h₀ w₀ h₀
+module _ {implicit in_step : Bool} {a b : Option QuantityView} {s : Span} {w₀ : List ℕ} {h₀ : Held} where
+  pub quantity_none : a ≡ None → QuantityChecked implicit in_step a s b w₀ h₀ w₀ h₀
   unfolding quantity_check opt_quantity_in on_some
   quantity_none e = record { is = λ line other i j new d p q t u. none_found (rw e) }
 
-  pub quantity_alone : (x : QuantityView) → a ≡ quantity.Present x → b ≡ quantity.Absent → QuantityChecked implicit in_step a s b w₀ h₀ w₀ h₀
+  pub quantity_alone : (x : QuantityView) → a ≡ Some x → b ≡ None → QuantityChecked implicit in_step a s b w₀ h₀ w₀ h₀
   unfolding quantity_check opt_quantity_in on_some
   quantity_alone x e o = record { is = λ line other i j new d p q t u. none_found (rw (e, o)) }
 
-  pub quantity_both : {w : List ℕ} {h : Held} (x y : QuantityView) → a ≡ quantity.Present x → b ≡ quantity.Present y
-      → QuantityChecked implicit in_step (quantity.Present x) s (quantity.Present y) w₀ h₀ w h → QuantityChecked implicit in_step a s b w₀ h₀ w h
+  pub quantity_both : {w : List ℕ} {h : Held} (x y : QuantityView) → a ≡ Some x → b ≡ Some y
+      → QuantityChecked implicit in_step (Some x) s (Some y) w₀ h₀ w h → QuantityChecked implicit in_step a s b w₀ h₀ w h
   quantity_both x y e o k = rw (e, o) k
+
+pub textual_not : (k : ValueKind) → (k ≡ Textual → ⊥) → false ≡ is_textual (kind_in k)
+unfolding is_textual kind_in
+textual_not Number n = refl
+textual_not Range n = refl
+textual_not Textual n = absurd (n refl)
 
 pub when_not : (b : Bool) (f : Finding) → b ≡ true → when (not b) f ≡ []
 unfolding when
@@ -122,23 +127,23 @@ when_room b f r l = let k = reported_count r in let m = short b in omega arith
 
 pub pair_checked : {implicit in_step : Bool} {a b : QuantityView} {s : Span} {x y : Bool} {w₀ w₁ w : List ℕ} {h₀ h₁ h : Held} → x ≡ is_textual (kind_in a.kind) → y ≡ is_textual (kind_in b.kind)
     → Reported (when (not in_step) (found_two 19 (span_in a.span) (span_in s) implicit)) w₀ h₀ w₁ h₁ → Reported (text_check implicit x y (span_in a.span) (span_in b.span)) w₁ h₁ w h
-    → QuantityChecked implicit in_step (quantity.Present a) s (quantity.Present b) w₀ h₀ w h
+    → QuantityChecked implicit in_step (Some a) s (Some b) w₀ h₀ w h
 pair_checked {implicit} {in_step} {a} {b} {s} {x} {y} e o k l = record { is = λ line other i j new d p q t u. said (same line other i j new d p q t u) (reported_seq k l) }
   where
-    same : (line other : List ℕ) (i j : Bool) (new : Source) (d : Entry) → new.quantity ≡ opt_quantity_in line (quantity.Present a) → is_defined_in_step d.relation ≡ in_step
-        → d.source.span ≡ span_in s → d.source.quantity ≡ opt_quantity_in other (quantity.Present b)
-        → quantity_check implicit new d (on_some (amount_of i) (opt_quantity_in line (quantity.Present a))) (on_some (amount_of j) (opt_quantity_in other (quantity.Present b)))
+    same : (line other : List ℕ) (i j : Bool) (new : Source) (d : Entry) → new.quantity ≡ opt_quantity_in line (Some a) → is_defined_in_step d.relation ≡ in_step
+        → d.source.span ≡ span_in s → d.source.quantity ≡ opt_quantity_in other (Some b)
+        → quantity_check implicit new d (on_some (amount_of i) (opt_quantity_in line (Some a))) (on_some (amount_of j) (opt_quantity_in other (Some b)))
         ≡ when (not in_step) (found_two 19 (span_in a.span) (span_in s) implicit) ++ text_check implicit x y (span_in a.span) (span_in b.span)
     same line other i j new d p q t u = unfold quantity_check quantity_span opt_quantity_in quantity_in on_some amount_of in rw (p, q, t, u, e, o)
 
 -- ---- 15 to 17
 
-pub place_is : (line : List ℕ) (q : QuantityView) → quantity_place (some (quantity_in line q)) ≡ span_in (place_of q) ∷ []
+pub place_is : (line : List ℕ) (q : QuantityView) → quantity_place (Some (quantity_in line q)) ≡ span_in (place_of q) ∷ []
 place_is line q = unfold quantity_place quantity_in place_of in by q.unit
   where
-    by : (u : OptText) → ◌≡◌ {A = List rules.Span} (unit_place (span_in q.span) (opt_text_in line u) ∷ []) (span_in (place_with q.span u) ∷ [])
-    by text.Absent = unfold unit_place place_with opt_text_in in refl
-    by (text.Present v) = unfold unit_place place_with opt_text_in text_in in refl
+    by : (u : Option TextView) → ◌≡◌ {A = List rules.Span} (unit_place (span_in q.span) (opt_text_in line u) ∷ []) (span_in (place_with q.span u) ∷ [])
+    by None = unfold unit_place place_with opt_text_in in refl
+    by (Some v) = unfold unit_place place_with opt_text_in text_in in refl
 
 finding_some : (n : ℕ) (ps : List rules.Span) → (n ≡ 0 → ⊥) → unit_finding n ps ≡ diag n ps false ∷ []
 unfolding unit_finding
@@ -149,29 +154,29 @@ finding_none : (n : ℕ) (ps : List rules.Span) → n ≡ 0 → unit_finding n p
 unfolding unit_finding
 finding_none n ps e = rw e
 
-pub unit_within : (line : List ℕ) (o : OptQuantity) (q : QuantityView) → OptQuantityWithin line o → o ≡ quantity.Present q → OptTextWithin line q.unit
+pub unit_within : (line : List ℕ) (o : Option QuantityView) (q : QuantityView) → OptQuantityWithin line o → o ≡ Some q → OptTextWithin line q.unit
 unfolding OptQuantityWithin
 unit_within line o q w e = let k : QuantityWithin line q = rw e at w in k.unit
 
-pair_is : (us : List NamedUnit) (f g : List ℕ) {a b : OptQuantity} (x y : QuantityView) {n : ℕ} → a ≡ quantity.Present x → b ≡ quantity.Present y
+pair_is : (us : List NamedUnit) (f g : List ℕ) {a b : Option QuantityView} (x y : QuantityView) {n : ℕ} → a ≡ Some x → b ≡ Some y
     → n ≡ compatible_unit us (unit_in g y.unit) (unit_in f x.unit) → (i j : Bool) (new old : Entry) → new.source.quantity ≡ opt_quantity_in f a → old.source.quantity ≡ opt_quantity_in g b
-    → unit_pair us new (on_some (amount_of i) (opt_quantity_in f a)) (on_some (amount_of j) (opt_quantity_in g b)) old ≡ unit_finding n (quantity_place (some (quantity_in f x)) ++ quantity_place (some (quantity_in g y)))
+    → unit_pair us new (on_some (amount_of i) (opt_quantity_in f a)) (on_some (amount_of j) (opt_quantity_in g b)) old ≡ unit_finding n (quantity_place (Some (quantity_in f x)) ++ quantity_place (Some (quantity_in g y)))
 unfolding unit_pair opt_quantity_in on_some amount_of unit_in quantity_in
 pair_is us f g x y e o k i j new old p q = rw (p, q, e, o, k)
 
-places : (f g : List ℕ) (x y : QuantityView) → quantity_place (some (quantity_in f x)) ++ quantity_place (some (quantity_in g y)) ≡ span_in (place_of x) ∷ span_in (place_of y) ∷ []
+places : (f g : List ℕ) (x y : QuantityView) → quantity_place (Some (quantity_in f x)) ++ quantity_place (Some (quantity_in g y)) ≡ span_in (place_of x) ∷ span_in (place_of y) ∷ []
 places f g x y = rw (place_is f x, place_is g y)
 
-module _ (us : List NamedUnit) (f g : List ℕ) {a b : OptQuantity} {w₀ : List ℕ} {h₀ : Held} where
-  pub units_none : a ≡ quantity.Absent → UnitsChecked us f a g b w₀ h₀ w₀ h₀
+module _ (us : List NamedUnit) (f g : List ℕ) {a b : Option QuantityView} {w₀ : List ℕ} {h₀ : Held} where
+  pub units_none : a ≡ None → UnitsChecked us f a g b w₀ h₀ w₀ h₀
   unfolding unit_pair opt_quantity_in on_some
   units_none e = record { is = λ i j new old p q. none_found (rw e) }
 
-  pub units_alone : (x : QuantityView) → a ≡ quantity.Present x → b ≡ quantity.Absent → UnitsChecked us f a g b w₀ h₀ w₀ h₀
+  pub units_alone : (x : QuantityView) → a ≡ Some x → b ≡ None → UnitsChecked us f a g b w₀ h₀ w₀ h₀
   unfolding unit_pair opt_quantity_in on_some
   units_alone x e o = record { is = λ i j new old p q. none_found (rw (e, o)) }
 
-  module _ (x y : QuantityView) {n : ℕ} (e : a ≡ quantity.Present x) (o : b ≡ quantity.Present y) (k : n ≡ compatible_unit us (unit_in g y.unit) (unit_in f x.unit)) where
+  module _ (x y : QuantityView) {n : ℕ} (e : a ≡ Some x) (o : b ≡ Some y) (k : n ≡ compatible_unit us (unit_in g y.unit) (unit_in f x.unit)) where
     pub units_fit : n ≡ 0 → UnitsChecked us f a g b w₀ h₀ w₀ h₀
     units_fit z = record { is = λ i j new old p q. none_found (pair_is us f g x y e o k i j new old p q ∙ finding_none n _ z) }
 
@@ -179,10 +184,10 @@ module _ (us : List NamedUnit) (f g : List ℕ) {a b : OptQuantity} {w₀ : List
         → Reported (found_two n (span_in s) (span_in t) false ∷ []) w₀ h₀ w h → UnitsChecked us f a g b w₀ h₀ w h
     units_differ z u v r = record { is = λ i j new old p q. said (pair_is us f g x y e o k i j new old p q ∙ finding_some n _ z ∙ rw (places f g x y, u, v)) r }
 
-pub place_own : (q : QuantityView) → q.unit ≡ text.Absent → q.span ≡ place_of q
+pub place_own : (q : QuantityView) → q.unit ≡ None → q.span ≡ place_of q
 unfolding place_of place_with
 place_own q e = rw e
 
-pub place_text : (q : QuantityView) (v : TextView) → q.unit ≡ text.Present v → v.span ≡ place_of q
+pub place_text : (q : QuantityView) (v : TextView) → q.unit ≡ Some v → v.span ≡ place_of q
 unfolding place_of place_with
 place_text q v e = rw e

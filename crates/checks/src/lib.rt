@@ -11,12 +11,14 @@ ghost use Rattle.rules.specs.Finding.{found_two};
 ghost use Rattle.rules.specs.Model.{is_textual};
 ghost use Rattle.rules.specs.Checks.{text_check, widened};
 ghost use Rattle.letters.specs.Tables.{unicode_tables};
-ghost use Rattle.parts.specs.Views.{span_in, kind_in, SpanWithin, OptQuantityWithin};
+ghost use Rattle.parts.specs.Views.{span_in, SpanWithin, OptQuantityWithin};
 ghost use Rattle.model.specs.Memory.{Sound};
 ghost use Rattle.checks.specs.Reports.{Reported, place_of, NoteWithin, NoteChecked, PairChecked, QuantityChecked, UnitsChecked, ReferenceChecked};
+ghost use Rattle.sheet.specs.Words.{kind_in};
 
 use model::Held;
-use parts::{OptQuantity, OptText, QuantityView, Span, ValueKind};
+use parts::{QuantityView, Span, TextView};
+use sheet::ValueKind;
 
 // A finding with two spans.
 fn push_two(words: &mut [u32], h: Held, code: u32, s: Span, t: Span, implicit: bool) -> Held
@@ -44,23 +46,23 @@ fn note_check(
     words: &mut [u32],
     h: Held,
     implicit: bool,
-    note: OptText,
+    note: Option<TextView>,
     span: Span,
-    old: OptText,
+    old: Option<TextView>,
 ) -> Held
     requires { Sound words.old h × (h.counts.findings < 1544) × NoteWithin note }
     ensures { NoteChecked implicit note span old words.old h words.new result }
 {
     match note {
-        OptText::Absent => h,
-        OptText::Present(v) => {
+        None => h,
+        Some(v) => {
             let s = widened_span(v.span);
             match old {
-                OptText::Absent => {
+                None => {
                     let e = span.end;
                     push_two(words, h, 18, s, Span { start: e, end: e }, implicit)
                 }
-                OptText::Present(d) => push_two(words, h, 18, s, d.span, implicit),
+                Some(d) => push_two(words, h, 18, s, d.span, implicit),
             }
         }
     }
@@ -69,11 +71,7 @@ fn note_check(
 fn is_textual(k: ValueKind) -> bool
     ensures { result ≡ is_textual (kind_in k) }
 {
-    match k {
-        ValueKind::Number => false,
-        ValueKind::Range => false,
-        ValueKind::Textual => true,
-    }
+    matches!(k, ValueKind::Textual)
 }
 
 fn conflict_check(
@@ -144,18 +142,18 @@ fn quantity_check(
     h: Held,
     implicit: bool,
     in_step: bool,
-    a: OptQuantity,
+    a: Option<QuantityView>,
     span: Span,
-    b: OptQuantity,
+    b: Option<QuantityView>,
 ) -> Held
     requires { Sound words.old h × (h.counts.findings + 1 < 1544) }
     ensures { QuantityChecked implicit in_step a span b words.old h words.new result }
 {
     match a {
-        OptQuantity::Absent => h,
-        OptQuantity::Present(x) => match b {
-            OptQuantity::Absent => h,
-            OptQuantity::Present(y) => pair_check(words, h, implicit, in_step, x, span, y),
+        None => h,
+        Some(x) => match b {
+            None => h,
+            Some(y) => pair_check(words, h, implicit, in_step, x, span, y),
         },
     }
 }
@@ -167,8 +165,8 @@ fn unit_place(q: QuantityView) -> Span
     let s = q.span;
     let u = q.unit;
     match u {
-        OptText::Absent => s,
-        OptText::Present(v) => v.span,
+        None => s,
+        Some(v) => v.span,
     }
 }
 
@@ -180,18 +178,18 @@ pub fn unit_pair(
     words: &mut [u32],
     h: Held,
     f: &[u8],
-    a: OptQuantity,
+    a: Option<QuantityView>,
     g: &[u8],
-    b: OptQuantity,
+    b: Option<QuantityView>,
 ) -> Held
     requires { (t.now ≡ unicode_tables) × Indexed units.now index.now × OptQuantityWithin f.now a × OptQuantityWithin g.now b × Sound words.old h × (h.counts.findings < 1544) }
     ensures { UnitsChecked (units_or (read_units units.now)) f.now a g.now b words.old h words.new result }
 {
     match a {
-        OptQuantity::Absent => h,
-        OptQuantity::Present(x) => match b {
-            OptQuantity::Absent => h,
-            OptQuantity::Present(y) => {
+        None => h,
+        Some(x) => match b {
+            None => h,
+            Some(y) => {
                 let u = x.unit;
                 let v = y.unit;
                 let code = compatible::compatible_unit(t, units, index, g, v, f, u);
@@ -212,11 +210,11 @@ pub fn reference_checks(
     h: Held,
     implicit: bool,
     in_step: bool,
-    note: OptText,
-    a: OptQuantity,
+    note: Option<TextView>,
+    a: Option<QuantityView>,
     span: Span,
-    old: OptText,
-    b: OptQuantity,
+    old: Option<TextView>,
+    b: Option<QuantityView>,
 ) -> Held
     requires { Sound words.old h × (h.counts.findings + 2 < 1544) × NoteWithin note }
     ensures { ReferenceChecked implicit in_step note a span old b words.old h words.new result }

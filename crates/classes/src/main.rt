@@ -16,16 +16,10 @@ struct Sum {
     total: u64,
 }
 
-fn wide(c: u32) -> u64
-    ensures { result ≡ c }
-{
-    c as u64
-}
-
 fn times(a: u32, b: u32) -> u64
     ensures { result ≤ 4294967295 * 4294967295 }
 {
-    wide(a) * wide(b)
+    (a as u64) * (b as u64)
 }
 
 fn and(s: Sum, c: u32) -> Sum {

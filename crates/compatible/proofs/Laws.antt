@@ -2,7 +2,7 @@
 use Prim.Native.Nat.{ℕ, ◌≤◌}
 use mathlib.Core.Path.{◌≡◌, refl, ap, sym, ◌∙◌}
 use mathlib.Core.Bool.{Bool, true, false}
-use mathlib.Core.Option.{Option, none, some}
+use Rattle.std.specs.Prelude.{Option, None, Some}
 use mathlib.Core.List.{List}
 use native.Mathlib.Omega.{arith}
 use lib.Dec.{eqb}
@@ -18,13 +18,8 @@ use Rattle.content.specs.Contents.{kept_in}
 use Rattle.content.proofs.Plains as plains
 use Rattle.content.proofs.Retains.{kept_trimmed}
 use Rattle.text.specs.Trims.{TrimmedTo}
-use Rattle.units.specs.declared.Physical.{Physical}
-use Rattle.units.specs.declared.Physical.TheVariants.{Volume, Mass, Length, Temperature, Time, Unknown}
-use Rattle.units.specs.Quantities.{physical_as}
 use Rattle.units.specs.Lists.{units_from}
 use Rattle.units.proofs.Walks.{units_start}
-use Rattle.parts.specs.declared.OptText.{OptText}
-use Rattle.parts.specs.declared.OptText.TheVariants.{Absent, Present}
 use Rattle.parts.specs.declared.TextView.{TextView}
 use Rattle.parts.specs.Views.{part_of, text_in, opt_text_in, TextWithin, OptTextWithin}
 use Rattle.parts.proofs.Contents.{content_of_lem}
@@ -32,13 +27,13 @@ use Rattle.compatible.specs.Fitting.{code_of, unit_code, known_of, trimmed_in, u
 
 -- ---- numbers of physical quantities
 
-code_some : (p : PhysicalQuantity) → code_of (physical_as (some p)) ≡ physical_number p
-unfolding code_of physical_as physical_number
-code_some volume = refl
-code_some mass = refl
-code_some len = refl
-code_some temperature = refl
-code_some time = refl
+number_most : (p : PhysicalQuantity) → physical_number p ≤ 5
+unfolding physical_number
+number_most volume = omega arith
+number_most mass = omega arith
+number_most len = omega arith
+number_most temperature = omega arith
+number_most time = omega arith
 
 number_small : (p : PhysicalQuantity) → physical_number p ≡ 5 → ⊥
 unfolding physical_number
@@ -48,47 +43,42 @@ number_small len e = omega arith
 number_small temperature e = omega arith
 number_small time e = omega arith
 
-code_none : code_of (physical_as none) ≡ 5
-unfolding code_of physical_as
-code_none = refl
-
-code_five : (o : Option PhysicalQuantity) → code_of (physical_as o) ≡ 5 → o ≡ none
-code_five none e = refl
-code_five (some p) e = absurd (number_small p (sym (code_some p) ∙ e))
+code_five : (o : Option PhysicalQuantity) → code_of o ≡ 5 → o ≡ None
+unfolding code_of
+code_five None e = refl
+code_five (Some p) e = absurd (number_small p e)
 
 -- ---- two units
 
 twice : (us : List NamedUnit) (a : List ℕ) (o : Option PhysicalQuantity) → known_units us a a o o ≡ 0
 unfolding known_units same_physical
-twice us a none = rw (eq_itself a)
-twice us a (some p) = rw (eq-eqb (physical_number p) (physical_number p) refl)
+twice us a None = rw (eq_itself a)
+twice us a (Some p) = rw (eq-eqb (physical_number p) (physical_number p) refl)
 
 module _ (us : List NamedUnit) (a b : List ℕ) where
-  left_none : (o : Option PhysicalQuantity) → eq_list a b ≡ false → known_units us a b none o ≡ 17
+  left_none : (o : Option PhysicalQuantity) → eq_list a b ≡ false → known_units us a b None o ≡ 17
   unfolding known_units
-  left_none none e = rw e
-  left_none (some q) e = rw e
+  left_none None e = rw e
+  left_none (Some q) e = rw e
 
-  right_none : (o : Option PhysicalQuantity) → eq_list a b ≡ false → known_units us a b o none ≡ 17
+  right_none : (o : Option PhysicalQuantity) → eq_list a b ≡ false → known_units us a b o None ≡ 17
   unfolding known_units
-  right_none none e = rw e
-  right_none (some p) e = rw e
+  right_none None e = rw e
+  right_none (Some p) e = rw e
 
-  both_same : (o u : Option PhysicalQuantity) → (code_of (physical_as o) ≡ 5 → ⊥) → code_of (physical_as o) ≡ code_of (physical_as u) → known_units us a b o u ≡ 0
-  both_same none u n e = absurd (n code_none)
-  both_same (some p) none n e = absurd (n (e ∙ code_none))
-  both_same (some p) (some q) n e = unfold known_units same_physical in rw (eq-eqb (physical_number p) (physical_number q) (sym (code_some p) ∙ e ∙ code_some q))
+  both_same : (o u : Option PhysicalQuantity) → (code_of o ≡ 5 → ⊥) → code_of o ≡ code_of u → known_units us a b o u ≡ 0
+  unfolding code_of
+  both_same None u n e = absurd (n refl)
+  both_same (Some p) None n e = absurd (n e)
+  both_same (Some p) (Some q) n e = unfold known_units same_physical in rw (eq-eqb (physical_number p) (physical_number q) e)
 
-  both_other : (o u : Option PhysicalQuantity) → (code_of (physical_as o) ≡ 5 → ⊥) → (code_of (physical_as u) ≡ 5 → ⊥)
-      → (code_of (physical_as o) ≡ code_of (physical_as u) → ⊥) → known_units us a b o u ≡ 16
-  both_other none u n m e = absurd (n code_none)
-  both_other (some p) none n m e = absurd (m code_none)
-  both_other (some p) (some q) n m e =
-      unfold known_units same_physical in rw (ne_eqb (physical_number p) (physical_number q) (λ z. e (code_some p ∙ z ∙ sym (code_some q))))
-
-pub code_is : (us : List NamedUnit) (a : List ℕ) {p : Physical} {m : ℕ} → p ≡ physical_as (find_unit a us) → m ≡ code_of p → m ≡ unit_code us a
-unfolding unit_code
-code_is us a x y = y ∙ ap code_of x
+  both_other : (o u : Option PhysicalQuantity) → (code_of o ≡ 5 → ⊥) → (code_of u ≡ 5 → ⊥)
+      → (code_of o ≡ code_of u → ⊥) → known_units us a b o u ≡ 16
+  unfolding code_of
+  both_other None u n m e = absurd (n refl)
+  both_other (Some p) None n m e = absurd (m refl)
+  both_other (Some p) (Some q) n m e =
+      unfold known_units same_physical in rw (ne_eqb (physical_number p) (physical_number q) e)
 
 module _ (us : List NamedUnit) (a b : List ℕ) {t : Bool} (s : t ≡ eq_list a b) where
   pub units_same : t ≡ true → 0 ≡ known_of us a b
@@ -117,15 +107,11 @@ module _ (us : List NamedUnit) (a b : List ℕ) {m n : ℕ} (x : m ≡ unit_code
 
 pub code_small : (us : List NamedUnit) (a : List ℕ) → unit_code us a ≤ 5
 unfolding unit_code code_of
-code_small us a = small (physical_as (find_unit a us))
+code_small us a = small (find_unit a us)
   where
-    small : (p : Physical) → code_of p ≤ 5
-    small Volume = omega arith
-    small Mass = omega arith
-    small Length = omega arith
-    small Temperature = omega arith
-    small Time = omega arith
-    small Unknown = omega arith
+    small : (o : Option PhysicalQuantity) → code_of o ≤ 5
+    small None = omega arith
+    small (Some p) = number_most p
 
 module _ (us : List NamedUnit) (a b : List ℕ) {n : ℕ} (p : n ≡ unit_code us a) where
   -- one that is not in the list fits itself alone
@@ -158,32 +144,15 @@ text_kept line v r w t =
     let c = plains.content_of_lem (part_of line v.content) (content_of_lem line v.content w.content) in
     rw c at (kept_trimmed (part_of line v.content) r t.is)
 
-pub within_present : (line : List ℕ) (o : OptText) (v : TextView) → OptTextWithin line o → o ≡ Present v → TextWithin line v
+pub within_present : (line : List ℕ) (o : Option TextView) (v : TextView) → OptTextWithin line o → o ≡ Some v → TextWithin line v
 unfolding OptTextWithin
 within_present line o v w e = rw e at w
 
-module _ (us : List NamedUnit) (f g : List ℕ) {a b : OptText} where
-  pub both_absent : a ≡ Absent → b ≡ Absent → 0 ≡ compatible_unit us (unit_in f a) (unit_in g b)
-  unfolding compatible_unit unit_in opt_text_in on_some
-  both_absent p q = rw (p, q)
-
-  pub left_absent : {v : TextView} → a ≡ Absent → b ≡ Present v → 15 ≡ compatible_unit us (unit_in f a) (unit_in g b)
-  unfolding compatible_unit unit_in opt_text_in on_some
-  left_absent p q = rw (p, q)
-
-  pub right_absent : {v : TextView} → a ≡ Present v → b ≡ Absent → 15 ≡ compatible_unit us (unit_in f a) (unit_in g b)
-  unfolding compatible_unit unit_in opt_text_in on_some
-  right_absent p q = rw (p, q)
-
-  present : {u v : TextView} → a ≡ Present u → b ≡ Present v → compatible_unit us (unit_in f a) (unit_in g b) ≡ known_of us (trimmed_text (text_in f u)) (trimmed_text (text_in g v))
-  unfolding compatible_unit unit_in opt_text_in on_some known_of
-  present p q = rw (p, q)
-
-  pub both_present : {u v : TextView} {x y : List ℕ} {r : ℕ} → OptTextWithin f a → OptTextWithin g b → a ≡ Present u → b ≡ Present v
-      → TrimmedTo (part_of f u.content) x → TrimmedTo (part_of g v.content) y → r ≡ known_of us (kept_in x) (kept_in y)
-      → r ≡ compatible_unit us (unit_in f a) (unit_in g b)
-  both_present {u} {v} {x} {y} i j p q k l e =
-      rw (text_kept f u x (within_present f a u i p) k, text_kept g v y (within_present g b v j q) l) at e ∙ sym (present p q)
+pub both_present : (us : List NamedUnit) (f g : List ℕ) {u v : TextView} {x y : List ℕ} {r : ℕ} → TextWithin f u → TextWithin g v
+    → TrimmedTo (part_of f u.content) x → TrimmedTo (part_of g v.content) y → r ≡ known_of us (kept_in x) (kept_in y)
+    → r ≡ compatible_unit us (unit_in f (Some u)) (unit_in g (Some v))
+unfolding compatible_unit unit_in opt_text_in on_some known_of
+both_present us f g {u} {v} {x} {y} i j k l e = rw (text_kept f u x i k, text_kept g v y j l) at e
 
 -- the units of a list that was read
 pub list_read : (s a b : List ℕ) {r : ℕ} → is_some (read_units s) ≡ true → r ≡ known_of (units_from s 0) a b → r ≡ known_of (units_or (read_units s)) a b

@@ -2,22 +2,23 @@
 #![tactic(auto)]
 
 ghost use Rattle.std.specs.Prelude.{◌≡◌};
-ghost use Rattle.rules.specs.Units.{read_units};
+ghost use Rattle.rules.specs.Units.{physical_number, read_units};
 ghost use Rattle.rules.specs.Answer.{units_or};
 ghost use Rattle.rules.specs.Checks.{compatible_unit};
 ghost use Rattle.letters.specs.Tables.{unicode_tables};
 ghost use Rattle.content.specs.Contents.{kept_in};
 ghost use Rattle.text.specs.Trims.{TrimmedTo};
 ghost use Rattle.unit_index.specs.Index.{Indexed};
+ghost use Rattle.units.specs.Quantities.{physical_in};
 ghost use Rattle.units.specs.Lists.{units_from};
 ghost use Rattle.parts.specs.Views.{part_of, OptTextWithin};
-ghost use Rattle.compatible.specs.Fitting.{code_of, unit_code, known_of, unit_in};
+ghost use Rattle.compatible.specs.Fitting.{unit_code, known_of, unit_in};
 
-use parts::{OptText, TextView};
+use parts::TextView;
 use units::Physical;
 
 fn physical_code(p: Physical) -> u32
-    ensures { result ≡ code_of p }
+    ensures { result ≡ physical_number (physical_in p) }
 {
     match p {
         Physical::Volume => 0,
@@ -25,7 +26,6 @@ fn physical_code(p: Physical) -> u32
         Physical::Length => 2,
         Physical::Temperature => 3,
         Physical::Time => 4,
-        Physical::Unknown => 5,
     }
 }
 
@@ -34,8 +34,10 @@ pub fn unit_code(units: &[u8], index: &[u32], a: &[u8]) -> u32
     requires { Indexed units.now index.now }
     ensures { result ≡ unit_code (units_from units.now 0) (kept_in a.now) }
 {
-    let p = unit_index::find_named(units, index, a);
-    physical_code(p)
+    match unit_index::find_named(units, index, a) {
+        Some(p) => physical_code(p),
+        None => 5,
+    }
 }
 
 // The code for two units, or 0 where they fit. The same unit fits, known or not.
@@ -75,25 +77,20 @@ pub fn compatible_unit(
     units: &[u8],
     index: &[u32],
     f: &[u8],
-    a: OptText,
+    a: Option<TextView>,
     g: &[u8],
-    b: OptText,
+    b: Option<TextView>,
 ) -> u32
     requires { (t.now ≡ unicode_tables) × Indexed units.now index.now × OptTextWithin f.now a × OptTextWithin g.now b }
     ensures { result ≡ compatible_unit (units_or (read_units units.now)) (unit_in f.now a) (unit_in g.now b) }
 {
-    match a {
-        OptText::Absent => match b {
-            OptText::Absent => 0,
-            OptText::Present(v) => 15,
-        },
-        OptText::Present(u) => match b {
-            OptText::Absent => 15,
-            OptText::Present(v) => {
-                let x = text_part(t, f, u);
-                let y = text_part(t, g, v);
-                known_units(units, index, x, y)
-            }
-        },
+    match (a, b) {
+        (Some(u), Some(v)) => {
+            let x = text_part(t, f, u);
+            let y = text_part(t, g, v);
+            known_units(units, index, x, y)
+        }
+        (None, None) => 0,
+        _ => 15,
     }
 }

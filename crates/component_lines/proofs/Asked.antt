@@ -3,7 +3,7 @@ use Prim.Native.Nat.{ℕ}
 use mathlib.Core.Path.{◌≡◌, refl, sym, ◌∙◌}
 use mathlib.Core.Bool.{Bool, true, false, ◌||◌}
 use mathlib.Core.List.{List}
-use mathlib.Core.Option.{Option}
+use Rattle.std.specs.Prelude.{Option, None, Some}
 use native.Mathlib.Omega.{arith}
 use Rattle.rules.specs.Units.{NamedUnit}
 use Rattle.rules.specs.Finding.{Finding}
@@ -13,8 +13,6 @@ use Rattle.rules.specs.Reference.{Earlier, is_explicit, treat_as_reference, refe
 use Rattle.rules.specs.Components.{made_with}
 use Rattle.rules.proofs.Basics.{no_truth}
 use Rattle.model.specs.declared.Held.{Held}
-use Rattle.lookup.specs.declared.Same.{Same}
-use Rattle.lookup.specs.declared.Same.TheVariants.{At, Nothing}
 use Rattle.lookup.specs.Names.{SameFound}
 use Rattle.lookup.specs.References.{modes_of}
 use Rattle.unit_checks.specs.Checked.{SameBelow}
@@ -28,7 +26,7 @@ or_right : (a b : Bool) → (a || b) ≡ false → b ≡ false
 or_right true b e = no_truth (sym e)
 or_right false b e = e
 
-not_at : {P : Type 0} {i : ℕ} → Nothing ≡ At i → P
+not_at : {P : Type 0} {i : ℕ} → None ≡ Some i → P
 not_at e = absurd (let z : ◌≡◌ {A = ℕ} 0 1 = cc in omega arith)
 
 -- ---- what `asks_same` answers
@@ -48,7 +46,7 @@ module _ (modes : Modes) {ref : Bool} where
 
 -- ---- the answer of the search, or none
 
-module _ {k : Kind} {sheet w : List ℕ} {h : Held} {name : List ℕ} {ref opt : Bool} {same : Same} where
+module _ {k : Kind} {sheet w : List ℕ} {h : Held} {name : List ℕ} {ref opt : Bool} {same : Option ℕ} where
   pub asked_found : {b : Bool} → b ≡ asks_same (modes_of h.define h.duplicate) ref → b ≡ true → SameFound k sheet w h name ref opt same → SameAsked k sheet w h name ref opt same
   asked_found q e f = record { found = λ _. f; unasked = λ z. no_truth (sym z ∙ sym q ∙ e) }
 
@@ -59,7 +57,7 @@ module _ {k : Kind} {sheet w : List ℕ} {h : Held} {name : List ℕ} {ref opt :
       go true e = record { below = (s.found e).below }
       go false e = record { below = λ i q. not_at (sym (s.unasked e) ∙ q) }
 
-pub asked_not : {k : Kind} {sheet w : List ℕ} {h : Held} {name : List ℕ} {ref opt : Bool} {b : Bool} → b ≡ asks_same (modes_of h.define h.duplicate) ref → b ≡ false → SameAsked k sheet w h name ref opt Nothing
+pub asked_not : {k : Kind} {sheet w : List ℕ} {h : Held} {name : List ℕ} {ref opt : Bool} {b : Bool} → b ≡ asks_same (modes_of h.define h.duplicate) ref → b ≡ false → SameAsked k sheet w h name ref opt None
 asked_not q e = record { found = λ z. no_truth (sym e ∙ q ∙ z); unasked = λ _. refl }
 
 -- ---- nothing that is made depends on what it finds

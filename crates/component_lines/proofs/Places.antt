@@ -1,4 +1,5 @@
 -- The line of a component, and its name in the sheet.
+use Rattle.std.specs.Prelude.{Option}
 use Prim.Native.Nat.{ℕ, ◌+◌, ◌≤◌}
 use mathlib.Core.Path.{◌≡◌, ap, sym, ◌∙◌}
 use mathlib.Core.List.{List}
@@ -16,7 +17,6 @@ use Rattle.parts.proofs.Contents as parts
 use Rattle.components.specs.Views as views
 use Rattle.components.specs.declared.ComponentView.{ComponentView}
 use Rattle.components.specs.declared.Modifiers.{Modifiers}
-use Rattle.components.specs.declared.OptIntermediate.{OptIntermediate}
 use Rattle.events.specs.Views.{component_event_in, ComponentEventWithin}
 use Rattle.events.specs.declared.ComponentEvent.TheVariants as event
 use Rattle.known_events.specs.Fields.{TextField, ComponentEventFields}
@@ -31,10 +31,11 @@ use Rattle.lookup.proofs.Parts.{slice_slice}
 use Rattle.new_rows.specs.Rows.{RowMade}
 use Rattle.component_lines.specs.Lines.{LineHere}
 use Rattle.component_lines.specs.Steps.{ComponentHere, NamePlaced}
+use Rattle.components.specs.declared.Intermediate.{Intermediate}
 
 -- ---- the line of each kind
 
-pub ingredient_here : {sheet : List ℕ} {at end : ℕ} {v : ComponentView} (i : OptIntermediate) → LineHere sheet at end (inside (component_event (component_event_in (slice at end sheet) (event.Ingredient v i))))
+pub ingredient_here : {sheet : List ℕ} {at end : ℕ} {v : ComponentView} (i : Option Intermediate) → LineHere sheet at end (inside (component_event (component_event_in (slice at end sheet) (event.Ingredient v i))))
     → ComponentEventWithin (slice at end sheet) (event.Ingredient v i) → ComponentEventFields (slice at end sheet) (event.Ingredient v i) → ComponentHere ingredient sheet at end v
 unfolding is_of_kind is_inside_of is_component_of component_of_line component_in component_inside component_as component_event_in ComponentEventWithin ComponentEventFields
 ingredient_here i x w f =

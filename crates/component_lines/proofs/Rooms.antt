@@ -3,7 +3,7 @@ use Prim.Native.Nat.{ℕ, ◌+◌, ◌≤◌}
 use mathlib.Core.Path.{◌≡◌, refl, sym}
 use mathlib.Core.Bool.{Bool, true, false, ◌||◌}
 use mathlib.Core.List.{List, [], ◌∷◌, ◌++◌}
-use mathlib.Core.Option.{Option, none, some}
+use Rattle.std.specs.Prelude.{Option, None, Some}
 use native.Mathlib.Omega.{arith}
 use borrow.Author.Tests.{ltb-false}
 use lib.Dec.{ltb}
@@ -110,8 +110,8 @@ short_both s t = record { is = rw length-append (omega (arith, s.is, t.is)) }
 
 pub lock_short : (o : Option rules.Quantity) → Short 1 (lock_findings o)
 unfolding lock_findings
-lock_short none = short_none 1
-lock_short (some q) = when_short _ _
+lock_short None = short_none 1
+lock_short (Some q) = when_short _ _
 
 pub modifiers_short : (c : rules.Component) → Short 1 (intermediate_modifiers c)
 unfolding intermediate_modifiers
@@ -120,8 +120,8 @@ modifiers_short c = when_short _ _
 module _ (modes : Modes) (new : Entry) (inherit : rules.Modifiers) where
   conflict_short : (same : Option Earlier) → Short 1 (conflict_or_missing modes new inherit same)
   unfolding conflict_or_missing
-  conflict_short none = short_one _
-  conflict_short (some d) = when_short _ _
+  conflict_short None = short_one _
+  conflict_short (Some d) = when_short _ _
 
   redundant_short : (same : Option Earlier) → Short 1 (redundant_new modes new same)
   unfolding redundant_new

@@ -1,9 +1,9 @@
 -- A component's line, put together.
 use Prim.Native.Nat.{ℕ, ◌+◌, ◌≤◌, ◌<◌}
 use mathlib.Core.Path.{◌≡◌, refl, ap, sym, ◌∙◌}
-use mathlib.Core.Bool.{Bool, true, false, not}
+use mathlib.Core.Bool.{Bool, true, not}
 use mathlib.Core.List.{List, []}
-use mathlib.Core.Option.{Option, none, some}
+use Rattle.std.specs.Prelude.{Option, None, Some}
 use native.Mathlib.Omega.{arith}
 use lib.ListN.{length}
 use lib.Seq.{slice}
@@ -19,30 +19,24 @@ use Rattle.rules.specs.State.{State}
 use Rattle.rules.specs.Components.{Made, new_entry, lock_findings, made_intermediate, make_ingredient}
 use Rattle.parts.specs.Views.{span_in, opt_quantity_in}
 use Rattle.parts.specs.declared.Span.{Span}
-use Rattle.parts.specs.declared.OptQuantity.{OptQuantity}
 use Rattle.components.specs.Views.{modifiers_in, component_in, intermediate_in}
 use Rattle.components.specs.declared.ComponentView.{ComponentView}
 use Rattle.components.specs.declared.Modifiers.{Modifiers}
 use Rattle.components.specs.declared.Intermediate.{Intermediate}
-use Rattle.model.specs.Searches.{found_of}
 use Rattle.model.specs.Rows.{entry_as}
-use Rattle.model.specs.Memory.{define_of, state_of, state_in, Sound}
+use Rattle.model.specs.Memory.{state_of, state_in, Sound}
 use Rattle.model.specs.Fits.{Fits, AllFit}
-use Rattle.model.specs.declared.Found.{Found}
-use Rattle.model.specs.declared.Found.TheVariants as found
 use Rattle.model.specs.declared.RelationRecord.{RelationRecord}
 use Rattle.model.specs.declared.Row.{Row}
 use Rattle.model.specs.declared.Held.{Held}
-use Rattle.memory.specs.Pushes.{held_with, FoundBelow, ComponentAdded}
+use Rattle.memory.specs.Pushes.{count_of, held_with, FoundBelow, ComponentAdded}
 use Rattle.lookup.specs.declared.NamePart.{NamePart}
-use Rattle.lookup.specs.Names.{kind_of}
 use Rattle.checks.specs.Reports.{Reported}
 use Rattle.checks.proofs.Reports.{reported_fit, reported_sound}
 use Rattle.checks.proofs.Frames.{reported_framed}
 use Rattle.timers.specs.Timed.{LockChecked}
 use Rattle.intermediate.specs.Intermediates.{ModifiersReported, Resolved, Related}
 use Rattle.intermediate.proofs.Laws.{intermediate_reported}
-use Rattle.blocks.specs.Lined.{ItemsPushed}
 use Rattle.blocks.proofs.Fitting.{items_fit}
 use Rattle.new_rows.specs.Rows.{RowMade}
 use Rattle.new_rows.proofs.Laws.{row_related}
@@ -50,36 +44,32 @@ use Rattle.new_rows.proofs.Pushed.{component_pushed, component_sound}
 use Rattle.component_lines.specs.Steps.{ComponentHere, NamePlaced, Roomy, ReferredBelow, RowPut, MadePushed, IntermediateReported, IntermediateDone}
 use Rattle.component_lines.proofs.Places.{row_fits}
 use Rattle.component_lines.proofs.Rooms.{lock_short, modifiers_short, short_count, roomy_kept}
+use Rattle.parts.specs.declared.QuantityView.{QuantityView}
+use Rattle.sheet.specs.Words.{define_of}
+use Rattle.model.specs.Kinds.{room_of}
 
 -- ---- the row and its item
 
-module _ {b : Bool} {w : List ℕ} {h : Held} {to : Found} (z : Sound w h) (r : Roomy h) (f : ReferredBelow (kind_of b) h to) where
-  pub ready_ingredient : b ≡ true → Sound w h × (h.counts.ingredients < 513) × FoundBelow to h.counts.ingredients
-  ready_ingredient t = (z, omega (arith, r.ingredients), (rw t at f).is)
+kind_room : (k : Kind) {h : Held} → Roomy h → count_of k h < room_of k
+kind_room ingredient r = omega (arith, r.ingredients)
+kind_room cookware r = omega (arith, r.cookware)
 
-  pub ready_cookware : b ≡ false → Sound w h × (h.counts.cookware < 257) × FoundBelow to h.counts.cookware
-  ready_cookware t = (z, omega (arith, r.cookware), (rw t at f).is)
+pub add_ready : {k : Kind} {w : List ℕ} {h : Held} {to : Option ℕ} → Sound w h → Roomy h → ReferredBelow k h to → Sound w h × (count_of k h < room_of k) × FoundBelow to (count_of k h)
+add_ready {k} z r f = (z, kind_room k r, f.is)
 
-held_items : (k : Kind) (to : Found) (h : Held) → (held_with k to h).counts.items ≡ h.counts.items
-held_items ingredient (found.At d) h = refl
-held_items ingredient found.Nothing h = refl
-held_items cookware (found.At d) h = refl
-held_items cookware found.Nothing h = refl
+held_items : (k : Kind) (to : Option ℕ) (h : Held) → (held_with k to h).counts.items ≡ h.counts.items
+held_items ingredient (Some d) h = refl
+held_items ingredient None h = refl
+held_items cookware (Some d) h = refl
+held_items cookware None h = refl
 
-pub items_ready : {k : Kind} {w₀ w : List ℕ} {h₀ h : Held} {row : Row} {to : Found} → Roomy h₀ → ComponentAdded k w₀ h₀ row to w h → h.counts.items + 1 ≤ 100000
+pub items_ready : {k : Kind} {w₀ w : List ℕ} {h₀ h : Held} {row : Row} {to : Option ℕ} → Roomy h₀ → ComponentAdded k w₀ h₀ row to w h → h.counts.items + 1 ≤ 100000
 items_ready {k} {h₀ = h₀} {to = to} r a = omega (arith, r.items, ap (λ (x : Held). x.counts.items) a.held, held_items k to h₀)
-
-module _ {b : Bool} {w₀ w : List ℕ} {h₀ h₁ h : Held} {row : Row} {to : Found} (i : ItemsPushed 1 h₁ h) where
-  pub put_ingredient : b ≡ true → ComponentAdded ingredient w₀ h₀ row to w h₁ → RowPut (kind_of b) w₀ h₀ row to w h
-  put_ingredient t a = rw t (record { between = h₁; added = a; items = i })
-
-  pub put_cookware : b ≡ false → ComponentAdded cookware w₀ h₀ row to w h₁ → RowPut (kind_of b) w₀ h₀ row to w h
-  put_cookware t a = rw t (record { between = h₁; added = a; items = i })
 
 -- ---- findings, then the row with its referrer, then the item
 
-pub pushed_done : (k : Kind) (sheet : List ℕ) (m : Made) {w₀ w₁ w : List ℕ} {h₀ h₁ h : Held} {row : Row} {to : Found} → Reported m.findings w₀ h₀ w₁ h₁ → AllFit sheet w₀ h₀ → RowPut k w₁ h₁ row to w h
-    → Fits k sheet row → entry_as k sheet row [] ≡ m.entry → found_of to ≡ on_some (λ (d : Earlier). d.index) m.refers_to → MadePushed k m sheet w₀ h₀ w h
+pub pushed_done : (k : Kind) (sheet : List ℕ) (m : Made) {w₀ w₁ w : List ℕ} {h₀ h₁ h : Held} {row : Row} {to : Option ℕ} → Reported m.findings w₀ h₀ w₁ h₁ → AllFit sheet w₀ h₀ → RowPut k w₁ h₁ row to w h
+    → Fits k sheet row → entry_as k sheet row [] ≡ m.entry → to ≡ on_some (λ (d : Earlier). d.index) m.refers_to → MadePushed k m sheet w₀ h₀ w h
 pushed_done k sheet m {w = w} r a q f ee ef =
     record {
       is = component_pushed k sheet m r q.added q.items ee ef;
@@ -103,7 +93,7 @@ unfolding entry_of entry_with
 entry_relation k in_step c = refl
 
 made_intermediate_lem : (us : List NamedUnit) (flags : ℕ) (c : rules.Component) (i : rules.Intermediate) (st : State) {new : Entry} {target : Option ℕ} → new_entry ingredient c st ≡ new
-    → target ≡ resolve_intermediate_ref i st.place.section.content (length st.kept.sections) → make_ingredient us flags c (some i) st ≡ made_intermediate us flags c new i target
+    → target ≡ resolve_intermediate_ref i st.place.section.content (length st.kept.sections) → make_ingredient us flags c (Some i) st ≡ made_intermediate us flags c new i target
 unfolding make_ingredient
 made_intermediate_lem us flags c i st e q = rw (e, q)
 
@@ -120,7 +110,7 @@ unfolding component_in
 locked line v l = l.is line
 
 -- 6 and 7
-module _ {q : OptQuantity} {w₀ w₁ : List ℕ} {h₀ h₁ : Held} (l : LockChecked q w₀ h₀ w₁ h₁) where
+module _ {q : Option QuantityView} {w₀ w₁ : List ℕ} {h₀ h₁ : Held} (l : LockChecked q w₀ h₀ w₁ h₁) where
   pub lock_count : h₁.counts.findings ≤ h₀.counts.findings + 1
   lock_count = short_count (lock_short (opt_quantity_in [] q)) (l.is [])
 
@@ -132,7 +122,7 @@ module _ {q : OptQuantity} {w₀ w₁ : List ℕ} {h₀ h₁ : Held} (l : LockCh
 
   module _ {m : Modifiers} {at : Span} {w₂ : List ℕ} {h₂ : Held} (y : ModifiersReported m at w₁ h₁ w₂ h₂) where
     unfoldable plain : rules.Component
-    plain = record { span = span_in at; name = record { span = span_in at; content = [] }; alias = none; quantity = none; note = none; modifiers = modifiers_in m; modifiers_span = span_in at }
+    plain = record { span = span_in at; name = record { span = span_in at; content = [] }; alias = None; quantity = None; note = None; modifiers = modifiers_in m; modifiers_span = span_in at }
 
     modified : Reported (intermediate_modifiers plain) w₁ h₁ w₂ h₂
     unfolding plain
@@ -141,8 +131,8 @@ module _ {q : OptQuantity} {w₀ w₁ : List ℕ} {h₀ h₁ : Held} (l : LockCh
     pub modified_ready : Sound w₀ h₀ → h₀.counts.findings ≤ 1024 → Sound w₂ h₂ × (h₂.counts.findings < 1544)
     modified_ready z n = (reported_sound modified (lock_ready z n).0, omega (arith, lock_count, short_count (modifiers_short plain) modified))
 
-pub intermediate_found : {v : ComponentView} {i : Intermediate} {target : Found} {w₀ w₁ w₂ w : List ℕ} {h₀ h₁ h₂ h : Held} → LockChecked v.quantity w₀ h₀ w₁ h₁ → ModifiersReported v.modifiers v.modifiers_span w₁ h₁ w₂ h₂
-    → Reported (intermediate_findings (intermediate_in i) (found_of target)) w₂ h₂ w h → IntermediateReported v i target w₀ h₀ w h
+pub intermediate_found : {v : ComponentView} {i : Intermediate} {target : Option ℕ} {w₀ w₁ w₂ w : List ℕ} {h₀ h₁ h₂ h : Held} → LockChecked v.quantity w₀ h₀ w₁ h₁ → ModifiersReported v.modifiers v.modifiers_span w₁ h₁ w₂ h₂
+    → Reported (intermediate_findings (intermediate_in i) target) w₂ h₂ w h → IntermediateReported v i target w₀ h₀ w h
 intermediate_found {v} {i} {target} l m f =
     record { is = λ us flags line new. intermediate_reported us flags (component_in line v) new i target (component_modifiers line v) (component_place line v) (locked line v l) m f }
 
@@ -154,26 +144,26 @@ pub reported_roomy : {fs : List Finding} {w w₁ : List ℕ} {h h₁ : Held} →
 reported_roomy f z r = (reported_sound f z, roomy_kept (reported_framed f) r)
 
 -- what the units, the flags and the line are does not matter for that
-pub intermediate_roomy : {v : ComponentView} {i : Intermediate} {target : Found} {w₀ w : List ℕ} {h₀ h : Held} → IntermediateReported v i target w₀ h₀ w h → Sound w₀ h₀ → Roomy h₀
-    → Sound w h × Roomy h × ReferredBelow ingredient h found.Nothing
+pub intermediate_roomy : {v : ComponentView} {i : Intermediate} {target : Option ℕ} {w₀ w : List ℕ} {h₀ h : Held} → IntermediateReported v i target w₀ h₀ w h → Sound w₀ h₀ → Roomy h₀
+    → Sound w h × Roomy h × ReferredBelow ingredient h None
 intermediate_roomy {v} f z r = let q = reported_roomy (f.is [] 0 [] (entry_of ingredient true (component_in [] v))) z r in (q.0, q.1, record { is = tt })
 
-pub intermediate_done : {sheet : List ℕ} {at end : ℕ} {v : ComponentView} {i : Intermediate} {p : NamePart} {target : Found} {b : Bool} {relation : RelationRecord} {row : Row} {w₀ w₁ w : List ℕ} {h₀ h₁ h : Held}
+pub intermediate_done : {sheet : List ℕ} {at end : ℕ} {v : ComponentView} {i : Intermediate} {p : NamePart} {target : Option ℕ} {b : Bool} {relation : RelationRecord} {row : Row} {w₀ w₁ w : List ℕ} {h₀ h₁ h : Held}
     → ComponentHere ingredient sheet at end v → AllFit sheet w₀ h₀ → NamePlaced ingredient sheet at v p → Resolved i w₀ h₀ target → b ≡ is_components (define_of h₀.define) → Related i (not b) target relation
-    → RowMade at end p.at p.end v.modifiers relation row → IntermediateReported v i target w₀ h₀ w₁ h₁ → RowPut ingredient w₁ h₁ row found.Nothing w h → IntermediateDone sheet (slice at end sheet) v i w₀ h₀ w h
+    → RowMade at end p.at p.end v.modifiers relation row → IntermediateReported v i target w₀ h₀ w₁ h₁ → RowPut ingredient w₁ h₁ row None w h → IntermediateDone sheet (slice at end sheet) v i w₀ h₀ w h
 intermediate_done {sheet} {at} {end} {v} {i} {target = target} {b = b} {row = row} {w₀ = w₀} {w = w} {h₀ = h₀} {h = h} x a q t e rel made f put =
     record { is = λ us flags. rw (made_intermediate_lem us flags (component_in (slice at end sheet) v) (intermediate_in i) (state_in sheet w₀ h₀) (new_entry_lem ingredient (component_in (slice at end sheet) v) sheet w₀ h₀ e) (t.is sheet)) (done us flags) }
   where
-    entry : (us : List NamedUnit) (flags : ℕ) → entry_as ingredient sheet row [] ≡ (made_intermediate us flags (component_in (slice at end sheet) v) (entry_of ingredient (not b) (component_in (slice at end sheet) v)) (intermediate_in i) (found_of target)).entry
+    entry : (us : List NamedUnit) (flags : ℕ) → entry_as ingredient sheet row [] ≡ (made_intermediate us flags (component_in (slice at end sheet) v) (entry_of ingredient (not b) (component_in (slice at end sheet) v)) (intermediate_in i) target).entry
     entry us flags =
         unfold made_intermediate in
-        (row_related ingredient sheet made (component_in (slice at end sheet) v) x.is (not b) (intermediate_relation (intermediate_in i) (definition (not b) []) (found_of target)) (component_modifiers (slice at end sheet) v) rel.is
-        ∙ ap (λ (z : Relation). set_relation (intermediate_relation (intermediate_in i) z (found_of target)) (entry_of ingredient (not b) (component_in (slice at end sheet) v))) (sym (entry_relation ingredient (not b) (component_in (slice at end sheet) v))))
+        (row_related ingredient sheet made (component_in (slice at end sheet) v) x.is (not b) (intermediate_relation (intermediate_in i) (definition (not b) []) target) (component_modifiers (slice at end sheet) v) rel.is
+        ∙ ap (λ (z : Relation). set_relation (intermediate_relation (intermediate_in i) z target) (entry_of ingredient (not b) (component_in (slice at end sheet) v))) (sym (entry_relation ingredient (not b) (component_in (slice at end sheet) v))))
 
-    none_to : (us : List NamedUnit) (flags : ℕ) → found_of found.Nothing ≡ on_some (λ (d : Earlier). d.index) (made_intermediate us flags (component_in (slice at end sheet) v) (entry_of ingredient (not b) (component_in (slice at end sheet) v)) (intermediate_in i) (found_of target)).refers_to
+    none_to : (us : List NamedUnit) (flags : ℕ) → None ≡ on_some (λ (d : Earlier). d.index) (made_intermediate us flags (component_in (slice at end sheet) v) (entry_of ingredient (not b) (component_in (slice at end sheet) v)) (intermediate_in i) target).refers_to
     none_to us flags = unfold made_intermediate on_some in refl
 
-    done : (us : List NamedUnit) (flags : ℕ) → MadePushed ingredient (made_intermediate us flags (component_in (slice at end sheet) v) (entry_of ingredient (not b) (component_in (slice at end sheet) v)) (intermediate_in i) (found_of target)) sheet w₀ h₀ w h
+    done : (us : List NamedUnit) (flags : ℕ) → MadePushed ingredient (made_intermediate us flags (component_in (slice at end sheet) v) (entry_of ingredient (not b) (component_in (slice at end sheet) v)) (intermediate_in i) target) sheet w₀ h₀ w h
     done us flags =
-        pushed_done ingredient sheet (made_intermediate us flags (component_in (slice at end sheet) v) (entry_of ingredient (not b) (component_in (slice at end sheet) v)) (intermediate_in i) (found_of target))
+        pushed_done ingredient sheet (made_intermediate us flags (component_in (slice at end sheet) v) (entry_of ingredient (not b) (component_in (slice at end sheet) v)) (intermediate_in i) target)
         (f.is us flags (slice at end sheet) (entry_of ingredient (not b) (component_in (slice at end sheet) v))) a put (row_fits x q made) (entry us flags) (none_to us flags)

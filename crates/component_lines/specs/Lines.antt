@@ -1,6 +1,5 @@
 -- What an `ingredient` or `cookware` line of a step leaves in work memory.
-use Rattle.std.specs.Prelude.{ℕ, ◌≤◌, ◌≡◌, false, List, [], length}
-use Rattle.std.proofs.Math.Option.{some}
+use Rattle.std.specs.Prelude.{ℕ, ◌≤◌, ◌≡◌, false, List, [], length, Some, Result}
 use Rattle.std.proofs.Math.Seq.{slice}
 use Rattle.rules.specs.Event.{Event}
 use Rattle.rules.specs.Units.{NamedUnit}
@@ -16,13 +15,13 @@ use Rattle.model.specs.Memory.{state_in, Sound}
 use Rattle.model.specs.Fits.{WholeLine, AllFit}
 use Rattle.model.specs.declared.Held.{Held}
 use Rattle.blocks.specs.Lined.{step_in, SoundStep, FitStep}
-use Rattle.blocks.specs.declared.Passed.{Passed}
+use Rattle.refusals.specs.declared.Reason.{Reason}
 
 -- the line of the sheet from at to end is e's
 pub record LineHere (sheet : List ℕ) (at end : ℕ) (e : Event) : Type 0 where
   pub whole : WholeLine sheet at end
   pub short : length sheet ≤ 65536
-  pub is : parse_line (slice at end sheet) ≡ some e
+  pub is : parse_line (slice at end sheet) ≡ Some e
 
 -- what the pass keeps between lines
 pub record Kept (sheet w : List ℕ) (h : Held) : Type 0 where
@@ -32,7 +31,7 @@ pub record Kept (sheet w : List ℕ) (h : Held) : Type 0 where
   pub limits : over_limits (state_in sheet w h) ≡ false
 
 -- a component's line in a step
-pub record ComponentDone (us : List NamedUnit) (flags : ℕ) (sheet line : List ℕ) (c : ComponentEvent) (w₀ : List ℕ) (h₀ : Held) (w : List ℕ) (r : Passed) : Type 0 where
+pub record ComponentDone (us : List NamedUnit) (flags : ℕ) (sheet line : List ℕ) (c : ComponentEvent) (w₀ : List ℕ) (h₀ : Held) (w : List ℕ) (r : Result Held Reason) : Type 0 where
   pub is : step_in sheet w r ≡ blank_step (on_component us flags (component_event_in line c) [] (state_in sheet w₀ h₀))
   pub sound : SoundStep w r
   pub fit : FitStep sheet w r

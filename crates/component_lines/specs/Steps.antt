@@ -1,6 +1,5 @@
 -- What the steps of a component's line come to.
-use Rattle.std.specs.Prelude.{ℕ, ◌+◌, ◌≤◌, ◌<◌, ◌≡◌, Bool, true, false, ◌||◌, List, [], length}
-use Rattle.std.proofs.Math.Option.{Option, none, some}
+use Rattle.std.specs.Prelude.{ℕ, ◌+◌, ◌≤◌, ◌<◌, ◌≡◌, Bool, true, false, ◌||◌, List, [], length, Option, None, Some}
 use Rattle.std.proofs.Math.Seq.{slice}
 use Rattle.rules.specs.Basic.{on_some}
 use Rattle.rules.specs.Event as rules
@@ -18,23 +17,18 @@ use Rattle.components.specs.declared.ComponentView.{ComponentView}
 use Rattle.components.specs.declared.Intermediate.{Intermediate}
 use Rattle.known_events.specs.Fields.{TextField}
 use Rattle.model.specs.Blank.{blank}
-use Rattle.model.specs.Searches.{found_of}
 use Rattle.model.specs.Rows.{component_of_line, relation_in}
 use Rattle.model.specs.Memory.{state_in, Sound}
 use Rattle.model.specs.Fits.{is_of_kind, WholeLine, AllFit}
-use Rattle.model.specs.declared.Found.{Found}
 use Rattle.model.specs.declared.RelationRecord.{RelationRecord}
 use Rattle.model.specs.declared.Row.{Row}
 use Rattle.model.specs.declared.Held.{Held}
 use Rattle.memory.specs.Pushes.{count_of, FoundBelow, ComponentAdded}
-use Rattle.lookup.specs.declared.Same.{Same}
-use Rattle.lookup.specs.declared.Same.TheVariants.{At, Nothing}
 use Rattle.lookup.specs.declared.NamePart.{NamePart}
-use Rattle.lookup.specs.Names.{same_of, earlier_at, SameFound, NewName}
+use Rattle.lookup.specs.Names.{earlier_at, SameFound, NewName}
 use Rattle.lookup.specs.References.{modes_of}
 use Rattle.checks.specs.Reports.{Reported}
-use Rattle.reference_findings.specs.Reports.{old_in, SameAs}
-use Rattle.reference_findings.specs.declared.Old.{Old}
+use Rattle.reference_findings.specs.Reports.{SameAs}
 use Rattle.blocks.specs.Lined.{ItemsPushed}
 use Rattle.new_rows.specs.Rows.{RowMade}
 
@@ -67,26 +61,22 @@ unfoldable pub asks_same : Modes → Bool → Bool
 asks_same modes ref = ref || is_steps modes.define || is_reference modes.duplicate
 
 -- same is what the search finds, where it is asked for
-pub record SameAsked (k : Kind) (sheet w : List ℕ) (h : Held) (name : List ℕ) (ref opt : Bool) (same : Same) : Type 0 where
+pub record SameAsked (k : Kind) (sheet w : List ℕ) (h : Held) (name : List ℕ) (ref opt : Bool) (same : Option ℕ) : Type 0 where
   pub found : asks_same (modes_of h.define h.duplicate) ref ≡ true → SameFound k sheet w h name ref opt same
-  pub unasked : asks_same (modes_of h.define h.duplicate) ref ≡ false → same ≡ Nothing
+  pub unasked : asks_same (modes_of h.define h.duplicate) ref ≡ false → same ≡ None
 
 -- the index of what was found is small
-pub record SameSmall (same : Same) : Type 0 where
-  pub below : (i : ℕ) → same ≡ At i → i < 513
-
--- it again, as an index that work memory holds
-pub record FoundAs (same : Same) (r : Found) : Type 0 where
-  pub is : found_of r ≡ same_of same
+pub record SameSmall (same : Option ℕ) : Type 0 where
+  pub below : (i : ℕ) → same ≡ Some i → i < 513
 
 -- the modifiers of what was found
-pub record OldRead (k : Kind) (w : List ℕ) (h : Held) (same : Same) (old : Old) : Type 0 where
-  pub is : (sheet : List ℕ) → SameAs (on_some (earlier_at k sheet w h) (same_of same)) old
+pub record OldRead (k : Kind) (w : List ℕ) (h : Held) (same : Option ℕ) (old : Option Modifiers) : Type 0 where
+  pub is : (sheet : List ℕ) → SameAs (on_some (earlier_at k sheet w h) same) old
 
 -- all that is found at a component without an intermediate reference
-pub record NamedReported (us : List NamedUnit) (flags : ℕ) (k : Kind) (sheet line : List ℕ) (v : ComponentView) (old : Old) (to : Same) (w₀ : List ℕ) (h₀ : Held) (w : List ℕ) (h : Held) : Type 0 where
+pub record NamedReported (us : List NamedUnit) (flags : ℕ) (k : Kind) (sheet line : List ℕ) (v : ComponentView) (old : Option Modifiers) (to : Option ℕ) (w₀ : List ℕ) (h₀ : Held) (w : List ℕ) (h : Held) : Type 0 where
   pub is : (in_step : Bool) (same : Option Earlier) → SameAs same old
-      → on_some (earlier_at k sheet w₀ h₀) (same_of to) ≡ refers_to (modes_of h₀.define h₀.duplicate) (entry_of k in_step (component_in line v)) same
+      → on_some (earlier_at k sheet w₀ h₀) to ≡ refers_to (modes_of h₀.define h₀.duplicate) (entry_of k in_step (component_in line v)) same
       → Reported
       (made_with us flags k (modes_of h₀.define h₀.duplicate) (table_of k (state_in sheet w₀ h₀)) (lock_findings (component_in line v).quantity) (entry_of k in_step (component_in line v)) same).findings
       w₀ h₀ w h
@@ -95,31 +85,31 @@ pub record NamedReported (us : List NamedUnit) (flags : ℕ) (k : Kind) (sheet l
 
 -- the modifiers of a component: where it refers, with those that the definition hands down
 unfoldable pub heir_of : Kind → Option ℕ → Option rules.Modifiers → rules.Modifiers → rules.Modifiers
-heir_of k none old m = m
-heir_of k (some i) none m = m
-heir_of k (some i) (some d) m = with_ref (either m (both d (inherits k)))
+heir_of k None old m = m
+heir_of k (Some i) None m = m
+heir_of k (Some i) (Some d) m = with_ref (either m (both d (inherits k)))
 
 unfoldable pub relation_to : Kind → Bool → Option ℕ → Relation
-relation_to k in_step none = definition in_step []
-relation_to k in_step (some i) = reference (target_of k) i
+relation_to k in_step None = definition in_step []
+relation_to k in_step (Some i) = reference (target_of k) i
 
-pub record RelatedTo (k : Kind) (in_step : Bool) (to : Same) (r : RelationRecord) : Type 0 where
-  pub is : relation_in k r [] ≡ relation_to k in_step (same_of to)
+pub record RelatedTo (k : Kind) (in_step : Bool) (to : Option ℕ) (r : RelationRecord) : Type 0 where
+  pub is : relation_in k r [] ≡ relation_to k in_step to
 
-pub record RowNamed (k : Kind) (at end : ℕ) (p : NamePart) (in_step : Bool) (m : Modifiers) (to : Same) (old : Old) (r : Row) : Type 0 where
+pub record RowNamed (k : Kind) (at end : ℕ) (p : NamePart) (in_step : Bool) (m : Modifiers) (to : Option ℕ) (old : Option Modifiers) (r : Row) : Type 0 where
   pub modifiers : Modifiers
   pub relation : RelationRecord
   pub made : RowMade at end p.at p.end modifiers relation r
-  pub is_modifiers : modifiers_in modifiers ≡ heir_of k (same_of to) (old_in old) (modifiers_in m)
+  pub is_modifiers : modifiers_in modifiers ≡ heir_of k to (on_some modifiers_in old) (modifiers_in m)
   pub is_relation : RelatedTo k in_step to relation
 
 -- ---- the row and its item in work memory
 
 -- what is referred to is there
-pub record ReferredBelow (k : Kind) (h : Held) (to : Found) : Type 0 where
+pub record ReferredBelow (k : Kind) (h : Held) (to : Option ℕ) : Type 0 where
   pub is : FoundBelow to (count_of k h)
 
-pub record RowPut (k : Kind) (w₀ : List ℕ) (h₀ : Held) (r : Row) (to : Found) (w : List ℕ) (h : Held) : Type 0 where
+pub record RowPut (k : Kind) (w₀ : List ℕ) (h₀ : Held) (r : Row) (to : Option ℕ) (w : List ℕ) (h : Held) : Type 0 where
   pub between : Held
   pub added : ComponentAdded k w₀ h₀ r to w between
   pub items : ItemsPushed 1 between h
@@ -131,12 +121,12 @@ pub record MadePushed (k : Kind) (m : Made) (sheet w₀ : List ℕ) (h₀ : Held
   pub fit : AllFit sheet w h
 
 -- all that is found at an intermediate reference; the units, the flags and the entry do not matter
-pub record IntermediateReported (v : ComponentView) (i : Intermediate) (target : Found) (w₀ : List ℕ) (h₀ : Held) (w : List ℕ) (h : Held) : Type 0 where
-  pub is : (us : List NamedUnit) (flags : ℕ) (line : List ℕ) (new : Entry) → Reported (made_intermediate us flags (component_in line v) new (intermediate_in i) (found_of target)).findings w₀ h₀ w h
+pub record IntermediateReported (v : ComponentView) (i : Intermediate) (target : Option ℕ) (w₀ : List ℕ) (h₀ : Held) (w : List ℕ) (h : Held) : Type 0 where
+  pub is : (us : List NamedUnit) (flags : ℕ) (line : List ℕ) (new : Entry) → Reported (made_intermediate us flags (component_in line v) new (intermediate_in i) target).findings w₀ h₀ w h
 
 -- a line with an intermediate reference; the units and flags do not matter
 pub record IntermediateDone (sheet line : List ℕ) (v : ComponentView) (i : Intermediate) (w₀ : List ℕ) (h₀ : Held) (w : List ℕ) (h : Held) : Type 0 where
-  pub is : (us : List NamedUnit) (flags : ℕ) → MadePushed ingredient (make_ingredient us flags (component_in line v) (some (intermediate_in i)) (state_in sheet w₀ h₀)) sheet w₀ h₀ w h
+  pub is : (us : List NamedUnit) (flags : ℕ) → MadePushed ingredient (make_ingredient us flags (component_in line v) (Some (intermediate_in i)) (state_in sheet w₀ h₀)) sheet w₀ h₀ w h
 
 -- a line without one
 pub record NamedDone (us : List NamedUnit) (flags : ℕ) (k : Kind) (sheet line : List ℕ) (v : ComponentView) (w₀ : List ℕ) (h₀ : Held) (w : List ℕ) (h : Held) : Type 0 where

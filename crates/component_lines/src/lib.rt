@@ -3,6 +3,7 @@
 
 ghost use Rattle.std.specs.Prelude.{◌≡◌, true, ◌+◌, ◌≤◌, length};
 ghost use Rattle.std.proofs.Math.Seq.{slice};
+ghost use Rattle.rules.specs.Basic.{on_some};
 ghost use Rattle.rules.specs.Event.{inside, component_event};
 ghost use Rattle.rules.specs.Units.{read_units};
 ghost use Rattle.rules.specs.Answer.{units_or};
@@ -16,31 +17,31 @@ ghost use Rattle.known_events.specs.Fields.{ComponentEventFields};
 ghost use Rattle.model.specs.Rows as rows;
 ghost use Rattle.model.specs.Memory.{Sound};
 ghost use Rattle.model.specs.Fits.{AllFit};
-ghost use Rattle.lookup.specs.Names.{kind_of, same_of, SameFound};
+ghost use Rattle.lookup.specs.Names.{SameFound};
 ghost use Rattle.lookup.specs.References.{modes_of};
-ghost use Rattle.reference_findings.specs.Reports.{old_in};
 ghost use Rattle.component_lines.specs.Lines.{LineHere, Kept, ComponentDone};
-ghost use Rattle.component_lines.specs.Steps.{ComponentHere, NamePlaced, asks_same, SameAsked, Roomy, SameSmall, FoundAs, OldRead, NamedReported, heir_of, RelatedTo, RowNamed, ReferredBelow, RowPut, IntermediateReported, IntermediateDone, NamedDone};
+ghost use Rattle.component_lines.specs.Steps.{ComponentHere, NamePlaced, asks_same, SameAsked, Roomy, SameSmall, OldRead, NamedReported, heir_of, RelatedTo, RowNamed, ReferredBelow, RowPut, IntermediateReported, IntermediateDone, NamedDone};
 ghost use Rattle.new_rows.specs.Rows.{RowMade};
 ghost use Rattle.unit_checks.specs.Checked.{SameBelow};
 ghost use Rattle.unit_checks.specs.Codes.{CodesKept};
+ghost use Rattle.model.specs.Kinds.{kind_of};
 
-use blocks::Passed;
-use components::{ComponentView, Intermediate, Modifiers, OptIntermediate};
-use lookup::{NamePart, Same};
-use model::{Define, Duplicate, Found, Held, Relation, RelationRecord, Row};
-use reference_findings::Old;
+use components::{ComponentView, Intermediate, Modifiers};
+use lookup::NamePart;
+use model::{Held, Kind, Relation, RelationRecord, Row};
+use refusals::Reason;
+use sheet::{Define, Duplicate};
 
 // ---- names
 
 // Where the sheet has the name of the component whose line begins at `at`.
-fn name_of(t: &[u32], sheet: &[u8], at: usize, v: ComponentView, is_ingredient: bool) -> NamePart
+fn name_of(t: &[u32], sheet: &[u8], at: usize, v: ComponentView, kind: Kind) -> NamePart
     requires { (t.now ≡ unicode_tables) × (length sheet.now ≤ 65536) × (v.name.content.from ≤ v.name.content.to) × (at + v.name.content.to ≤ length sheet.now) }
-    ensures { NamePlaced (kind_of is_ingredient) sheet.now at v result }
+    ensures { NamePlaced (kind_of kind) sheet.now at v result }
 {
     let from = at + v.name.content.from;
     let to = at + v.name.content.to;
-    lookup::new_name(t, sheet, from, to, is_ingredient)
+    lookup::new_name(t, sheet, from, to, kind)
 }
 
 // Whether the search is needed at all: elsewhere nothing that is made of a component depends on it.
@@ -64,19 +65,16 @@ fn found_before(
     h: Held,
     p: NamePart,
     m: Modifiers,
-    is_ingredient: bool,
-) -> Same
+    kind: Kind,
+) -> Option<usize>
     requires { (t.now ≡ unicode_tables) × (p.at ≤ p.end) × (p.end ≤ length sheet.now) × Sound words.now h × AllFit sheet.now words.now h }
-    ensures { SameFound (kind_of is_ingredient) sheet.now words.now h (slice p.at p.end sheet.now) m.reference m.opt result }
+    ensures { SameFound (kind_of kind) sheet.now words.now h (slice p.at p.end sheet.now) m.reference m.opt result }
 {
     let from = p.at;
     let to = p.end;
     let any_opt = m.reference;
     let opt = m.opt;
-    if is_ingredient {
-        return lookup::same_ingredient(t, sheet, words, h, &sheet[from..to], any_opt, opt);
-    }
-    lookup::same_cookware(t, sheet, words, h, &sheet[from..to], any_opt, opt)
+    lookup::same_component(t, sheet, words, h, kind, &sheet[from..to], any_opt, opt)
 }
 
 // The same, where it is needed.
@@ -87,17 +85,17 @@ fn same_of(
     h: Held,
     p: NamePart,
     m: Modifiers,
-    is_ingredient: bool,
-) -> Same
+    kind: Kind,
+) -> Option<usize>
     requires { (t.now ≡ unicode_tables) × (p.at ≤ p.end) × (p.end ≤ length sheet.now) × Sound words.now h × AllFit sheet.now words.now h }
-    ensures { SameAsked (kind_of is_ingredient) sheet.now words.now h (slice p.at p.end sheet.now) m.reference m.opt result }
+    ensures { SameAsked (kind_of kind) sheet.now words.now h (slice p.at p.end sheet.now) m.reference m.opt result }
 {
     let define = h.define;
     let duplicate = h.duplicate;
     if asks_same(define, duplicate, m.reference) {
-        return found_before(t, sheet, words, h, p, m, is_ingredient);
+        return found_before(t, sheet, words, h, p, m, kind);
     }
-    Same::Nothing
+    None
 }
 
 fn modifiers_of(r: Row) -> Modifiers
@@ -113,16 +111,16 @@ fn modifiers_of(r: Row) -> Modifiers
 }
 
 // The modifiers of what the search found.
-fn old_of(words: &[u32], h: Held, same: Same, is_ingredient: bool) -> Old
-    requires { Sound words.now h × SameBelow (kind_of is_ingredient) h same }
-    ensures { OldRead (kind_of is_ingredient) words.now h same result }
+fn old_of(words: &[u32], h: Held, same: Option<usize>, kind: Kind) -> Option<Modifiers>
+    requires { Sound words.now h × SameBelow (kind_of kind) h same }
+    ensures { OldRead (kind_of kind) words.now h same result }
 {
     match same {
-        Same::Nothing => Old::Nothing,
-        Same::At(i) => {
-            let r = unit_checks::kind_row(words, is_ingredient, i);
+        None => None,
+        Some(i) => {
+            let r = unit_checks::kind_row(words, kind, i);
             let m = modifiers_of(r);
-            Old::Of(m)
+            Some(m)
         }
     }
 }
@@ -130,31 +128,31 @@ fn old_of(words: &[u32], h: Held, same: Same, is_ingredient: bool) -> Old
 // ---- the row
 
 // Its modifiers, and where it refers those that the definition hands down.
-fn heir_of(m: Modifiers, to: Same, old: Old, is_ingredient: bool) -> Modifiers
-    ensures { modifiers_in result ≡ heir_of (kind_of is_ingredient) (same_of to) (old_in old) (modifiers_in m) }
+fn heir_of(m: Modifiers, to: Option<usize>, old: Option<Modifiers>, kind: Kind) -> Modifiers
+    ensures { modifiers_in result ≡ heir_of (kind_of kind) to (on_some modifiers_in old) (modifiers_in m) }
 {
     match to {
-        Same::Nothing => m,
-        Same::At(_) => match old {
-            Old::Nothing => m,
-            Old::Of(d) => new_rows::referring_modifiers(is_ingredient, m, d),
+        None => m,
+        Some(_) => match old {
+            None => m,
+            Some(d) => new_rows::referring_modifiers(kind, m, d),
         },
     }
 }
 
-fn relation_to(to: Same, in_step: bool, is_ingredient: bool) -> RelationRecord
+fn relation_to(to: Option<usize>, in_step: bool, kind: Kind) -> RelationRecord
     requires { SameSmall to }
-    ensures { RelatedTo (kind_of is_ingredient) in_step to result }
+    ensures { RelatedTo (kind_of kind) in_step to result }
 {
     match to {
-        Same::Nothing => {
+        None => {
             RelationRecord {
                 relation: Relation::Definition,
                 in_step,
                 index: 0,
             }
         }
-        Same::At(i) => {
+        Some(i) => {
             RelationRecord {
                 relation: Relation::Reference(model::Target::Ingredient),
                 in_step,
@@ -183,38 +181,32 @@ fn row_named(
     p: NamePart,
     in_step: bool,
     m: Modifiers,
-    to: Same,
-    old: Old,
-    is_ingredient: bool,
+    to: Option<usize>,
+    old: Option<Modifiers>,
+    kind: Kind,
 ) -> Row
     requires { (end ≤ 65536) × (at ≤ end) × (p.at ≤ p.end) × (p.end ≤ 65536) × SameSmall to }
-    ensures { RowNamed (kind_of is_ingredient) at end p in_step m to old result }
+    ensures { RowNamed (kind_of kind) at end p in_step m to old result }
 {
-    let own = heir_of(m, to, old, is_ingredient);
-    let relation = relation_to(to, in_step, is_ingredient);
+    let own = heir_of(m, to, old, kind);
+    let relation = relation_to(to, in_step, kind);
     row_of(at, end, p, own, relation)
 }
 
-fn found_of(to: Same) -> Found
+// It again, as an index that work memory holds.
+fn found_of(to: Option<usize>) -> Option<u32>
     requires { SameSmall to }
-    ensures { FoundAs to result }
+    ensures { result ≡ to }
 {
-    match to {
-        Same::Nothing => Found::Nothing,
-        Same::At(i) => Found::At(i as u32),
-    }
+    to.map(|i| i as u32)
 }
 
 // The row, the referrer of what it refers to, and the item.
-fn put_row(words: &mut [u32], h: Held, row: Row, to: Found, is_ingredient: bool) -> Held
-    requires { Sound words.old h × Roomy h × ReferredBelow (kind_of is_ingredient) h to }
-    ensures { RowPut (kind_of is_ingredient) words.old h row to words.new result }
+fn put_row(words: &mut [u32], h: Held, row: Row, to: Option<u32>, kind: Kind) -> Held
+    requires { Sound words.old h × Roomy h × ReferredBelow (kind_of kind) h to }
+    ensures { RowPut (kind_of kind) words.old h row to words.new result }
 {
-    if is_ingredient {
-        let k = memory::add_ingredient(words, h, row, to);
-        return blocks::push_items(k, 1);
-    }
-    let k = memory::add_cookware(words, h, row, to);
+    let k = memory::add_component(words, h, kind, row, to);
     blocks::push_items(k, 1)
 }
 
@@ -226,7 +218,7 @@ fn intermediate_reports(
     h: Held,
     v: ComponentView,
     i: Intermediate,
-    target: Found,
+    target: Option<u32>,
 ) -> Held
     requires { Sound words.old h × (h.counts.findings ≤ 1024) }
     ensures { IntermediateReported v i target words.old h words.new result }
@@ -254,13 +246,13 @@ fn intermediate_line(
 {
     let m = v.modifiers;
     let define = h.define;
-    let p = name_of(t, sheet, at, v, true);
+    let p = name_of(t, sheet, at, v, Kind::Ingredient);
     let target = intermediate::intermediate_target(words, h, i);
     let in_step = !blocks::is_components(define);
     let relation = intermediate::intermediate_relation(i, in_step, target);
     let row = row_of(at, end, p, m, relation);
     let k = intermediate_reports(words, h, v, i, target);
-    put_row(words, k, row, Found::Nothing, true)
+    put_row(words, k, row, None, Kind::Ingredient)
 }
 
 // ---- references by name
@@ -275,15 +267,15 @@ fn named_reports(
     at: usize,
     end: usize,
     v: ComponentView,
-    old: Old,
-    to: Same,
-    is_ingredient: bool,
+    old: Option<Modifiers>,
+    to: Option<usize>,
+    kind: Kind,
     codes: &mut [u32],
     words: &mut [u32],
     h: Held,
 ) -> Held
-    requires { (t.now ≡ unicode_tables) × Indexed units.now index.now × ComponentHere (kind_of is_ingredient) sheet.now at end v × SameBelow (kind_of is_ingredient) h to × Sound words.old h × AllFit sheet.now words.old h × Roomy h × (h.counts.findings ≤ 1024) × CodesKept units.now sheet.now codes.old }
-    ensures { NamedReported (units_or (read_units units.now)) flags (kind_of is_ingredient) sheet.now (slice at end sheet.now) v old to words.old h words.new result × CodesKept units.now sheet.now codes.new }
+    requires { (t.now ≡ unicode_tables) × Indexed units.now index.now × ComponentHere (kind_of kind) sheet.now at end v × SameBelow (kind_of kind) h to × Sound words.old h × AllFit sheet.now words.old h × Roomy h × (h.counts.findings ≤ 1024) × CodesKept units.now sheet.now codes.old }
+    ensures { NamedReported (units_or (read_units units.now)) flags (kind_of kind) sheet.now (slice at end sheet.now) v old to words.old h words.new result × CodesKept units.now sheet.now codes.new }
 {
     let m = v.modifiers;
     let quantity = v.quantity;
@@ -291,7 +283,7 @@ fn named_reports(
     let k2 = reference_findings::reference_findings(
         words,
         k1,
-        is_ingredient,
+        kind,
         m,
         v.span,
         v.modifiers_span,
@@ -307,7 +299,7 @@ fn named_reports(
         k2,
         sheet,
         &sheet[at..end],
-        is_ingredient,
+        kind,
         v,
         to,
     )
@@ -323,41 +315,28 @@ fn named_line(
     at: usize,
     end: usize,
     v: ComponentView,
-    is_ingredient: bool,
+    kind: Kind,
     codes: &mut [u32],
     words: &mut [u32],
     h: Held,
 ) -> Held
-    requires { (t.now ≡ unicode_tables) × Indexed units.now index.now × ComponentHere (kind_of is_ingredient) sheet.now at end v × Sound words.old h × AllFit sheet.now words.old h × Roomy h × (h.counts.findings ≤ 1024) × CodesKept units.now sheet.now codes.old }
-    ensures { NamedDone (units_or (read_units units.now)) flags (kind_of is_ingredient) sheet.now (slice at end sheet.now) v words.old h words.new result × CodesKept units.now sheet.now codes.new }
+    requires { (t.now ≡ unicode_tables) × Indexed units.now index.now × ComponentHere (kind_of kind) sheet.now at end v × Sound words.old h × AllFit sheet.now words.old h × Roomy h × (h.counts.findings ≤ 1024) × CodesKept units.now sheet.now codes.old }
+    ensures { NamedDone (units_or (read_units units.now)) flags (kind_of kind) sheet.now (slice at end sheet.now) v words.old h words.new result × CodesKept units.now sheet.now codes.new }
 {
     let m = v.modifiers;
     let define = h.define;
     let duplicate = h.duplicate;
-    let p = name_of(t, sheet, at, v, is_ingredient);
-    let same = same_of(t, sheet, words, h, p, m, is_ingredient);
-    let old = old_of(words, h, same, is_ingredient);
+    let p = name_of(t, sheet, at, v, kind);
+    let same = same_of(t, sheet, words, h, p, m, kind);
+    let old = old_of(words, h, same, kind);
     let to = lookup::refers_to(define, duplicate, m.reference, m.new, same);
     let in_step = !blocks::is_components(define);
-    let row = row_named(at, end, p, in_step, m, to, old, is_ingredient);
+    let row = row_named(at, end, p, in_step, m, to, old, kind);
     let found = found_of(to);
     let k = named_reports(
-        t,
-        units,
-        index,
-        flags,
-        sheet,
-        at,
-        end,
-        v,
-        old,
-        to,
-        is_ingredient,
-        codes,
-        words,
-        h,
+        t, units, index, flags, sheet, at, end, v, old, to, kind, codes, words, h,
     );
-    put_row(words, k, row, found, is_ingredient)
+    put_row(words, k, row, found, kind)
 }
 
 // ---- the lines
@@ -371,29 +350,37 @@ pub fn on_ingredient(
     at: usize,
     end: usize,
     v: ComponentView,
-    i: OptIntermediate,
+    i: Option<Intermediate>,
     codes: &mut [u32],
     words: &mut [u32],
     h: Held,
-) -> Passed
+) -> Result<Held, Reason>
     requires { (t.now ≡ unicode_tables) × Indexed units.now index.now × LineHere sheet.now at end (inside (component_event (component_event_in (slice at end sheet.now) (event.Ingredient v i)))) × ComponentEventWithin (slice at end sheet.now) (event.Ingredient v i) × ComponentEventFields (slice at end sheet.now) (event.Ingredient v i) × Kept sheet.now words.old h × CodesKept units.now sheet.now codes.old }
     ensures { ComponentDone (units_or (read_units units.now)) flags sheet.now (slice at end sheet.now) (event.Ingredient v i) words.old h words.new result × CodesKept units.now sheet.now codes.new }
 {
     let m = v.modifiers;
-    let fault = intermediate::intermediate_fault(m.reference, i);
-    if fault != 0 {
-        return Passed::Stop(fault);
-    }
+    intermediate::check_intermediate(m.reference, i)?;
     match i {
-        OptIntermediate::Absent => {
+        None => {
             let k = named_line(
-                t, units, index, flags, sheet, at, end, v, true, codes, words, h,
+                t,
+                units,
+                index,
+                flags,
+                sheet,
+                at,
+                end,
+                v,
+                Kind::Ingredient,
+                codes,
+                words,
+                h,
             );
-            Passed::Next(k)
+            Ok(k)
         }
-        OptIntermediate::Present(x) => {
+        Some(x) => {
             let k = intermediate_line(t, sheet, at, end, v, x, words, h);
-            Passed::Next(k)
+            Ok(k)
         }
     }
 }
@@ -410,12 +397,23 @@ pub fn on_cookware(
     codes: &mut [u32],
     words: &mut [u32],
     h: Held,
-) -> Passed
+) -> Result<Held, Reason>
     requires { (t.now ≡ unicode_tables) × Indexed units.now index.now × LineHere sheet.now at end (inside (component_event (component_event_in (slice at end sheet.now) (event.Cookware v)))) × ComponentEventWithin (slice at end sheet.now) (event.Cookware v) × ComponentEventFields (slice at end sheet.now) (event.Cookware v) × Kept sheet.now words.old h × CodesKept units.now sheet.now codes.old }
     ensures { ComponentDone (units_or (read_units units.now)) flags sheet.now (slice at end sheet.now) (event.Cookware v) words.old h words.new result × CodesKept units.now sheet.now codes.new }
 {
     let k = named_line(
-        t, units, index, flags, sheet, at, end, v, false, codes, words, h,
+        t,
+        units,
+        index,
+        flags,
+        sheet,
+        at,
+        end,
+        v,
+        Kind::Cookware,
+        codes,
+        words,
+        h,
     );
-    Passed::Next(k)
+    Ok(k)
 }

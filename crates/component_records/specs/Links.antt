@@ -1,13 +1,13 @@
 -- Pairs of a definition and of what refers to it, two numbers a pair.
-use Rattle.std.specs.Prelude.{ℕ, suc, ◌+◌, ◌*◌, ◌<◌, ◌≤◌, ◌≡◌, List, [], ◌∷◌, ◌++◌, Bool, true, false, length, get_or}
+use Rattle.std.specs.Prelude.{ℕ, suc, ◌+◌, ◌*◌, ◌<◌, ◌≤◌, ◌≡◌, List, [], ◌∷◌, ◌++◌, Bool, true, false, length, get_or, Result, Ok, Err}
 use Rattle.std.proofs.lemmas.List.Edits.{sets}
 use Rattle.rules.specs.Basic.{pick}
+use Rattle.refusals.specs.declared.Reason.{Reason}
+use Rattle.refusals.specs.declared.Reason.TheVariants.{ReferenceToReference}
 use Rattle.model.specs.declared.Target.TheVariants.{Ingredient, Step, Section}
 use Rattle.model.specs.declared.Relation.{Relation}
 use Rattle.model.specs.declared.Relation.TheVariants.{Definition, Reference}
 use Rattle.component_records.specs.declared.Component.{Component}
-use Rattle.component_records.specs.declared.Linked.{Linked}
-use Rattle.component_records.specs.declared.Linked.TheVariants.{Pair, Reference as Refused}
 use Rattle.component_records.specs.Records.{no_component}
 
 abbrev pub defines : Relation → Bool
@@ -23,14 +23,14 @@ is_own (Reference Section) = false
 
 -- ---- one pair
 
--- where the relation k is a definition's, the pair of d and r stands at n; a reference is not referred to
-pub record LinkedAs (k : Relation) (ps : List ℕ) (n d r : ℕ) (ps' : List ℕ) (a : Linked) : Type 0 where
-  pub answer : a ≡ pick (defines k) Pair Refused
+-- where the relation k is a definition's, the pair of d and r stands at n; a reference is not referred to (18)
+pub record LinkedAs (k : Relation) (ps : List ℕ) (n d r : ℕ) (ps' : List ℕ) (a : Result (Unit {0}) Reason) : Type 0 where
+  pub answer : a ≡ pick (defines k) (Ok tt) (Err ReferenceToReference)
   pub pairs : ps' ≡ pick (defines k) (sets ps (n * 2) (d ∷ r ∷ [])) ps
 
-abbrev pub place_after : Linked → ℕ → ℕ
-place_after Pair n = n + 1
-place_after Refused n = n
+abbrev pub place_after : Result (Unit {0}) Reason → ℕ → ℕ
+place_after (Ok u) n = n + 1
+place_after (Err r) n = n
 
 -- ---- the pairs of a list of records
 

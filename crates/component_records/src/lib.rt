@@ -9,6 +9,7 @@ ghost use Rattle.component_records.specs.Records.{no_component, lent_relation, c
 ghost use Rattle.component_records.specs.Links.{is_own, pair_at, pairs_of, own_at, own_count, LinkedAs, place_after, Linkable, LinkableAt};
 
 use model::{Relation, RelationRecord, Row, Target};
+use refusals::Reason;
 
 // A component of a recipe as it is lent: its line in the sheet, its name in it (after a path, still escaped), its modifiers
 // and its relation after the pass.
@@ -118,31 +119,23 @@ pub fn lend_records(words: &[u32], from: usize, count: usize, all: &mut [Compone
 
 // ---- pairs
 
-// What linking a reference to its definition answers.
-#[derive(Clone, Copy)]
-pub enum Linked {
-    // The pair stands.
-    Pair,
-    // What is referred to is itself a reference: the Rust's panic, refusal 18.
-    Reference,
-}
-
-// The work of `set_referenced_from`, on numbers: the pair at n.
+// The work of `set_referenced_from`, on numbers: the pair at n; 18 where what is referred to is itself a reference, the Rust's
+// panic.
 pub fn link(
     relation: Relation,
     pairs: &mut [u32],
     n: usize,
     definition: usize,
     referrer: usize,
-) -> Linked
+) -> Result<(), Reason>
     requires { (definition < 513) × (referrer ≤ 513) × (n < 513) × (n * 2 + 2 ≤ length pairs.old) }
     ensures { LinkedAs relation pairs.old n definition referrer pairs.new result }
 {
     let Relation::Reference(_) = relation else {
         model::put_pair(pairs, n, definition as u32, referrer as u32);
-        return Linked::Pair;
+        return Ok(());
     };
-    Linked::Reference
+    Err(Reason::ReferenceToReference)
 }
 
 // The component that comes next, with index `count`, refers to the one at `references_to`.
@@ -152,7 +145,7 @@ pub fn set_referenced_from(
     references_to: usize,
     pairs: &mut [u32],
     n: usize,
-) -> Linked
+) -> Result<(), Reason>
     requires { (references_to < count) × (count ≤ length all.old) × (count ≤ 513) × (n < 513) × (n * 2 + 2 ≤ length pairs.old) }
     ensures { (all.new ≡ all.old)
         × LinkedAs (get_or all.old references_to no_component).relation.relation pairs.old n references_to count pairs.new result }
@@ -171,24 +164,17 @@ pub fn is_own_reference(g: RelationRecord) -> bool
     ensures { result ≡ is_own g.relation }
 {
     let k = g.relation;
-    match k {
-        Relation::Definition => false,
-        Relation::Reference(t) => match t {
-            Target::Ingredient => true,
-            Target::Step => false,
-            Target::Section => false,
-        },
-    }
+    matches!(k, Relation::Reference(Target::Ingredient))
 }
 
 // The place of the next pair.
-fn place_after(l: Linked, n: usize) -> usize
+fn place_after(l: Result<(), Reason>, n: usize) -> usize
     requires { n < 513 }
     ensures { result ≡ place_after l n }
 {
     match l {
-        Linked::Pair => n + 1,
-        Linked::Reference => n,
+        Ok(_) => n + 1,
+        Err(_) => n,
     }
 }
 

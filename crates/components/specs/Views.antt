@@ -1,21 +1,16 @@
 -- What the views of components stand for, by the rules, and what holds of a view that was read.
-use Rattle.std.specs.Prelude.{ℕ, ◌≤◌, ◌≡◌, List, ◌∷◌, ◌++◌, drop}
-use Rattle.std.proofs.Math.Option.{Option, none, some}
+use Rattle.std.specs.Prelude.{ℕ, ◌≤◌, ◌≡◌, List, ◌∷◌, ◌++◌, drop, Option, None, Some}
 use Rattle.rules.specs.Words as words
 use Rattle.rules.specs.Sheet as sheets
 use Rattle.rules.specs.Event as rules
 use Rattle.rules.specs.Read.{past}
 use Rattle.parts.specs.Views.{span_in, SpanWithin, text_in, TextWithin, opt_text_in, OptTextWithin, opt_quantity_in, OptQuantityWithin, part_of, raw_opt_text, raw_opt_quantity}
 use Rattle.components.specs.declared.Modifiers.{Modifiers}
-use Rattle.components.specs.declared.Letters.{Letters}
-use Rattle.components.specs.declared.Letters.TheVariants as letters
 use Rattle.components.specs.declared.ComponentView.{ComponentView}
 use Rattle.components.specs.declared.SignedView.{SignedView}
 use Rattle.components.specs.declared.Target.{Target}
 use Rattle.components.specs.declared.Target.TheVariants as target
 use Rattle.components.specs.declared.Intermediate.{Intermediate}
-use Rattle.components.specs.declared.OptIntermediate.{OptIntermediate}
-use Rattle.components.specs.declared.OptIntermediate.TheVariants as intermediate
 
 -- r is the place in s after the letter c, if that stands at `at`
 pub record Skips (s : List ℕ) (c at r : ℕ) : Type 0 where
@@ -23,10 +18,6 @@ pub record Skips (s : List ℕ) (c at r : ℕ) : Type 0 where
 
 unfoldable pub modifiers_in : Modifiers → rules.Modifiers
 modifiers_in m = record { recipe = m.recipe; ref = m.reference; hidden = m.hidden; opt = m.opt; new = m.new }
-
-unfoldable pub modifiers_told : Letters → Option rules.Modifiers
-modifiers_told (letters.Set m) = some (modifiers_in m)
-modifiers_told letters.Ill = none
 
 unfoldable pub component_in : List ℕ → ComponentView → rules.Component
 component_in line v =
@@ -66,13 +57,13 @@ pub record IntermediateWithin (v : Intermediate) : Type 0 where
   pub value : SignedWithin v.value
   pub span : SpanWithin v.span
 
-unfoldable pub opt_intermediate_in : OptIntermediate → Option rules.Intermediate
-opt_intermediate_in intermediate.Absent = none
-opt_intermediate_in (intermediate.Present v) = some (intermediate_in v)
+unfoldable pub opt_intermediate_in : Option Intermediate → Option rules.Intermediate
+opt_intermediate_in None = None
+opt_intermediate_in (Some v) = Some (intermediate_in v)
 
-unfoldable pub OptIntermediateWithin : OptIntermediate → Type 0
-OptIntermediateWithin intermediate.Absent = Unit
-OptIntermediateWithin (intermediate.Present v) = IntermediateWithin v
+unfoldable pub OptIntermediateWithin : Option Intermediate → Type 0
+OptIntermediateWithin None = Unit
+OptIntermediateWithin (Some v) = IntermediateWithin v
 
 -- the contents that a component holds, as they stand in the line
 abbrev pub raw_component : List ℕ → ComponentView → List (List ℕ)

@@ -3,7 +3,8 @@
 
 ghost use Rattle.std.specs.Prelude.{◌≡◌, drop};
 ghost use Rattle.rules.specs.Read.{leads, modifier_letters, modifiers_of};
-ghost use Rattle.components.specs.Views.{Skips, modifiers_told};
+ghost use Rattle.rules.specs.Basic.{on_some};
+ghost use Rattle.components.specs.Views.{Skips, modifiers_in};
 ghost use Rattle.components.specs.Got.{ModifiersRead, ComponentRead, SignedRead, ReferenceRead, TargetRead, IntermediateRead, OptIntermediateRead};
 
 #[derive(Clone, Copy)]
@@ -19,9 +20,9 @@ pub struct Modifiers {
 pub struct ComponentView {
     pub span: parts::Span,
     pub name: parts::TextView,
-    pub alias: parts::OptText,
-    pub quantity: parts::OptQuantity,
-    pub note: parts::OptText,
+    pub alias: Option<parts::TextView>,
+    pub quantity: Option<parts::QuantityView>,
+    pub note: Option<parts::TextView>,
     pub modifiers: Modifiers,
     pub modifiers_span: parts::Span,
 }
@@ -46,20 +47,11 @@ pub struct Intermediate {
     pub span: parts::Span,
 }
 
-#[derive(Clone, Copy)]
-pub enum OptIntermediate {
-    Absent,
-    Present(Intermediate),
-}
-
 // Whether the letter c stands at a place.
 fn is_letter(f: &[u8], at: usize, c: u8) -> bool
     ensures { result ≡ leads c (drop at f.now) }
 {
-    if f.len() <= at {
-        return false;
-    }
-    f[at] == c
+    at < f.len() && f[at] == c
 }
 
 // The place after the letter c, if it stands there.
@@ -75,15 +67,9 @@ fn after_letter(f: &[u8], at: usize, c: u8) -> usize
     at
 }
 
-#[derive(Clone, Copy)]
-pub enum Letters {
-    Set(Modifiers),
-    Ill,
-}
-
 // The letters `@&-?+`, each at most once and in this order.
-fn letters_of(f: &[u8]) -> Letters
-    ensures { modifiers_told result ≡ modifier_letters f.now }
+fn letters_of(f: &[u8]) -> Option<Modifiers>
+    ensures { on_some modifiers_in result ≡ modifier_letters f.now }
 {
     let recipe = is_letter(f, 0, b'@');
     let a1 = after_letter(f, 0, b'@');
@@ -96,9 +82,9 @@ fn letters_of(f: &[u8]) -> Letters
     let new = is_letter(f, a4, b'+');
     let a5 = after_letter(f, a4, b'+');
     if a5 < f.len() {
-        return Letters::Ill;
+        return None;
     }
-    Letters::Set(Modifiers {
+    Some(Modifiers {
         recipe,
         reference,
         hidden,
@@ -107,14 +93,14 @@ fn letters_of(f: &[u8]) -> Letters
     })
 }
 
-fn modifiers_of(f: &[u8]) -> Letters
-    ensures { modifiers_told result ≡ modifiers_of f.now }
+fn modifiers_of(f: &[u8]) -> Option<Modifiers>
+    ensures { on_some modifiers_in result ≡ modifiers_of f.now }
 {
     if f.len() == 0 {
-        return Letters::Ill;
+        return None;
     }
     if sheet::same_bytes(f, b".") {
-        return Letters::Set(Modifiers {
+        return Some(Modifiers {
             recipe: false,
             reference: false,
             hidden: false,
@@ -125,56 +111,28 @@ fn modifiers_of(f: &[u8]) -> Letters
     letters_of(f)
 }
 
-#[derive(Clone, Copy)]
-pub enum GotModifiers {
-    Got(Modifiers, usize),
-    Ill,
-}
-
-fn read_modifiers(line: &[u8], at: usize) -> GotModifiers
+fn read_modifiers(line: &[u8], at: usize) -> Option<(Modifiers, usize)>
     ensures { ModifiersRead line.now at result }
 {
     if line.len() < at {
-        return GotModifiers::Ill;
+        return None;
     }
     let f = sheet::field(line, at);
-    let Letters::Set(m) = modifiers_of(f) else {
-        return GotModifiers::Ill;
-    };
-    GotModifiers::Got(m, at + f.len() + 1)
+    let m = modifiers_of(f)?;
+    Some((m, at + f.len() + 1))
 }
 
-#[derive(Clone, Copy)]
-pub enum GotComponent {
-    Got(ComponentView, usize),
-    Ill,
-}
-
-pub fn read_component(line: &[u8], at: usize) -> GotComponent
+pub fn read_component(line: &[u8], at: usize) -> Option<(ComponentView, usize)>
     ensures { ComponentRead line.now at result }
 {
-    let parts::GotSpan::Got(span, a1) = parts::read_span(line, at) else {
-        return GotComponent::Ill;
-    };
-    let parts::GotText::Got(name, a2) = parts::read_text(line, a1) else {
-        return GotComponent::Ill;
-    };
-    let parts::GotOptText::Got(alias, a3) = parts::read_opt_text(line, a2) else {
-        return GotComponent::Ill;
-    };
-    let parts::GotOptQuantity::Got(quantity, a4) = parts::read_opt_quantity(line, a3) else {
-        return GotComponent::Ill;
-    };
-    let parts::GotOptText::Got(note, a5) = parts::read_opt_text(line, a4) else {
-        return GotComponent::Ill;
-    };
-    let GotModifiers::Got(modifiers, a6) = read_modifiers(line, a5) else {
-        return GotComponent::Ill;
-    };
-    let parts::GotSpan::Got(modifiers_span, a7) = parts::read_span(line, a6) else {
-        return GotComponent::Ill;
-    };
-    GotComponent::Got(
+    let (span, a1) = parts::read_span(line, at)?;
+    let (name, a2) = parts::read_text(line, a1)?;
+    let (alias, a3) = parts::read_opt_text(line, a2)?;
+    let (quantity, a4) = parts::read_opt_quantity(line, a3)?;
+    let (note, a5) = parts::read_opt_text(line, a4)?;
+    let (modifiers, a6) = read_modifiers(line, a5)?;
+    let (modifiers_span, a7) = parts::read_span(line, a6)?;
+    Some((
         ComponentView {
             span,
             name,
@@ -185,103 +143,77 @@ pub fn read_component(line: &[u8], at: usize) -> GotComponent
             modifiers_span,
         },
         a7,
-    )
+    ))
 }
 
-#[derive(Clone, Copy)]
-pub enum GotSigned {
-    Got(SignedView, usize),
-    Ill,
-}
-
-fn read_value(line: &[u8], at: usize) -> GotSigned
+fn read_value(line: &[u8], at: usize) -> Option<(SignedView, usize)>
     ensures { SignedRead line.now at result }
 {
     if line.len() < at {
-        return GotSigned::Ill;
+        return None;
     }
     let f = sheet::field(line, at);
     let n = at + f.len() + 1;
-    match sheet::read_signed(f) {
-        sheet::Signed::Plus(k) => GotSigned::Got(
+    let signed = sheet::read_signed(f)?;
+    match signed {
+        sheet::Signed::Plus(k) => Some((
             SignedView {
                 negative: false,
                 size: k,
             },
             n,
-        ),
-        sheet::Signed::Minus(k) => GotSigned::Got(
+        )),
+        sheet::Signed::Minus(k) => Some((
             SignedView {
                 negative: true,
                 size: k,
             },
             n,
-        ),
-        sheet::Signed::Bad => GotSigned::Ill,
+        )),
     }
 }
 
 // How an intermediate is counted: `n`, from the start, or `r`, relative.
-fn read_reference(line: &[u8], at: usize) -> parts::GotFlag
+fn read_reference(line: &[u8], at: usize) -> Option<(bool, usize)>
     ensures { ReferenceRead line.now at result }
 {
     if line.len() < at {
-        return parts::GotFlag::Ill;
+        return None;
     }
     let f = sheet::field(line, at);
     if sheet::same_bytes(f, b"n") {
-        return parts::GotFlag::Got(false, at + f.len() + 1);
+        return Some((false, at + f.len() + 1));
     }
     if sheet::same_bytes(f, b"r") {
-        return parts::GotFlag::Got(true, at + f.len() + 1);
+        return Some((true, at + f.len() + 1));
     }
-    parts::GotFlag::Ill
+    None
 }
 
-#[derive(Clone, Copy)]
-pub enum GotTarget {
-    Got(Target, usize),
-    Ill,
-}
-
-fn read_target(line: &[u8], at: usize) -> GotTarget
+fn read_target(line: &[u8], at: usize) -> Option<(Target, usize)>
     ensures { TargetRead line.now at result }
 {
     if line.len() < at {
-        return GotTarget::Ill;
+        return None;
     }
     let f = sheet::field(line, at);
     if sheet::same_bytes(f, b"step") {
-        return GotTarget::Got(Target::Step, at + f.len() + 1);
+        return Some((Target::Step, at + f.len() + 1));
     }
     if sheet::same_bytes(f, b"section") {
-        return GotTarget::Got(Target::Section, at + f.len() + 1);
+        return Some((Target::Section, at + f.len() + 1));
     }
-    GotTarget::Ill
+    None
 }
 
-#[derive(Clone, Copy)]
-pub enum GotIntermediate {
-    Got(Intermediate, usize),
-    Ill,
-}
-
-fn read_intermediate(line: &[u8], at: usize) -> GotIntermediate
+fn read_intermediate(line: &[u8], at: usize) -> Option<(Intermediate, usize)>
     ensures { IntermediateRead line.now at result }
 {
-    let parts::GotFlag::Got(relative, a1) = read_reference(line, at) else {
-        return GotIntermediate::Ill;
-    };
-    let GotTarget::Got(target, a2) = read_target(line, a1) else {
-        return GotIntermediate::Ill;
-    };
-    let GotSigned::Got(value, a3) = read_value(line, a2) else {
-        return GotIntermediate::Ill;
-    };
-    let parts::GotSpan::Got(span, a4) = parts::read_span(line, a3) else {
-        return GotIntermediate::Ill;
-    };
-    GotIntermediate::Got(
+    let (relative, a1) = read_reference(line, at)?;
+    let (target, a2) = read_target(line, a1)?;
+    let (value, a3) = read_value(line, a2)?;
+    let (span, a4) = parts::read_span(line, a3)?;
+    Some((
         Intermediate {
             relative,
             target,
@@ -289,26 +221,18 @@ fn read_intermediate(line: &[u8], at: usize) -> GotIntermediate
             span,
         },
         a4,
-    )
+    ))
 }
 
-#[derive(Clone, Copy)]
-pub enum GotOptIntermediate {
-    Got(OptIntermediate, usize),
-    Ill,
-}
-
-pub fn read_opt_intermediate(line: &[u8], at: usize) -> GotOptIntermediate
+pub fn read_opt_intermediate(line: &[u8], at: usize) -> Option<(Option<Intermediate>, usize)>
     ensures { OptIntermediateRead line.now at result }
 {
     match parts::opt_dash(line, at) {
-        parts::Dash::Absent(n) => GotOptIntermediate::Got(OptIntermediate::Absent, n),
-        parts::Dash::Ill => GotOptIntermediate::Ill,
+        parts::Dash::Absent(n) => Some((None, n)),
+        parts::Dash::Ill => None,
         parts::Dash::Present => {
-            let GotIntermediate::Got(v, m) = read_intermediate(line, at) else {
-                return GotOptIntermediate::Ill;
-            };
-            GotOptIntermediate::Got(OptIntermediate::Present(v), m)
+            let (v, m) = read_intermediate(line, at)?;
+            Some((Some(v), m))
         }
     }
 }

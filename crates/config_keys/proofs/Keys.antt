@@ -3,12 +3,12 @@ use Prim.Native.Nat.{ℕ, ◌+◌, ◌≤◌, ◌<◌}
 use mathlib.Core.Path.{◌≡◌, refl, sym, ap, ◌∙◌}
 use mathlib.Core.List.{List, [], ◌∷◌}
 use mathlib.Core.Bool.{Bool, true, false, ◌&&◌}
-use mathlib.Core.Option.{Option, none, some}
+use Rattle.std.specs.Prelude.{Option, None, Some}
 use native.Mathlib.Omega.{arith}
 use lib.Dec.{eqb}
 use lib.ListN.{length, drop}
 use borrow.Author.Tests.{eq-eqb, ne_eqb, eqb-true}
-use Rattle.rules.specs.Basic.{pick, blank, eq_list, word_in}
+use Rattle.rules.specs.Basic.{pick, blank, eq_list, on_some, word_in}
 use Rattle.rules.specs.Words as words
 use Rattle.rules.specs.Words.{config_keys, define_words, duplicate_words}
 use Rattle.rules.specs.Text.{retain, text_trimmed, text_outer_trimmed}
@@ -16,11 +16,8 @@ use Rattle.rules.specs.Utf8.{chars}
 use Rattle.rules.specs.Modes as rules
 use Rattle.rules.specs.Modes.{key_of, is_bracketed, ends_with_bracket}
 use Rattle.utf8.specs.declared.Char.{Char}
-use Rattle.sheet.specs.Words.{key_as, define_as, duplicate_as}
-use Rattle.sheet.specs.declared.KeyWord.{KeyWord}
-use Rattle.sheet.specs.declared.KeyWord.TheVariants as key
-use Rattle.sheet.specs.declared.DefineWord.{DefineWord}
-use Rattle.sheet.specs.declared.DuplicateWord.{DuplicateWord}
+use Rattle.sheet.specs.Words as sheet
+use Rattle.sheet.specs.declared.ConfigKey.TheVariants as config
 use Rattle.content.specs.Contents.{content_in, kept_in}
 use Rattle.content.specs.Readings.{char_in}
 use Rattle.content.proofs.Chars.{content_first, content_step, content_none}
@@ -125,53 +122,35 @@ module _ {A : Type 0} where
 -- ---- values
 
 module _ {f w : List ℕ} (d : TrimmedTo f w) where
-  pub define_as_lem : {r : DefineWord} → r ≡ define_as (word_in (chars w) define_words) → r ≡ define_as (word_in (text_outer_trimmed (content_in f)) define_words)
+  pub define_trimmed : {o : Option words.DefineMode} → o ≡ word_in (chars w) define_words → o ≡ word_in (text_outer_trimmed (content_in f)) define_words
   unfolding plain_words plain_word is_plain kept_in
-  define_as_lem q = q ∙ ap define_as (sym (kept_defines w) ∙ (word_in_retain (content_in w) define_words refl ∙ ap (λ (cs : List ℕ). word_in cs define_words) d.is))
+  define_trimmed q = q ∙ (sym (kept_defines w) ∙ (word_in_retain (content_in w) define_words refl ∙ ap (λ (cs : List ℕ). word_in cs define_words) d.is))
 
-  pub duplicate_as_lem : {r : DuplicateWord} → r ≡ duplicate_as (word_in (chars w) duplicate_words) → r ≡ duplicate_as (word_in (text_outer_trimmed (content_in f)) duplicate_words)
+  pub duplicate_trimmed : {o : Option words.DuplicateMode} → o ≡ word_in (chars w) duplicate_words → o ≡ word_in (text_outer_trimmed (content_in f)) duplicate_words
   unfolding plain_words plain_word is_plain kept_in
-  duplicate_as_lem q = q ∙ ap duplicate_as (sym (kept_duplicates w) ∙ (word_in_retain (content_in w) duplicate_words refl ∙ ap (λ (cs : List ℕ). word_in cs duplicate_words) d.is))
+  duplicate_trimmed q = q ∙ (sym (kept_duplicates w) ∙ (word_in_retain (content_in w) duplicate_words refl ∙ ap (λ (cs : List ℕ). word_in cs duplicate_words) d.is))
 
   -- ---- keys
 
-  key_is : (o : Option words.ConfigKey) (b : Bool) → word_in (chars w) config_keys ≡ o → is_bracketed (content_in w) ≡ b → key_of (text_trimmed (content_in f)) ≡ rules.key_as o b
+  key_is : (o : Option words.ConfigKey) {b : Bool} → o ≡ word_in (chars w) config_keys → is_bracketed (content_in w) ≡ b → rules.key_as o b ≡ key_of (text_trimmed (content_in f))
   unfolding key_of kept_in
-  key_is o b p q =
+  key_is o p q =
       let k : text_trimmed (content_in f) ≡ retain 0 (content_in w) = sym (kept_trimmed f w d.is) in
-      ap key_of k ∙ (ap (λ (x : Option words.ConfigKey). rules.key_as x (is_bracketed (retain 0 (content_in w)))) (kept_keys w ∙ p) ∙ ap (rules.key_as o) (bracket_retain (content_in w) ∙ q))
+      sym (ap key_of k ∙ (ap (λ (x : Option words.ConfigKey). rules.key_as x (is_bracketed (retain 0 (content_in w)))) (kept_keys w ∙ sym p) ∙ ap (rules.key_as o) (bracket_retain (content_in w) ∙ q)))
 
-key_as_define : (o : Option words.ConfigKey) → key.Define ≡ key_as o → o ≡ some words.define_key
-unfolding key_as
-key_as_define none e = let z : ◌≡◌ {A = ℕ} 0 1 = cc in absurd (omega arith)
-key_as_define (some words.define_key) e = refl
-key_as_define (some words.duplicate_key) e = let z : ◌≡◌ {A = ℕ} 0 1 = cc in absurd (omega arith)
+  pub key_define : on_some sheet.key_in (Some config.Define) ≡ word_in (chars w) config_keys → key_in Define ≡ key_of (text_trimmed (content_in f))
+  unfolding key_in rules.key_as sheet.key_in on_some
+  key_define p = key_is (Some words.define_key) p refl
 
-key_as_duplicate : (o : Option words.ConfigKey) → key.Duplicate ≡ key_as o → o ≡ some words.duplicate_key
-unfolding key_as
-key_as_duplicate none e = let z : ◌≡◌ {A = ℕ} 0 1 = cc in absurd (omega arith)
-key_as_duplicate (some words.define_key) e = let z : ◌≡◌ {A = ℕ} 0 1 = cc in absurd (omega arith)
-key_as_duplicate (some words.duplicate_key) e = refl
+  pub key_duplicate : on_some sheet.key_in (Some config.Duplicate) ≡ word_in (chars w) config_keys → key_in Duplicate ≡ key_of (text_trimmed (content_in f))
+  unfolding key_in rules.key_as sheet.key_in on_some
+  key_duplicate p = key_is (Some words.duplicate_key) p refl
 
-key_as_none : (o : Option words.ConfigKey) → key.Unknown ≡ key_as o → o ≡ none
-unfolding key_as
-key_as_none none e = refl
-key_as_none (some words.define_key) e = let z : ◌≡◌ {A = ℕ} 0 1 = cc in absurd (omega arith)
-key_as_none (some words.duplicate_key) e = let z : ◌≡◌ {A = ℕ} 0 1 = cc in absurd (omega arith)
+  module _ (p : on_some sheet.key_in None ≡ word_in (chars w) config_keys) {b : Bool} (q : b ≡ is_bracketed (content_in w)) where
+    pub key_unknown : b ≡ true → key_in Unknown ≡ key_of (text_trimmed (content_in f))
+    unfolding key_in rules.key_as on_some
+    key_unknown t = key_is None p (sym q ∙ t)
 
-module _ {f w : List ℕ} (d : TrimmedTo f w) {k : KeyWord} (g : k ≡ key_as (word_in (chars w) config_keys)) where
-  pub key_define : k ≡ key.Define → key_in Define ≡ key_of (text_trimmed (content_in f))
-  unfolding key_in rules.key_as
-  key_define p = sym (key_is d (some words.define_key) (is_bracketed (content_in w)) (key_as_define _ (sym p ∙ g)) refl)
-
-  pub key_duplicate : k ≡ key.Duplicate → key_in Duplicate ≡ key_of (text_trimmed (content_in f))
-  unfolding key_in rules.key_as
-  key_duplicate p = sym (key_is d (some words.duplicate_key) (is_bracketed (content_in w)) (key_as_duplicate _ (sym p ∙ g)) refl)
-
-  pub key_unknown : k ≡ key.Unknown → {b : Bool} → b ≡ is_bracketed (content_in w) → b ≡ true → key_in Unknown ≡ key_of (text_trimmed (content_in f))
-  unfolding key_in rules.key_as
-  key_unknown p q t = sym (key_is d none true (key_as_none _ (sym p ∙ g)) (sym q ∙ t))
-
-  pub key_ordinary : k ≡ key.Unknown → {b : Bool} → b ≡ is_bracketed (content_in w) → b ≡ false → key_in Ordinary ≡ key_of (text_trimmed (content_in f))
-  unfolding key_in rules.key_as
-  key_ordinary p q t = sym (key_is d none false (key_as_none _ (sym p ∙ g)) (sym q ∙ t))
+    pub key_ordinary : b ≡ false → key_in Ordinary ≡ key_of (text_trimmed (content_in f))
+    unfolding key_in rules.key_as on_some
+    key_ordinary t = key_is None p (sym q ∙ t)

@@ -2,16 +2,16 @@
 #![tactic(auto)]
 
 ghost use Rattle.std.specs.Prelude.{◌≡◌, drop};
-ghost use Rattle.rules.specs.Basic.{word_in};
+ghost use Rattle.rules.specs.Basic.{on_some, word_in};
 ghost use Rattle.rules.specs.Words.{define_words, duplicate_words};
 ghost use Rattle.rules.specs.Text.{text_trimmed, text_outer_trimmed};
 ghost use Rattle.rules.specs.Modes.{key_of, is_bracketed, ends_with_bracket};
-ghost use Rattle.sheet.specs.Words.{define_as, duplicate_as};
+ghost use Rattle.sheet.specs.Words.{define_of, duplicate_of};
 ghost use Rattle.content.specs.Contents.{content_in};
 ghost use Rattle.letters.specs.Tables.{unicode_tables};
 ghost use Rattle.config_keys.specs.Keys.{key_in, HeededKey};
 
-use sheet::{DefineWord, DuplicateWord};
+use sheet::{ConfigKey, Define, Duplicate};
 
 // `[mode]` and `[define]`; `[duplicate]`; another key in brackets; any other.
 #[derive(Clone, Copy)]
@@ -55,9 +55,9 @@ pub fn key_of(t: &[u32], f: &[u8]) -> Key
 {
     let w = text::text_outer_trimmed(t, f);
     match sheet::config_key(w) {
-        sheet::KeyWord::Define => Key::Define,
-        sheet::KeyWord::Duplicate => Key::Duplicate,
-        sheet::KeyWord::Unknown => {
+        Some(ConfigKey::Define) => Key::Define,
+        Some(ConfigKey::Duplicate) => Key::Duplicate,
+        None => {
             if is_bracketed(w) {
                 return Key::Unknown;
             }
@@ -66,17 +66,17 @@ pub fn key_of(t: &[u32], f: &[u8]) -> Key
     }
 }
 
-pub fn define_value(t: &[u32], f: &[u8]) -> DefineWord
+pub fn define_value(t: &[u32], f: &[u8]) -> Option<Define>
     requires { t.now ≡ unicode_tables }
-    ensures { result ≡ define_as (word_in (text_outer_trimmed (content_in f.now)) define_words) }
+    ensures { on_some define_of result ≡ word_in (text_outer_trimmed (content_in f.now)) define_words }
 {
     let w = text::text_outer_trimmed(t, f);
     sheet::define_mode(w)
 }
 
-pub fn duplicate_value(t: &[u32], f: &[u8]) -> DuplicateWord
+pub fn duplicate_value(t: &[u32], f: &[u8]) -> Option<Duplicate>
     requires { t.now ≡ unicode_tables }
-    ensures { result ≡ duplicate_as (word_in (text_outer_trimmed (content_in f.now)) duplicate_words) }
+    ensures { on_some duplicate_of result ≡ word_in (text_outer_trimmed (content_in f.now)) duplicate_words }
 {
     let w = text::text_outer_trimmed(t, f);
     sheet::duplicate_mode(w)

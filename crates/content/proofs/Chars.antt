@@ -2,7 +2,7 @@
 use Prim.Native.Nat.{ℕ, suc, ◌+◌, ◌≤◌, ◌<◌}
 use mathlib.Core.Path.{◌≡◌, refl, sym, ◌∙◌}
 use mathlib.Core.List.{List, [], ◌∷◌}
-use mathlib.Core.Option.{Option, none, some}
+use Rattle.std.specs.Prelude.{Option, None, Some}
 use native.Mathlib.Numerals.{add-one}
 use native.Mathlib.Omega.{arith}
 use lib.Dec.{eqb}
@@ -17,8 +17,8 @@ use Rattle.rules.proofs.Chars.{skip_chars, fits, chars_ascii}
 use Rattle.rules.proofs.Scalars.{Scalar, char_scalar, low_scalar}
 use Rattle.utf8.specs.declared.Char.{Char}
 use Rattle.utf8.specs.Reading.{char_of}
-use Rattle.utf8.proofs.Turns.{char_with, ascii_char}
-use Rattle.sheet.specs.Escapes.{or_zero}
+use Rattle.utf8.specs.Decoding.{char_with}
+use Rattle.utf8.proofs.Turns.{ascii_char}
 use Rattle.content.specs.Contents.{pair_or, plain_of, content_in}
 use Rattle.content.specs.Readings.{pair_in, char_in}
 use Rattle.content.proofs.Plains.{plain_one, plain_pair, by_backslash, first_plain, skip_plain}
@@ -27,19 +27,19 @@ use Rattle.content.proofs.Plains.{plain_one, plain_pair, by_backslash, first_pla
 
 skip_some : (a : ℕ) (s : List ℕ) (o : Option ℕ) → first_of a s ≡ o → drop (followers a o) (plain_of s) ≡ plain_of (drop (followers a o) s)
 unfolding followers
-skip_some a s none e = refl
-skip_some a s (some c) e = skip_plain (begins a s c e)
+skip_some a s None e = refl
+skip_some a s (Some c) e = skip_plain (begins a s c e)
 
 content_char : (a : ℕ) (s : List ℕ) → (a ≡ 92 → ⊥) → content_in (a ∷ s) ≡ char_or (first_of a s) ∷ content_in (drop (followers a (first_of a s)) s)
 unfolding content_in chars chars_from
 content_char a s n =
     rw (plain_one a s n, first_plain a s, skip_chars (followers a (first_of a s)) (plain_of s), skip_some a s (first_of a s) refl)
 
-content_pair : (x : ℕ) (d : ℕ) (s : List ℕ) → x < 128 → escaped d ≡ some x → content_in (92 ∷ d ∷ s) ≡ x ∷ content_in s
+content_pair : (x : ℕ) (d : ℕ) (s : List ℕ) → x < 128 → escaped d ≡ Some x → content_in (92 ∷ d ∷ s) ≡ x ∷ content_in s
 unfolding content_in pair_or
 content_pair x d s h e = rw (plain_pair d s, e) (chars_ascii x (plain_of s) h)
 
-content_alone : (d : ℕ) (s : List ℕ) → escaped d ≡ none → content_in (92 ∷ d ∷ s) ≡ 92 ∷ content_in (d ∷ s)
+content_alone : (d : ℕ) (s : List ℕ) → escaped d ≡ None → content_in (92 ∷ d ∷ s) ≡ 92 ∷ content_in (d ∷ s)
 unfolding content_in pair_or
 content_alone d s e = rw (plain_pair d s, e) (chars_ascii 92 (plain_of (d ∷ s)) (omega arith))
 
@@ -47,16 +47,16 @@ content_last : content_in (92 ∷ []) ≡ 92 ∷ content_in []
 unfolding content_in plain_of
 content_last = chars_ascii 92 [] (omega arith)
 
-pub escaped_ascii : (d e : ℕ) → escaped d ≡ some e → e < 128
+pub escaped_ascii : (d e : ℕ) → escaped d ≡ Some e → e < 128
 unfolding escaped
 escaped_ascii d e =
     pick_either P (eqb d 92) _ _ (λ _. of 92 (omega arith))
     (λ _. pick_either P (eqb d 116) _ _ (λ _. of 9 (omega arith)) (λ _. pick_either P (eqb d 110) _ _ (λ _. of 10 (omega arith)) (λ _ q. no_some q)))
   where
     P : Option ℕ → Type 0
-    P o = o ≡ some e → e < 128
+    P o = o ≡ Some e → e < 128
 
-    of : (x : ℕ) → x < 128 → some x ≡ some e → e < 128
+    of : (x : ℕ) → x < 128 → Some x ≡ Some e → e < 128
     of x h q = let k : x ≡ e = cc in omega arith
 
 -- ---- ch is the character that t starts with
@@ -78,15 +78,15 @@ char_pair d s = refl
 
 pub char_last : char_in (92 ∷ []) ≡ char_with 92 1
 unfolding char_in char_of char_or followers
-char_last = let e : first_of 92 [] ≡ some 92 = first_some (one (omega arith)) in let z : size_of 92 ≡ 1 = size_1 92 (omega arith) in rw (e, z)
+char_last = let e : first_of 92 [] ≡ Some 92 = first_some (one (omega arith)) in let z : size_of 92 ≡ 1 = size_1 92 (omega arith) in rw (e, z)
 
 first_other : (a : ℕ) (s : List ℕ) → (a ≡ 92 → ⊥) → ContentFirst (a ∷ s) (char_in (a ∷ s))
 first_other a s n = rw (char_plain a s n) (unfold char_of in record { reads = content_char a s n; least = omega arith; most = omega (arith, fits a s); scalar = char_scalar a s })
 
 first_pair : (d : ℕ) (s : List ℕ) (o : Option ℕ) → escaped d ≡ o → ContentFirst (92 ∷ d ∷ s) (pair_in o)
 unfolding pair_in
-first_pair d s none e = record { reads = content_alone d s e; least = omega arith; most = omega arith; scalar = low_scalar 92 (omega arith) }
-first_pair d s (some x) e =
+first_pair d s None e = record { reads = content_alone d s e; least = omega arith; most = omega arith; scalar = low_scalar 92 (omega arith) }
+first_pair d s (Some x) e =
     let h = escaped_ascii d x e in
     record { reads = content_pair x d s h e; least = omega arith; most = omega arith; scalar = low_scalar x (omega arith) }
 
@@ -120,21 +120,6 @@ pub no_content : content_in [] ≡ []
 unfolding content_in plain_of chars chars_from
 no_content = refl
 
--- a letter that stands for nothing, and one that does
-pair_zero : (d : ℕ) → or_zero (escaped d) ≡ 0 → pair_in (escaped d) ≡ char_with 92 1
-unfolding escaped or_zero pair_in
-pair_zero d =
-    pick_either P (eqb d 92) _ _ (λ _ e. absurd (omega arith))
-    (λ _. pick_either P (eqb d 116) _ _ (λ _ e. absurd (omega arith)) (λ _. pick_either P (eqb d 110) _ _ (λ _ e. absurd (omega arith)) (λ _ e. refl)))
-  where
-    P : Option ℕ → Type 0
-    P o = or_zero o ≡ 0 → pair_in o ≡ char_with 92 1
-
-pair_some : (o : Option ℕ) → (or_zero o ≡ 0 → ⊥) → pair_in o ≡ char_with (or_zero o) 2
-unfolding or_zero pair_in
-pair_some none n = absurd (n refl)
-pair_some (some x) n = refl
-
 -- ---- the ways of `escape_at` and `char_in`
 
 module _ (f : List ℕ) (at : ℕ) (h : at < length f) where
@@ -148,12 +133,14 @@ module _ (f : List ℕ) (at : ℕ) (h : at < length f) where
       let m : suc at < length f = omega arith in
       rw (add-one, drop-cons f at 0 h, drop-cons f (suc at) 0 m, q) (char_pair (get_or f (suc at) 0) (drop (suc (suc at)) f))
 
-  module _ (q : get_or f at 0 ≡ 92) (l : at + 1 < length f) {e : ℕ} (p : e ≡ or_zero (escaped (get_or f (at + 1) 0))) where
-    pub in_alone : e ≡ 0 → char_with 92 1 ≡ char_in (drop at f)
-    in_alone z = sym (in_pair q l ∙ pair_zero (get_or f (at + 1) 0) (sym p ∙ z))
+  module _ (q : get_or f at 0 ≡ 92) (l : at + 1 < length f) {o : Option ℕ} (p : o ≡ escaped (get_or f (at + 1) 0)) where
+    pub in_alone : o ≡ None → char_with 92 1 ≡ char_in (drop at f)
+    unfolding pair_in
+    in_alone z = sym (in_pair q l ∙ rw (← p, z))
 
-    pub in_letter : {x : ℕ} → x ≡ e → (e ≡ 0 → ⊥) → char_with x 2 ≡ char_in (drop at f)
-    in_letter w z = rw (w, p) (sym (in_pair q l ∙ pair_some (escaped (get_or f (at + 1) 0)) (λ u. z (p ∙ u))))
+    pub in_letter : {x e : ℕ} → x ≡ e → o ≡ Some e → char_with x 2 ≡ char_in (drop at f)
+    unfolding pair_in
+    in_letter w z = rw w (sym (in_pair q l ∙ rw (← p, z)))
 
   in_char : (get_or f at 0 ≡ 92 → ⊥) → char_in (drop at f) ≡ char_of (drop at f)
   in_char n = rw (drop-cons f at 0 h) (char_plain (get_or f at 0) (drop (suc at) f) n)

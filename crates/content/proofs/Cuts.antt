@@ -2,7 +2,7 @@
 use Prim.Native.Nat.{ℕ, zero, suc, pred, ◌+◌, ◌-◌, ◌≤◌, ◌<◌}
 use mathlib.Core.Path.{◌≡◌, refl, sym, ap, ◌∙◌}
 use mathlib.Core.List.{List, [], ◌∷◌, ◌++◌, append-nil, append_assoc}
-use mathlib.Core.Option.{Option, none, some}
+use Rattle.std.specs.Prelude.{Option, None, Some}
 use native.Mathlib.Omega.{arith}
 use lib.ListN.{length, take, drop, length-append, length-drop, take-append-drop}
 use lib.Seq.{take-add, drop-drop, drop-append_seam, take-append_seam, length-take-le}
@@ -39,9 +39,9 @@ first_front : (a : ℕ) (s t : List ℕ) → followers a (first_of a (s ++ t)) �
 first_front a s t l = go (first_of a (s ++ t)) refl (first_of a s) refl
   where
     go : (o : Option ℕ) → first_of a (s ++ t) ≡ o → (p : Option ℕ) → first_of a s ≡ p → first_of a s ≡ first_of a (s ++ t)
-    go (some c) e p q = unfold first_of followers in (let k : pred (size_of a) ≤ length s = rw e at l in sym (sized_front (size_of a) a s t k))
-    go none e none q = q ∙ sym e
-    go none e (some c) q = no_some (sym e ∙ first_some (begins_more t (begins a s c q)))
+    go (Some c) e p q = unfold first_of followers in (let k : pred (size_of a) ≤ length s = rw e at l in sym (sized_front (size_of a) a s t k))
+    go None e None q = q ∙ sym e
+    go None e (Some c) q = no_some (sym e ∙ first_some (begins_more t (begins a s c q)))
 
 front_backslash : (s t : List ℕ) → (char_in (92 ∷ (s ++ t))).size ≤ suc (length s) → char_in (92 ∷ s) ≡ char_in (92 ∷ (s ++ t))
 unfolding char_in
@@ -49,8 +49,8 @@ front_backslash [] [] l = refl
 front_backslash [] (d ∷ t) l = go (escaped d) l
   where
     go : (o : Option ℕ) → (pair_in o).size ≤ 1 → char_in (92 ∷ []) ≡ pair_in o
-    go none l = unfold pair_in in char_last
-    go (some x) l = absurd (unfold pair_in in omega arith)
+    go None l = unfold pair_in in char_last
+    go (Some x) l = absurd (unfold pair_in in omega arith)
 front_backslash (d ∷ s) t l = refl
 
 front_other : (a : ℕ) (s t : List ℕ) → (char_of (a ∷ (s ++ t))).size ≤ suc (length s) → char_of (a ∷ s) ≡ char_of (a ∷ (s ++ t))

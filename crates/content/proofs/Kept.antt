@@ -3,7 +3,7 @@ use Prim.Native.Nat.{ℕ, suc, ◌+◌, ◌-◌, ◌≤◌, ◌<◌}
 use mathlib.Core.Path.{◌≡◌, refl, sym, ap, ◌∙◌}
 use mathlib.Core.List.{List, [], ◌∷◌}
 use mathlib.Core.Bool.{and-false}
-use mathlib.Core.Option.{Option}
+use Rattle.std.specs.Prelude.{Option}
 use native.Mathlib.Omega.{arith}
 use lib.Dec.{eqb}
 use lib.ListN.{length, get_or, drop}
@@ -18,7 +18,7 @@ use Rattle.rules.proofs.Begins.{one, first_some, size_1}
 use Rattle.rules.proofs.Ascii.{char_beyond}
 use Rattle.utf8.specs.declared.Char.{Char}
 use Rattle.utf8.specs.Reading.{char_of}
-use Rattle.utf8.proofs.Turns.{char_with}
+use Rattle.utf8.specs.Decoding.{char_with}
 use Rattle.content.specs.Contents.{content_in, kept_in}
 use Rattle.content.specs.Readings.{pair_in, char_in}
 use Rattle.content.specs.Kept.{Skipped, KeptStep}

@@ -3,7 +3,7 @@ use Prim.Native.Nat.{ℕ, ◌+◌, ◌≤◌}
 use mathlib.Core.Path.{◌≡◌, refl, sym, ap, ◌∙◌}
 use mathlib.Core.List.{List, [], ◌∷◌, ◌++◌, append-nil}
 use mathlib.Core.Bool.{Bool, true, false, ◌&&◌}
-use mathlib.Core.Option.{Option, none, some}
+use Rattle.std.specs.Prelude.{Option, None, Some}
 use native.Mathlib.Omega.{arith}
 use lib.Dec.{eqb}
 use lib.ListN.{length, get_or}
@@ -123,18 +123,18 @@ next_ready line at h a = apart (rw (fields_next line at h) at a)
 
 -- ---- the content that the rules read
 
-pub field_content : {f : List ℕ} → Field f → content_of f ≡ some (content_in f)
+pub field_content : {f : List ℕ} → Field f → content_of f ≡ Some (content_in f)
 unfolding content_of content_in
 field_content {f} h = go (unescape f) refl h.well
   where
-    go : (o : Option (List ℕ)) → unescape f ≡ o → is_some o ≡ true → on_some chars o ≡ some (chars (plain_of f))
-    go none e q = unfold is_some in no_truth q
-    go (some u) e q = unfold on_some in (rw (plain_unescape f e))
+    go : (o : Option (List ℕ)) → unescape f ≡ o → is_some o ≡ true → on_some chars o ≡ Some (chars (plain_of f))
+    go None e q = unfold is_some in no_truth q
+    go (Some u) e q = unfold on_some in (rw (plain_unescape f e))
 
-pub no_content_of : (f : List ℕ) → is_some (unescape f) ≡ false → content_of f ≡ none
+pub no_content_of : (f : List ℕ) → is_some (unescape f) ≡ false → content_of f ≡ None
 unfolding content_of
 no_content_of f h = go (unescape f) h
   where
-    go : (o : Option (List ℕ)) → is_some o ≡ false → on_some chars o ≡ none
-    go none q = unfold on_some in refl
-    go (some u) q = unfold is_some in no_truth (sym q)
+    go : (o : Option (List ℕ)) → is_some o ≡ false → on_some chars o ≡ None
+    go None q = unfold on_some in refl
+    go (Some u) q = unfold is_some in no_truth (sym q)

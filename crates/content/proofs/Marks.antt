@@ -3,7 +3,7 @@ use Prim.Native.Nat.{ℕ, ◌<◌}
 use mathlib.Core.Path.{◌≡◌, refl, sym, ap, ◌∙◌}
 use mathlib.Core.List.{List, [], ◌∷◌, ◌++◌}
 use mathlib.Core.Bool.{Bool, true, false, ◌&&◌}
-use mathlib.Core.Option.{Option, none, some}
+use Rattle.std.specs.Prelude.{Option, None, Some}
 use Rattle.rules.specs.Basic.{is_some}
 use Rattle.rules.specs.Sheet.{escaped, onto, unescape}
 use Rattle.rules.specs.Utf8.{is_utf8}
@@ -18,13 +18,13 @@ use Rattle.content.proofs.Plains.{plain_one, plain_pair, by_backslash}
 pub record Mark (b : ℕ) : Type 0 where
   pub low : b < 128
   pub plain : b ≡ 92 → ⊥
-  pub letter : escaped b ≡ none
+  pub letter : escaped b ≡ None
 
 module _ (b : ℕ) (m : Mark b) (q : List ℕ) where
   pair_split : (x y s : List ℕ) (o : Option ℕ) → pair_or o (x ++ s) (y ++ s) ≡ pair_or o x y ++ s
   unfolding pair_or
-  pair_split x y s none = refl
-  pair_split x y s (some c) = refl
+  pair_split x y s None = refl
+  pair_split x y s (Some c) = refl
 
   plain_split : (p : List ℕ) → plain_of (p ++ (b ∷ q)) ≡ plain_of p ++ (b ∷ plain_of q)
   plain_split [] = plain_one b q m.plain ∙ (unfold plain_of in refl)
@@ -43,12 +43,12 @@ module _ (b : ℕ) (m : Mark b) (q : List ℕ) where
 
   some_onto : (o : Option ℕ) (s : Option (List ℕ)) → is_some (onto o s) ≡ (is_some o && is_some s)
   unfolding is_some onto
-  some_onto none s = refl
-  some_onto (some c) none = refl
-  some_onto (some c) (some s) = refl
+  some_onto None s = refl
+  some_onto (Some c) None = refl
+  some_onto (Some c) (Some s) = refl
 
   some_plain : (c : ℕ) (s : List ℕ) → (c ≡ 92 → ⊥) → is_some (unescape (c ∷ s)) ≡ is_some (unescape s)
-  some_plain c s n = ap is_some (unescape_plain c s n) ∙ some_onto (some c) (unescape s) ∙ (unfold is_some in refl)
+  some_plain c s n = ap is_some (unescape_plain c s n) ∙ some_onto (Some c) (unescape s) ∙ (unfold is_some in refl)
 
   some_pair : (d : ℕ) (s : List ℕ) → is_some (unescape (92 ∷ d ∷ s)) ≡ (is_some (escaped d) && is_some (unescape s))
   some_pair d s = unfold unescape in some_onto (escaped d) (unescape s)

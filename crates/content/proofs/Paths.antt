@@ -3,7 +3,7 @@ use Prim.Native.Nat.{ℕ, ◌+◌, ◌≤◌, ◌<◌}
 use mathlib.Core.Path.{◌≡◌, refl, sym, ap, ◌∙◌}
 use mathlib.Core.List.{List, [], ◌∷◌, ◌++◌, append-nil, append_assoc}
 use mathlib.Core.Bool.{Bool, true, false, not}
-use mathlib.Core.Option.{none, some}
+use Rattle.std.specs.Prelude.{None, Some}
 use native.Mathlib.Omega.{arith}
 use lib.Dec.{eqb}
 use lib.ListN.{length, take, drop}
@@ -144,7 +144,7 @@ separated {f} {at} {e} {s} v h =
 
 -- ---- the ways of `name_place`
 
-no_reference : (f : List ℕ) → parse_reference (kept_in f) ≡ none → NameAt f (place_of 0 0)
+no_reference : (f : List ℕ) → parse_reference (kept_in f) ≡ None → NameAt f (place_of 0 0)
 unfolding name_of path_of on_some
 no_reference f e =
     record { order = omega arith; most = omega arith; path_cut = cut_start f; name_cut = cut_start f; name = rw e; path = rw e }
@@ -168,12 +168,12 @@ split_found f e s c t d k w =
 
 parse_found : (f : List ℕ) (e s c : ℕ) → is_path (content_in f) ≡ true → is_separator c ≡ true → content_in (take s f) ≡ content_in (take e f) ++ (c ∷ [])
     → content_in f ≡ content_in (take s f) ++ content_in (drop s f) → Without slash (each as_slash (content_in (drop s f)))
-    → parse_reference (kept_in f) ≡ pick (is_empty (kept_in (drop s f))) none (some (record { components = split_at slash (each as_slash (kept_in (take e f))); name = kept_in (drop s f) }))
+    → parse_reference (kept_in f) ≡ pick (is_empty (kept_in (drop s f))) None (Some (record { components = split_at slash (each as_slash (kept_in (take e f))); name = kept_in (drop s f) }))
 parse_found f e s c i t d k w = parse_parts (kept_in f) _ _ (is_path_lem f ∙ i) (split_found f e s c t d k w)
 
 module _ (f : List ℕ) (i : is_path (content_in f) ≡ true) where
   end_at : {e s : ℕ} → Found f e s → content_in f ≡ content_in (take s f) ++ content_in (drop s f) → Without slash (each as_slash (content_in (drop s f)))
-      → length f ≤ s → parse_reference (kept_in f) ≡ none
+      → length f ≤ s → parse_reference (kept_in f) ≡ None
   end_at nowhere k w l = path_parted (content_in f) i w
   end_at (found {e} {s} c t o a b d) k w l = parse_found f e s c i t d k w ∙ rw (kept_none f s l) (unfold is_empty in refl)
 
@@ -182,7 +182,7 @@ module _ (f : List ℕ) (i : is_path (content_in f) ≡ true) where
   some_at nowhere k w l = path_parted (content_in f) i w
   some_at (found {e} {s} c t o a b d) k w l =
       let n : is_empty (kept_in (drop s f)) ≡ false = rw (kept_some f s l) (unfold is_empty in refl) in
-      let p : parse_reference (kept_in f) ≡ some (record { components = split_at slash (each as_slash (kept_in (take e f))); name = kept_in (drop s f) }) =
+      let p : parse_reference (kept_in f) ≡ Some (record { components = split_at slash (each as_slash (kept_in (take e f))); name = kept_in (drop s f) }) =
       parse_found f e s c i t d k w ∙ rw n in
       record {
         order = omega arith;

@@ -3,7 +3,7 @@ use Prim.Native.Nat.{ℕ, zero, suc, pred, ◌≤◌, ◌<◌}
 use mathlib.Core.Path.{◌≡◌, refl, sym, ap, ◌∙◌}
 use mathlib.Core.List.{List, [], ◌∷◌}
 use mathlib.Core.Bool.{Bool, true, false, and-false}
-use mathlib.Core.Option.{Option, none, some}
+use Rattle.std.specs.Prelude.{Option, None, Some}
 use native.Mathlib.Omega.{arith}
 use lib.Dec.{eqb}
 use lib.ListN.{get_or, drop}
@@ -38,38 +38,38 @@ by_backslash {P} c f g = by (eqb c 92) refl
 record Joined (c : Option ℕ) (v : Option (List ℕ)) (u : List ℕ) : Type 0 where
   head : ℕ
   tail : List ℕ
-  first : c ≡ some head
-  then : v ≡ some tail
+  first : c ≡ Some head
+  then : v ≡ Some tail
   is : u ≡ head ∷ tail
 
-joined : (c : Option ℕ) (v : Option (List ℕ)) (u : List ℕ) → onto c v ≡ some u → Joined c v u
+joined : (c : Option ℕ) (v : Option (List ℕ)) (u : List ℕ) → onto c v ≡ Some u → Joined c v u
 unfolding onto
-joined none v u q = no_some q
-joined (some c) none u q = no_some q
-joined (some c) (some s) u q = record { head = c; tail = s; first = refl; then = refl; is = sym (some_inj q) }
+joined None v u q = no_some q
+joined (Some c) None u q = no_some q
+joined (Some c) (Some s) u q = record { head = c; tail = s; first = refl; then = refl; is = sym (some_inj q) }
 
-pub plain_unescape : (f : List ℕ) {u : List ℕ} → unescape f ≡ some u → plain_of f ≡ u
+pub plain_unescape : (f : List ℕ) {u : List ℕ} → unescape f ≡ Some u → plain_of f ≡ u
 unfolding plain_of unescape pair_or
 plain_unescape [] e = some_inj e
 plain_unescape (c ∷ []) {u} e =
-    pick_either (λ (o : Option (List ℕ)). o ≡ some u → c ∷ [] ≡ u) (eqb c 92) _ _ (λ b q. no_some q) (λ n q. some_inj q) e
+    pick_either (λ (o : Option (List ℕ)). o ≡ Some u → c ∷ [] ≡ u) (eqb c 92) _ _ (λ b q. no_some q) (λ n q. some_inj q) e
 plain_unescape (c ∷ d ∷ s) {u} e =
     by_backslash c
-    (λ b. let q : onto (escaped d) (unescape s) ≡ some u = rw (eq-eqb c 92 b) at e in
+    (λ b. let q : onto (escaped d) (unescape s) ≡ Some u = rw (eq-eqb c 92 b) at e in
     let j = joined (escaped d) (unescape s) u q in
     rw (eq-eqb c 92 b, j.first) (ap (λ (x : List ℕ). j.head ∷ x) (plain_unescape s j.then) ∙ sym j.is))
-    (λ n. let q : onto (some c) (unescape (d ∷ s)) ≡ some u = rw (ne_eqb c 92 n) at e in
-    let j = joined (some c) (unescape (d ∷ s)) u q in
+    (λ n. let q : onto (Some c) (unescape (d ∷ s)) ≡ Some u = rw (ne_eqb c 92 n) at e in
+    let j = joined (Some c) (unescape (d ∷ s)) u q in
     rw (ne_eqb c 92 n)
     (ap (λ (x : List ℕ). c ∷ x) (plain_unescape (d ∷ s) j.then) ∙ ap (λ (x : ℕ). x ∷ j.tail) (some_inj j.first) ∙ sym j.is))
 
-pub content_of_lem : (f : List ℕ) {c : List ℕ} → content_of f ≡ some c → content_in f ≡ c
+pub content_of_lem : (f : List ℕ) {c : List ℕ} → content_of f ≡ Some c → content_in f ≡ c
 unfolding content_of content_in
 content_of_lem f {c} e = go (unescape f) refl e
   where
-    go : (o : Option (List ℕ)) → unescape f ≡ o → on_some chars o ≡ some c → chars (plain_of f) ≡ c
-    go none q e = unfold on_some in no_some e
-    go (some u) q e = unfold on_some in (rw (plain_unescape f q) (some_inj e))
+    go : (o : Option (List ℕ)) → unescape f ≡ o → on_some chars o ≡ Some c → chars (plain_of f) ≡ c
+    go None q e = unfold on_some in no_some e
+    go (Some u) q e = unfold on_some in (rw (plain_unescape f q) (some_inj e))
 
 -- ---- an escape is ASCII before and after, so that characters of several bytes stand as they are
 

@@ -3,7 +3,7 @@ use Prim.Native.Nat.{ℕ, zero, suc, ◌+◌, ◌≤◌}
 use mathlib.Core.Path.{◌≡◌, refl, sym, ap, ◌∙◌}
 use mathlib.Core.List.{List, [], ◌∷◌, ◌++◌}
 use mathlib.Core.Bool.{Bool, true, false, ◌&&◌, and-false}
-use mathlib.Core.Option.{Option, none, some}
+use Rattle.std.specs.Prelude.{Option, None, Some}
 use native.Mathlib.Omega.{arith}
 use lib.Dec.{eqb}
 use lib.ListN.{length, get_or}
@@ -25,8 +25,8 @@ use Rattle.content.proofs.Kept.{retain_front, Skipping, skip_other, skip_end}
 
 pair_join : (o : Option ℕ) (x y z : List ℕ) → pair_or o (x ++ z) (y ++ z) ≡ pair_or o x y ++ z
 unfolding pair_or
-pair_join none x y z = refl
-pair_join (some c) x y z = refl
+pair_join None x y z = refl
+pair_join (Some c) x y z = refl
 
 one_join : (b : ℕ) (q : List ℕ) → (b ≡ 92 → ⊥) → plain_of (b ∷ q) ≡ plain_of (b ∷ []) ++ plain_of q
 one_join b q n = plain_one b q n ∙ sym (ap (λ (x : List ℕ). x ++ plain_of q) (plain_one b [] n) ∙ unfold plain_of in refl)

@@ -3,7 +3,7 @@ use Prim.Native.Nat.{ℕ, ◌+◌, ◌≤◌, ◌<◌}
 use mathlib.Core.Path.{◌≡◌, refl, sym, ap, ◌∙◌}
 use mathlib.Core.List.{List, [], ◌∷◌, ◌++◌, append-nil, append_assoc}
 use mathlib.Core.Bool.{Bool, true, false}
-use mathlib.Core.Option.{Option, none, some}
+use Rattle.std.specs.Prelude.{Option, None, Some}
 use native.Mathlib.Omega.{arith}
 use lib.Dec.{eqb}
 use lib.ListN.{length, take, drop, length-append}
@@ -19,7 +19,7 @@ use Rattle.rules.proofs.Scalars.{Scalar, Scalars, scalars_none, scalars_more, ch
 use Rattle.rules.proofs.Encodes.{Spelled, spelled, encode_1, encode_chars, chars_encode, utf8_encode}
 use Rattle.rules.proofs.Escaped.{Highs, highs_none, highs_more, encode_highs, utf8_escape, utf8_unescape}
 use Rattle.utf8.specs.Reading.{char_of}
-use Rattle.utf8.proofs.Turns.{char_with}
+use Rattle.utf8.specs.Decoding.{char_with}
 use Rattle.content.specs.Contents.{plain_of, content_in, spell}
 use Rattle.content.specs.Readings.{pair_in, char_in}
 use Rattle.content.specs.Parts.{Field}
@@ -59,7 +59,7 @@ content_scalars f = chars_scalars (plain_of f)
 
 -- ---- fields and spellings
 
-pub spelled_back : (f : List ℕ) {u : List ℕ} → Without tab f → Without lf f → unescape f ≡ some u → is_utf8 f ≡ true → spell (content_in f) ≡ f
+pub spelled_back : (f : List ℕ) {u : List ℕ} → Without tab f → Without lf f → unescape f ≡ Some u → is_utf8 f ≡ true → spell (content_in f) ≡ f
 unfolding content_in
 spelled_back f {u} t l e w =
     rw (plain_unescape f e, encode_chars u (utf8_unescape f u w e)) (escape_unescape f t l e)
@@ -68,16 +68,16 @@ pub field_spell : {f : List ℕ} → Field f → spell (content_in f) ≡ f
 field_spell {f} h = go (unescape f) refl h.well
   where
     go : (o : Option (List ℕ)) → unescape f ≡ o → is_some o ≡ true → spell (content_in f) ≡ f
-    go none e q = unfold is_some in no_truth q
-    go (some u) e q = spelled_back f h.no_tab h.no_lf e h.utf8
+    go None e q = unfold is_some in no_truth q
+    go (Some u) e q = spelled_back f h.no_tab h.no_lf e h.utf8
 
 -- the bytes that a field stands for are UTF-8
 pub plain_utf8 : {f : List ℕ} → Field f → is_utf8 (plain_of f) ≡ true
 plain_utf8 {f} h = go (unescape f) refl h.well
   where
     go : (o : Option (List ℕ)) → unescape f ≡ o → is_some o ≡ true → is_utf8 (plain_of f) ≡ true
-    go none e q = unfold is_some in no_truth q
-    go (some u) e q = rw (plain_unescape f e) (utf8_unescape f u h.utf8 e)
+    go None e q = unfold is_some in no_truth q
+    go (Some u) e q = rw (plain_unescape f e) (utf8_unescape f u h.utf8 e)
 
 pub spell_field : {cs : List ℕ} → Scalars cs → Field (spell cs)
 unfolding is_some

@@ -3,7 +3,7 @@ use Prim.Native.Nat.{ℕ}
 use mathlib.Core.Path.{◌≡◌, refl, sym, ap, ◌∙◌}
 use mathlib.Core.List.{List, [], ◌∷◌, ◌++◌}
 use mathlib.Core.Bool.{Bool, true, false, ◌&&◌, ◌||◌}
-use mathlib.Core.Option.{none, some}
+use Rattle.std.specs.Prelude.{None, Some}
 use native.Mathlib.Omega.{arith}
 use lib.Dec.{eqb}
 use borrow.Author.Tests.{eqb-true, eqb-false, ne_eqb}
@@ -133,16 +133,16 @@ split_name xs s ys t h =
 
 -- ---- references
 
-pub parse_plain : (n : List ℕ) → is_path n ≡ false → parse_reference n ≡ none
+pub parse_plain : (n : List ℕ) → is_path n ≡ false → parse_reference n ≡ None
 unfolding parse_reference
 parse_plain n e = rw e
 
-parts_end : (ps : List (List ℕ)) (q : List ℕ) → reference_parts (ps ++ (q ∷ [])) ≡ pick (is_empty q) none (some (record { components = ps; name = q }))
+parts_end : (ps : List (List ℕ)) (q : List ℕ) → reference_parts (ps ++ (q ∷ [])) ≡ pick (is_empty q) None (Some (record { components = ps; name = q }))
 unfolding reference_parts
 parts_end ps q = rw (last_end ps q, front_end ps q)
 
 pub parse_parts : (n : List ℕ) (ps : List (List ℕ)) (q : List ℕ) → is_path n ≡ true → split_at slash (each as_slash n) ≡ ps ++ (q ∷ [])
-    → parse_reference n ≡ pick (is_empty q) none (some (record { components = ps; name = q }))
+    → parse_reference n ≡ pick (is_empty q) None (Some (record { components = ps; name = q }))
 unfolding parse_reference
 parse_parts n ps q t e = rw (t, e) (parts_end ps q)
 

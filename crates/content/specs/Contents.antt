@@ -1,6 +1,5 @@
 -- The content of a field that stands escaped in a sheet, as it is read character by character.
-use Rattle.std.specs.Prelude.{ℕ, List, [], ◌∷◌, eqb}
-use Rattle.std.proofs.Math.Option.{Option, none, some}
+use Rattle.std.specs.Prelude.{ℕ, List, [], ◌∷◌, eqb, Option, None, Some}
 use Rattle.rules.specs.Basic.{pick, backslash}
 use Rattle.rules.specs.Sheet.{escaped, escape}
 use Rattle.rules.specs.Text.{retain}
@@ -8,8 +7,8 @@ use Rattle.rules.specs.Utf8.{chars, encode}
 
 -- the bytes that a field stands for; a backslash that escapes nothing stands for itself
 unfoldable pub pair_or : Option ℕ → List ℕ → List ℕ → List ℕ
-pair_or none plain s = backslash ∷ s
-pair_or (some x) plain s = x ∷ plain
+pair_or None plain s = backslash ∷ s
+pair_or (Some x) plain s = x ∷ plain
 
 unfoldable pub plain_of : List ℕ → List ℕ
 plain_of [] = []

@@ -1,6 +1,5 @@
 -- The path in a field before a name, and where the name starts.
-use Rattle.std.specs.Prelude.{ℕ, ◌≤◌, ◌<◌, ◌≡◌, Bool, true, false, List, [], ◌∷◌, ◌++◌, eqb, length, take, drop}
-use Rattle.std.proofs.Math.Option.{none, some}
+use Rattle.std.specs.Prelude.{ℕ, ◌≤◌, ◌<◌, ◌≡◌, Bool, true, false, List, [], ◌∷◌, ◌++◌, eqb, length, take, drop, None, Some}
 use Rattle.rules.specs.Basic.{pick, slash, join_by, on_some, each}
 use Rattle.rules.specs.Model.{as_slash, parse_reference, name_of, path_of}
 use Rattle.rules.proofs.Fields.{Without}
@@ -35,4 +34,4 @@ pub record NameAt (f : List ℕ) (p : NamePlace) : Type 0 where
   pub path_cut : CutAt f p.end
   pub name_cut : CutAt f p.start
   pub name : kept_in (drop p.start f) ≡ name_of (kept_in f) (parse_reference (kept_in f))
-  pub path : on_some (join_by slash) (path_of (parse_reference (kept_in f))) ≡ pick (eqb p.start 0) none (some (each as_slash (kept_in (take p.end f))))
+  pub path : on_some (join_by slash) (path_of (parse_reference (kept_in f))) ≡ pick (eqb p.start 0) None (Some (each as_slash (kept_in (take p.end f))))

@@ -1,6 +1,5 @@
 -- What the characters that are read stand for.
-use Rattle.std.specs.Prelude.{ℕ, Bool, not, ◌&&◌, List, [], ◌∷◌, eqb, ltb}
-use Rattle.std.proofs.Math.Option.{Option, none, some}
+use Rattle.std.specs.Prelude.{ℕ, Bool, not, ◌&&◌, List, [], ◌∷◌, eqb, ltb, Option, None, Some}
 use Rattle.rules.specs.Basic.{pick, backslash, blank}
 use Rattle.rules.specs.Sheet.{escaped}
 use Rattle.utf8.specs.declared.Char.{Char}
@@ -8,8 +7,8 @@ use Rattle.utf8.specs.Reading.{char_of}
 
 -- a backslash before what stands for a character, or alone
 unfoldable pub pair_in : Option ℕ → Char
-pair_in none = record { code = backslash; size = 1 }
-pair_in (some x) = record { code = x; size = 2 }
+pair_in None = record { code = backslash; size = 1 }
+pair_in (Some x) = record { code = x; size = 2 }
 
 -- the character that a field starts with, and how many bytes of the field it takes
 unfoldable pub char_in : List ℕ → Char

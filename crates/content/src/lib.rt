@@ -13,12 +13,6 @@ ghost use Rattle.content.specs.Names.{is_separator, separator_first, Separated, 
 
 use utf8::Char;
 
-fn wide(b: u8) -> u32
-    ensures { result ≡ b }
-{
-    b as u32
-}
-
 // The character that the backslash at a place starts.
 fn escape_at(f: &[u8], at: usize) -> Char
     requires { (at < length f.now) × (get_or f.now at 0 ≡ 92) }
@@ -28,12 +22,11 @@ fn escape_at(f: &[u8], at: usize) -> Char
     if f.len() <= j {
         return Char { code: 92, size: 1 };
     }
-    let e = sheet::letter(f[j]);
-    if e == 0 {
+    let Some(e) = sheet::letter(f[j]) else {
         return Char { code: 92, size: 1 };
-    }
+    };
     Char {
-        code: wide(e),
+        code: e as u32,
         size: 2,
     }
 }
@@ -47,7 +40,7 @@ pub fn char_in(f: &[u8], at: usize) -> Char
     if a < 0x80 {
         if a != b'\\' {
             return Char {
-                code: wide(a),
+                code: a as u32,
                 size: 1,
             };
         }
@@ -96,14 +89,11 @@ pub fn kept_char(f: &[u8], at: usize) -> Char
     if 0x80 <= a {
         return utf8::char_at(f, at);
     }
-    if a == b'\\' {
-        return any_kept(f, at);
-    }
-    if a == b' ' {
+    if a == b'\\' || a == b' ' {
         return any_kept(f, at);
     }
     Char {
-        code: wide(a),
+        code: a as u32,
         size: 1,
     }
 }
@@ -200,20 +190,13 @@ pub fn same_parts(f: &[u8], g: &[u8]) -> bool
 fn is_separator(c: u32) -> bool
     ensures { result ≡ is_separator c }
 {
-    if c == 92 {
-        return true;
-    }
-    c == 47
+    c == 92 || c == 47
 }
 
 fn separator_at(f: &[u8], at: usize) -> bool
     ensures { result ≡ separator_first (content_in (drop at f.now)) }
 {
-    if f.len() <= at {
-        return false;
-    }
-    let c = char_in(f, at);
-    is_separator(c.code)
+    at < f.len() && is_separator(char_in(f, at).code)
 }
 
 // Whether a name starts as a path does: with one or two points and a separator.

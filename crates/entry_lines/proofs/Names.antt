@@ -1,7 +1,6 @@
 -- The name of an entry and its path, from the trimmed name of its line.
 use Prim.Native.Nat.{ℕ, ◌+◌, ◌-◌, ◌≤◌, ◌<◌}
 use mathlib.Core.Path.{◌≡◌, refl, ap, ◌∙◌}
-use mathlib.Core.Bool.{Bool, true, false}
 use mathlib.Core.List.{List, [], ◌∷◌}
 use native.Mathlib.Omega.{arith}
 use borrow.Author.Tests.{eq-eqb, ne_eqb}
@@ -24,15 +23,17 @@ use Rattle.content.proofs.Cuts.{cut_front, cut_back_lem}
 use Rattle.text.specs.Paths.{path_bytes}
 use Rattle.text.proofs.Writes.{kept_spelled}
 use Rattle.text.proofs.Paths.{field_path}
-use Rattle.lookup.specs.Names.{kind_of}
 use Rattle.page_fields.proofs.Contents.{field_some}
+use Rattle.model.specs.declared.Kind as model
+use Rattle.model.specs.declared.Kind.TheVariants.{Ingredient, Cookware}
+use Rattle.model.specs.Kinds.{kind_of}
 use Rattle.entry_lines.specs.Lines.{path_fields, Placed}
 
 -- ---- where the name stands
 
-pub placed_ingredient : {b : Bool} {w : List ℕ} {p : NamePlace} → b ≡ true → NameAt w p → Placed (kind_of b) w p
+pub placed_ingredient : {k : model.Kind} {w : List ℕ} {p : NamePlace} → k ≡ Ingredient → NameAt w p → Placed (kind_of k) w p
 unfolding reference_in
-placed_ingredient {b} {w} {p} e z =
+placed_ingredient {k} {w} {p} e z =
     rw e
     record {
       order = z.order;
@@ -43,12 +44,12 @@ placed_ingredient {b} {w} {p} e z =
       path = z.path;
     }
 
-pub placed_cookware : {b : Bool} (w : List ℕ) → b ≡ false → Placed (kind_of b) w (record { end = 0; start = 0 })
+pub placed_cookware : {k : model.Kind} (w : List ℕ) → k ≡ Cookware → Placed (kind_of k) w (record { end = 0; start = 0 })
 unfolding reference_in name_of path_of on_some
 placed_cookware w e =
     rw e record { order = omega arith; most = omega arith; name_field = λ h. h; name = refl; path_field = λ h. field_none; path = refl }
 
-pub placed_own : {b : Bool} {w : List ℕ} {p : NamePlace} → b ≡ true → Placed (kind_of b) w p → Placed ingredient w p
+pub placed_own : {k : model.Kind} {w : List ℕ} {p : NamePlace} → k ≡ Ingredient → Placed (kind_of k) w p → Placed ingredient w p
 placed_own e z = rw e at z
 
 pub path_most : {k : Kind} {w : List ℕ} {p : NamePlace} → Placed k w p → p.end ≤ length w
@@ -77,15 +78,15 @@ module _ {w : List ℕ} {p : NamePlace} (h : Field w) (z : Placed ingredient w p
   path_some e x y =
       rw (z.path, ne_eqb p.start 0 e, field_some (each as_slash (kept_in (take p.end w)))) (put_seq x (rw (field_path (z.path_field h)) at y))
 
-module _ {b : Bool} {o₀ : List ℕ} {at : ℕ} (w : List ℕ) where
-  pub path_ingredient : {o : List ℕ} {r : ℕ} → b ≡ true → Put (tabbed (path_fields ingredient (path_of (reference_in ingredient (kept_in w))))) o₀ at o r
-      → Put (tabbed (path_fields (kind_of b) (path_of (reference_in (kind_of b) (kept_in w))))) o₀ at o r
+module _ {k : model.Kind} {o₀ : List ℕ} {at : ℕ} (w : List ℕ) where
+  pub path_ingredient : {o : List ℕ} {r : ℕ} → k ≡ Ingredient → Put (tabbed (path_fields ingredient (path_of (reference_in ingredient (kept_in w))))) o₀ at o r
+      → Put (tabbed (path_fields (kind_of k) (path_of (reference_in (kind_of k) (kept_in w))))) o₀ at o r
   path_ingredient e x = rw e x
 
-  pub path_cookware : b ≡ false → at ≤ length o₀ → Put (tabbed (path_fields (kind_of b) (path_of (reference_in (kind_of b) (kept_in w))))) o₀ at o₀ at
+  pub path_cookware : k ≡ Cookware → at ≤ length o₀ → Put (tabbed (path_fields (kind_of k) (path_of (reference_in (kind_of k) (kept_in w))))) o₀ at o₀ at
   unfolding path_fields tabbed
   path_cookware e l = rw e (ends_in starts l)
 
-  pub path_past : b ≡ false → length o₀ < at → Put (tabbed (path_fields (kind_of b) (path_of (reference_in (kind_of b) (kept_in w))))) o₀ at o₀ (length o₀ + 1)
+  pub path_past : k ≡ Cookware → length o₀ < at → Put (tabbed (path_fields (kind_of k) (path_of (reference_in (kind_of k) (kept_in w))))) o₀ at o₀ (length o₀ + 1)
   unfolding path_fields tabbed
   path_past e l = rw e (ends_out starts l)

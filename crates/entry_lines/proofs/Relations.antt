@@ -1,4 +1,5 @@
 -- The relation of an entry.
+use Rattle.std.specs.Prelude.{None, Option, Some}
 use Prim.Native.Nat.{ℕ, ◌+◌, ◌-◌, ◌/◌, ◌%◌, ◌≤◌, ◌<◌}
 use mathlib.Core.Path.{◌≡◌, refl, ap, ◌∙◌}
 use mathlib.Core.Bool.{Bool, true, false}
@@ -18,26 +19,27 @@ use Rattle.model.specs.declared.Target.{Target}
 use Rattle.model.specs.declared.Target.TheVariants.{Ingredient, Step, Section}
 use Rattle.model.specs.declared.Relation.TheVariants.{Definition, Reference}
 use Rattle.model.specs.declared.RelationRecord.{RelationRecord}
-use Rattle.model.specs.declared.Next.{Next}
-use Rattle.model.specs.declared.Next.TheVariants.{Referrer, NoMore}
 use Rattle.model.specs.Rows.{referrers_in, referrers_from, relation_as, relation_in}
 use Rattle.model.specs.Searches.{NextAs, NextReferrer}
 use Rattle.model.proofs.Searches.{referrers_oldest}
-use Rattle.lookup.specs.Names.{kind_of}
 use Rattle.page_fields.proofs.Letters.{escape_both}
+use Rattle.model.specs.declared.Kind as model
+use Rattle.model.specs.declared.Kind.TheVariants as kind
+use Rattle.model.specs.Kinds.{kind_of}
 use Rattle.entry_lines.specs.Lines.{kind_word, target_in, comma_each}
 
 -- ---- words
 
-module _ {b : Bool} {o₀ o : List ℕ} {at r : ℕ} where
-  pub word_ingredient : b ≡ true → Put (codes "ingredient") o₀ at o r → Put (kind_word (kind_of b)) o₀ at o r
+module _ {k : model.Kind} {o₀ o : List ℕ} {at r : ℕ} where
+  pub word_ingredient : k ≡ kind.Ingredient → Put (codes "ingredient") o₀ at o r → Put (kind_word (kind_of k)) o₀ at o r
   unfolding kind_word target_word target_of
   word_ingredient e x = rw e x
 
-  pub word_cookware : b ≡ false → Put (codes "cookware") o₀ at o r → Put (kind_word (kind_of b)) o₀ at o r
+  pub word_cookware : k ≡ kind.Cookware → Put (codes "cookware") o₀ at o r → Put (kind_word (kind_of k)) o₀ at o r
   unfolding kind_word target_word target_of
   word_cookware e x = rw e x
 
+module _ {b : Bool} {o₀ o : List ℕ} {at r : ℕ} where
   pub place_step : b ≡ true → Put (tabbed (codes "step" ∷ [])) o₀ at o r → Put (tabbed (pick b (codes "step") (codes "list") ∷ [])) o₀ at o r
   place_step e x = rw e x
 
@@ -94,18 +96,18 @@ some_decimal n s = some_either (ltb n 10) (48 + n) (48 + n % 10) (digits 9 (n / 
 
 -- ---- the loop over the pairs
 
-pub turn_more : {pairs : List ℕ} {m d i : ℕ} {x : Next} {n next : ℕ} → NextReferrer pairs m d i x → x ≡ Referrer n next
+pub turn_more : {pairs : List ℕ} {m d i : ℕ} {x : Option (ℕ × ℕ)} {n next : ℕ} → NextReferrer pairs m d i x → x ≡ Some (n, next)
     → comma_each (referrers_from pairs d i (m - i)) ≡ (comma ∷ []) ++ (decimal n ++ comma_each (referrers_from pairs d next (m - next)))
 unfolding comma_each
-turn_more {pairs} {m} {d} {i} {x} {n} {next} q e = let z : NextAs pairs m d i (Referrer n next) = (let y = q.is in rw e at y) in rw z.2
+turn_more {pairs} {m} {d} {i} {x} {n} {next} q e = let z : NextAs pairs m d i (Some (n, next)) = (let y = q.is in rw e at y) in rw z.2
 
-pub turn_none : {pairs : List ℕ} {m d i : ℕ} {x : Next} → NextReferrer pairs m d i x → x ≡ NoMore → comma_each (referrers_from pairs d i (m - i)) ≡ []
+pub turn_none : {pairs : List ℕ} {m d i : ℕ} {x : Option (ℕ × ℕ)} → NextReferrer pairs m d i x → x ≡ None → comma_each (referrers_from pairs d i (m - i)) ≡ []
 unfolding comma_each
-turn_none {pairs} {m} {d} {i} q e = let z : NextAs pairs m d i NoMore = (let y = q.is in rw e at y) in rw z
+turn_none {pairs} {m} {d} {i} q e = let z : NextAs pairs m d i None = (let y = q.is in rw e at y) in rw z
 
-pub next_later : {pairs : List ℕ} {m d i : ℕ} {x : Next} {n next : ℕ} → NextReferrer pairs m d i x → x ≡ Referrer n next → m - next < m - i
+pub next_later : {pairs : List ℕ} {m d i : ℕ} {x : Option (ℕ × ℕ)} {n next : ℕ} → NextReferrer pairs m d i x → x ≡ Some (n, next) → m - next < m - i
 next_later {pairs} {m} {d} {i} {x} {n} {next} q e =
-    let z : NextAs pairs m d i (Referrer n next) = (let y = q.is in rw e at y) in
+    let z : NextAs pairs m d i (Some (n, next)) = (let y = q.is in rw e at y) in
     let a : i < next = z.0 in
     let b : next ≤ m = z.1 in
     omega arith
@@ -116,16 +118,16 @@ oldest : (pairs : List ℕ) (d m : ℕ) → reverse (referrers_in pairs d m) ≡
 unfolding referrers
 oldest pairs d m = let e : m - 0 ≡ m = omega arith in referrers_oldest pairs d m true ∙ rw e
 
-module _ {pairs : List ℕ} {m d : ℕ} {x : Next} (q : NextReferrer pairs m d 0 x) {o₀ o₁ : List ℕ} {at n : ℕ} (p : Put (tab ∷ []) o₀ at o₁ n) where
-  pub referrers_none : {o : List ℕ} {r : ℕ} → x ≡ NoMore → Put (codes "-") o₁ n o r → Put (tabbed (or_minus (join_by comma (each decimal (reverse (referrers_in pairs d m)))) ∷ [])) o₀ at o r
+module _ {pairs : List ℕ} {m d : ℕ} {x : Option (ℕ × ℕ)} (q : NextReferrer pairs m d 0 x) {o₀ o₁ : List ℕ} {at n : ℕ} (p : Put (tab ∷ []) o₀ at o₁ n) where
+  pub referrers_none : {o : List ℕ} {r : ℕ} → x ≡ None → Put (codes "-") o₁ n o r → Put (tabbed (or_minus (join_by comma (each decimal (reverse (referrers_in pairs d m)))) ∷ [])) o₀ at o r
   referrers_none e y =
-      let z : NextAs pairs m d 0 NoMore = (let w = q.is in rw e at w) in
+      let z : NextAs pairs m d 0 None = (let w = q.is in rw e at w) in
       let k : or_minus (join_by comma (each decimal (reverse (referrers_in pairs d m)))) ≡ codes "-" = ap (λ (l : List ℕ). or_minus (join_by comma (each decimal l))) (oldest pairs d m ∙ z) ∙ (unfold each join_by or_minus in refl) in
       rw (k, tabbed_one (codes "-")) (unfold escape escape_char in put_seq p y)
 
-  pub referrers_some : {o₂ o : List ℕ} {l r f next : ℕ} → x ≡ Referrer f next → Put (decimal f) o₁ n o₂ l → Put (comma_each (referrers_from pairs d next (m - next))) o₂ l o r → Put (tabbed (or_minus (join_by comma (each decimal (reverse (referrers_in pairs d m)))) ∷ [])) o₀ at o r
+  pub referrers_some : {o₂ o : List ℕ} {l r f next : ℕ} → x ≡ Some (f, next) → Put (decimal f) o₁ n o₂ l → Put (comma_each (referrers_from pairs d next (m - next))) o₂ l o r → Put (tabbed (or_minus (join_by comma (each decimal (reverse (referrers_in pairs d m)))) ∷ [])) o₀ at o r
   referrers_some {o₂} {o} {l} {r} {f} {next} e y s =
-      let z : NextAs pairs m d 0 (Referrer f next) = (let w = q.is in rw e at w) in
+      let z : NextAs pairs m d 0 (Some (f, next)) = (let w = q.is in rw e at w) in
       let rest : List ℕ = comma_each (referrers_from pairs d next (m - next)) in
       let k : or_minus (join_by comma (each decimal (reverse (referrers_in pairs d m)))) ≡ decimal f ++ rest =
       ap (λ (i : List ℕ). or_minus (join_by comma (each decimal i))) (oldest pairs d m ∙ z.2) ∙ ap or_minus (comma_each_lem f (referrers_from pairs d next (m - next))) ∙ some_decimal f rest in

@@ -1,6 +1,5 @@
 -- The lines of ingredients and of cookware, as one writer has them.
-use Rattle.std.specs.Prelude.{ℕ, ◌≤◌, ◌≡◌, true, List, [], ◌∷◌, ◌++◌, eqb, length, take, drop}
-use Rattle.std.proofs.Math.Option.{Option, none, some}
+use Rattle.std.specs.Prelude.{ℕ, ◌≤◌, ◌≡◌, true, List, [], ◌∷◌, ◌++◌, eqb, length, take, drop, Option, None, Some}
 use Rattle.rules.specs.Basic.{pick, comma, slash, decimal, join_by, each, on_some}
 use Rattle.rules.specs.Utf8.{encode}
 use Rattle.rules.specs.Event.{Component, Modifiers}
@@ -56,4 +55,4 @@ pub record Placed (k : Kind) (w : List ℕ) (p : NamePlace) : Type 0 where
   pub name_field : Field w → Field (drop p.start w)
   pub name : kept_in (drop p.start w) ≡ name_of (kept_in w) (reference_in k (kept_in w))
   pub path_field : Field w → Field (take p.end w)
-  pub path : on_some (join_by slash) (path_of (reference_in k (kept_in w))) ≡ pick (eqb p.start 0) none (some (each as_slash (kept_in (take p.end w))))
+  pub path : on_some (join_by slash) (path_of (reference_in k (kept_in w))) ≡ pick (eqb p.start 0) None (Some (each as_slash (kept_in (take p.end w))))

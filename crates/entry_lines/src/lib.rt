@@ -5,7 +5,7 @@ ghost use Rattle.std.specs.Prelude.{◌≡◌, true, [], ◌∷◌, reverse, ◌
 ghost use Rattle.rules.specs.Basic.{pick, codes, comma, lf, decimal, join_by, each};
 ghost use Rattle.rules.specs.Utf8.{encode};
 ghost use Rattle.rules.specs.Read.{parse_line};
-ghost use Rattle.rules.specs.Model.{ingredient, cookware, name_of, path_of, reference_in, definition, reference};
+ghost use Rattle.rules.specs.Model.{ingredient, cookware, is_ingredient, name_of, path_of, reference_in, definition, reference};
 ghost use Rattle.rules.specs.Page.{or_minus, target_word, relation_fields, ingredient_line, cookware_line, table_lines};
 ghost use Rattle.rules.specs.State.{table_of};
 ghost use Rattle.rules.proofs.Fields.{Without};
@@ -19,33 +19,33 @@ ghost use Rattle.model.specs.Rows as model;
 ghost use Rattle.model.specs.Rows.{referrers_in, referrers_from, relation_in, entry_in, entries_in, component_of_line};
 ghost use Rattle.model.specs.Memory.{state_in, Sound};
 ghost use Rattle.model.specs.Fits.{is_of_kind, AllFit};
-ghost use Rattle.lookup.specs.Names.{kind_of};
+ghost use Rattle.model.specs.Kinds.{kind_of};
 ghost use Rattle.entry_lines.specs.Lines.{kind_word, target_in, entry_line, comma_each, path_fields, own_fields, marked_entry, Placed};
 ghost use Rattle.entry_lines.specs.Ready.{RowReady, TableReady};
 
 use components::{ComponentView, Modifiers};
 use content::NamePlace;
-use model::{Held, Next, Relation, RelationRecord, Row, Target};
+use model::{Held, Kind, Relation, RelationRecord, Row, Target};
 
 // ---- relations
 
 // `ingredient` or `cookware`.
-fn put_word(out: &mut [u8], at: usize, is_ingredient: bool) -> usize
-    ensures { Put (kind_word (kind_of is_ingredient)) out.old at out.new result }
+fn put_word(out: &mut [u8], at: usize, kind: Kind) -> usize
+    ensures { Put (kind_word (kind_of kind)) out.old at out.new result }
 {
-    if is_ingredient {
-        return output::put_bytes(out, at, b"ingredient");
+    match kind {
+        Kind::Ingredient => output::put_bytes(out, at, b"ingredient"),
+        Kind::Cookware => output::put_bytes(out, at, b"cookware"),
     }
-    output::put_bytes(out, at, b"cookware")
 }
 
-fn put_target(out: &mut [u8], at: usize, t: Target, is_ingredient: bool) -> usize
-    ensures { Put (tabbed (target_word (target_in (kind_of is_ingredient) t) ∷ [])) out.old at out.new result }
+fn put_target(out: &mut [u8], at: usize, t: Target, kind: Kind) -> usize
+    ensures { Put (tabbed (target_word (target_in (kind_of kind) t) ∷ [])) out.old at out.new result }
 {
     match t {
         Target::Ingredient => {
             let n = output::put_byte(out, at, b'\t');
-            put_word(out, n, is_ingredient)
+            put_word(out, n, kind)
         }
         Target::Step => output::put_field(out, at, b"step"),
         Target::Section => output::put_field(out, at, b"section"),
@@ -53,11 +53,11 @@ fn put_target(out: &mut [u8], at: usize, t: Target, is_ingredient: bool) -> usiz
 }
 
 // `ref`, target, index.
-fn put_reference(out: &mut [u8], at: usize, t: Target, index: u32, is_ingredient: bool) -> usize
-    ensures { Put (tabbed (relation_fields (reference (target_in (kind_of is_ingredient) t) index))) out.old at out.new result }
+fn put_reference(out: &mut [u8], at: usize, t: Target, index: u32, kind: Kind) -> usize
+    ensures { Put (tabbed (relation_fields (reference (target_in (kind_of kind) t) index))) out.old at out.new result }
 {
     let a = output::put_field(out, at, b"ref");
-    let b = put_target(out, a, t, is_ingredient);
+    let b = put_target(out, a, t, kind);
     output::put_number(out, b, index)
 }
 
@@ -80,13 +80,13 @@ fn put_more(out: &mut [u8], at: usize, pairs: &[u32], m: usize, d: u32, from: us
     let mut i = from;
     loop {
         match model::next_referrer(pairs, m, d, i) {
-            Next::NoMore => {
+            None => {
                 if n <= out.len() {
                     return n;
                 }
                 return out.len() + 1;
             }
-            Next::Referrer(r, next) => {
+            Some((r, next)) => {
                 let a = output::put_byte(out, n, b',');
                 n = output::put_decimal(out, a, r);
                 i = next;
@@ -102,8 +102,8 @@ fn put_referrers(out: &mut [u8], at: usize, pairs: &[u32], m: usize, d: u32) -> 
 {
     let n = output::put_byte(out, at, b'\t');
     match model::next_referrer(pairs, m, d, 0) {
-        Next::NoMore => output::put_byte(out, n, b'-'),
-        Next::Referrer(r, next) => {
+        None => output::put_byte(out, n, b'-'),
+        Some((r, next)) => {
             let a = output::put_decimal(out, n, r);
             put_more(out, a, pairs, m, d, next)
         }
@@ -135,33 +135,33 @@ pub fn put_relation(
     m: usize,
     r: RelationRecord,
     index: u32,
-    is_ingredient: bool,
+    kind: Kind,
 ) -> usize
     requires { (m ≤ 513) × (m * 2 ≤ length pairs.now) }
-    ensures { Put (tabbed (relation_fields (relation_in (kind_of is_ingredient) r (referrers_in pairs.now index m)))) out.old at out.new result }
+    ensures { Put (tabbed (relation_fields (relation_in (kind_of kind) r (referrers_in pairs.now index m)))) out.old at out.new result }
 {
     let relation = r.relation;
     match relation {
         Relation::Definition => put_definition(out, at, pairs, m, r.in_step, index),
-        Relation::Reference(t) => put_reference(out, at, t, r.index, is_ingredient),
+        Relation::Reference(t) => put_reference(out, at, t, r.index, kind),
     }
 }
 
 // ---- names and paths
 
 // Where the path before a name ends, and where the name starts.
-fn place_in(w: &[u8], is_ingredient: bool) -> NamePlace
-    ensures { Placed (kind_of is_ingredient) w.now result }
+fn place_in(w: &[u8], kind: Kind) -> NamePlace
+    ensures { Placed (kind_of kind) w.now result }
 {
-    if is_ingredient {
-        return content::name_place(w);
+    match kind {
+        Kind::Ingredient => content::name_place(w),
+        Kind::Cookware => NamePlace { end: 0, start: 0 },
     }
-    NamePlace { end: 0, start: 0 }
 }
 
-fn put_name(out: &mut [u8], at: usize, w: &[u8], p: NamePlace, is_ingredient: bool) -> usize
-    requires { Field w.now × Placed (kind_of is_ingredient) w.now p }
-    ensures { Put (tabbed (encode (name_of (kept_in w.now) (reference_in (kind_of is_ingredient) (kept_in w.now))) ∷ [])) out.old at out.new result }
+fn put_name(out: &mut [u8], at: usize, w: &[u8], p: NamePlace, kind: Kind) -> usize
+    requires { Field w.now × Placed (kind_of kind) w.now p }
+    ensures { Put (tabbed (encode (name_of (kept_in w.now) (reference_in (kind_of kind) (kept_in w.now))) ∷ [])) out.old at out.new result }
 {
     let n = output::put_byte(out, at, b'\t');
     let start = p.start;
@@ -183,17 +183,27 @@ fn put_ingredient_path(out: &mut [u8], at: usize, w: &[u8], p: NamePlace) -> usi
 }
 
 // An ingredient's path; cookware has none.
-fn put_path(out: &mut [u8], at: usize, w: &[u8], p: NamePlace, is_ingredient: bool) -> usize
-    requires { Field w.now × Placed (kind_of is_ingredient) w.now p }
-    ensures { Put (tabbed (path_fields (kind_of is_ingredient) (path_of (reference_in (kind_of is_ingredient) (kept_in w.now))))) out.old at out.new result }
+fn put_path(out: &mut [u8], at: usize, w: &[u8], p: NamePlace, kind: Kind) -> usize
+    requires { Field w.now × Placed (kind_of kind) w.now p }
+    ensures { Put (tabbed (path_fields (kind_of kind) (path_of (reference_in (kind_of kind) (kept_in w.now))))) out.old at out.new result }
 {
-    if is_ingredient {
-        return put_ingredient_path(out, at, w, p);
+    match kind {
+        Kind::Ingredient => put_ingredient_path(out, at, w, p),
+        Kind::Cookware => { if at <= out.len() { at } else { out.len() + 1 } }
     }
-    if at <= out.len() { at } else { out.len() + 1 }
 }
 
 // ---- lines
+
+#[tactic(auto, unfolding(rules::specs::Model::is_ingredient))]
+fn is_ingredient(kind: Kind) -> bool
+    ensures { result ≡ is_ingredient (kind_of kind) }
+{
+    match kind {
+        Kind::Ingredient => true,
+        Kind::Cookware => false,
+    }
+}
 
 // The fields of a component between its index and its relation.
 fn put_own(
@@ -203,10 +213,10 @@ fn put_own(
     line: &[u8],
     v: ComponentView,
     marks: Modifiers,
-    is_ingredient: bool,
+    kind: Kind,
 ) -> usize
     requires { (t.now ≡ unicode_tables) × ComponentFields line.now v }
-    ensures { Put (tabbed (own_fields (kind_of is_ingredient) (marked_entry (kind_of is_ingredient) (modifiers_in marks) (component_in line.now v)))) out.old at out.new result }
+    ensures { Put (tabbed (own_fields (kind_of kind) (marked_entry (kind_of kind) (modifiers_in marks) (component_in line.now v)))) out.old at out.new result }
 {
     let name = v.name;
     let alias = v.alias;
@@ -214,12 +224,12 @@ fn put_own(
     let note = v.note;
     let f = parts::part_of(line, name.content);
     let w = text::text_outer_trimmed(t, f);
-    let p = place_in(w, is_ingredient);
-    let a = put_name(out, at, w, p, is_ingredient);
+    let p = place_in(w, kind);
+    let a = put_name(out, at, w, p, kind);
     let b = page_fields::put_optional(t, out, a, line, alias);
-    let c = page_fields::put_amount(t, out, b, line, quantity, is_ingredient);
+    let c = page_fields::put_amount(t, out, b, line, quantity, is_ingredient(kind));
     let d = page_fields::put_optional(t, out, c, line, note);
-    let e = put_path(out, d, w, p, is_ingredient);
+    let e = put_path(out, d, w, p, kind);
     page_fields::put_modifiers(out, e, marks)
 }
 
@@ -230,13 +240,13 @@ fn put_component(
     at: usize,
     line: &[u8],
     marks: Modifiers,
-    is_ingredient: bool,
+    kind: Kind,
 ) -> usize
-    requires { (t.now ≡ unicode_tables) × (is_of_kind (kind_of is_ingredient) (parse_line line.now) ≡ true) × Without lf line.now }
-    ensures { Put (tabbed (own_fields (kind_of is_ingredient) (marked_entry (kind_of is_ingredient) (modifiers_in marks) (component_of_line (kind_of is_ingredient) line.now)))) out.old at out.new result }
+    requires { (t.now ≡ unicode_tables) × (is_of_kind (kind_of kind) (parse_line line.now) ≡ true) × Without lf line.now }
+    ensures { Put (tabbed (own_fields (kind_of kind) (marked_entry (kind_of kind) (modifiers_in marks) (component_of_line (kind_of kind) line.now)))) out.old at out.new result }
 {
     let v = recall::component_in(line);
-    put_own(t, out, at, line, v, marks, is_ingredient)
+    put_own(t, out, at, line, v, marks, kind)
 }
 
 // The modifiers that the pass left to a row.
@@ -261,11 +271,11 @@ fn entry_line(
     pairs: &[u32],
     m: usize,
     i: usize,
-    is_ingredient: bool,
+    kind: Kind,
     rest: &mut [u8],
 ) -> usize
-    requires { (t.now ≡ unicode_tables) × RowReady (kind_of is_ingredient) sheet.now rows.now pairs.now m i }
-    ensures { Put (entry_line (kind_of is_ingredient) i (entry_in (kind_of is_ingredient) sheet.now rows.now pairs.now m i)) rest.old 0 rest.new result }
+    requires { (t.now ≡ unicode_tables) × RowReady (kind_of kind) sheet.now rows.now pairs.now m i }
+    ensures { Put (entry_line (kind_of kind) i (entry_in (kind_of kind) sheet.now rows.now pairs.now m i)) rest.old 0 rest.new result }
 {
     let row = model::row_at(rows, i);
     let from = row.line_at as usize;
@@ -273,10 +283,10 @@ fn entry_line(
     let relation = row.relation;
     let marks = marks_of(row);
     let index = i as u32;
-    let a = put_word(rest, 0, is_ingredient);
+    let a = put_word(rest, 0, kind);
     let b = output::put_number(rest, a, index);
-    let c = put_component(t, rest, b, &sheet[from..to], marks, is_ingredient);
-    let d = put_relation(rest, c, pairs, m, relation, index, is_ingredient);
+    let c = put_component(t, rest, b, &sheet[from..to], marks, kind);
+    let d = put_relation(rest, c, pairs, m, relation, index, kind);
     output::put_byte(rest, d, b'\n')
 }
 
@@ -288,17 +298,17 @@ fn put_entry(
     pairs: &[u32],
     m: usize,
     i: usize,
-    is_ingredient: bool,
+    kind: Kind,
     out: &mut [u8],
     at: usize,
 ) -> usize
-    requires { (t.now ≡ unicode_tables) × RowReady (kind_of is_ingredient) sheet.now rows.now pairs.now m i }
-    ensures { Put (entry_line (kind_of is_ingredient) i (entry_in (kind_of is_ingredient) sheet.now rows.now pairs.now m i)) out.old at out.new result }
+    requires { (t.now ≡ unicode_tables) × RowReady (kind_of kind) sheet.now rows.now pairs.now m i }
+    ensures { Put (entry_line (kind_of kind) i (entry_in (kind_of kind) sheet.now rows.now pairs.now m i)) out.old at out.new result }
 {
     if out.len() < at {
         return out.len() + 1;
     }
-    at + entry_line(t, sheet, rows, pairs, m, i, is_ingredient, &mut out[at..])
+    at + entry_line(t, sheet, rows, pairs, m, i, kind, &mut out[at..])
 }
 
 // The lines of the first n rows.
@@ -309,12 +319,12 @@ fn put_entries(
     n: usize,
     pairs: &[u32],
     m: usize,
-    is_ingredient: bool,
+    kind: Kind,
     out: &mut [u8],
     at: usize,
 ) -> usize
-    requires { (t.now ≡ unicode_tables) × TableReady (kind_of is_ingredient) sheet.now rows.now pairs.now m n }
-    ensures { Put (table_lines (entry_line (kind_of is_ingredient)) (entries_in (kind_of is_ingredient) sheet.now rows.now pairs.now m n)) out.old at out.new result }
+    requires { (t.now ≡ unicode_tables) × TableReady (kind_of kind) sheet.now rows.now pairs.now m n }
+    ensures { Put (table_lines (entry_line (kind_of kind)) (entries_in (kind_of kind) sheet.now rows.now pairs.now m n)) out.old at out.new result }
 {
     if out.len() < at {
         return out.len() + 1;
@@ -322,7 +332,7 @@ fn put_entries(
     let mut next = at;
     let mut i = 0;
     while i < n {
-        next = put_entry(t, sheet, rows, pairs, m, i, is_ingredient, out, next);
+        next = put_entry(t, sheet, rows, pairs, m, i, kind, out, next);
         i += 1;
     }
     next
@@ -348,7 +358,7 @@ pub fn ingredient_lines(
         n,
         &words[9240..10266],
         m,
-        true,
+        Kind::Ingredient,
         out,
         at,
     )
@@ -374,7 +384,7 @@ pub fn cookware_lines(
         n,
         &words[10266..10780],
         m,
-        false,
+        Kind::Cookware,
         out,
         at,
     )

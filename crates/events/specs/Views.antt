@@ -4,8 +4,6 @@ use Rattle.rules.specs.Words as words
 use Rattle.rules.specs.Event as rules
 use Rattle.parts.specs.Views.{span_in, SpanWithin, text_in, TextWithin, opt_text_in, OptTextWithin, opt_quantity_in, OptQuantityWithin, raw_text, raw_opt_text, raw_opt_quantity}
 use Rattle.components.specs.Views.{component_in, ComponentWithin, raw_component, opt_intermediate_in, OptIntermediateWithin}
-use Rattle.events.specs.declared.BlockKind.{BlockKind}
-use Rattle.events.specs.declared.BlockKind.TheVariants as block
 use Rattle.events.specs.declared.Between.{Between}
 use Rattle.events.specs.declared.Between.TheVariants as between
 use Rattle.events.specs.declared.ComponentEvent.{ComponentEvent}
@@ -16,10 +14,7 @@ use Rattle.events.specs.declared.Severity.{Severity}
 use Rattle.events.specs.declared.Severity.TheVariants as severity
 use Rattle.events.specs.declared.EventView.{EventView}
 use Rattle.events.specs.declared.EventView.TheVariants as event
-
-unfoldable pub block_in : BlockKind → words.BlockKind
-block_in block.Step = words.step_kind
-block_in block.Text = words.text_kind
+use Rattle.sheet.specs.Words.{block_in}
 
 unfoldable pub severity_in : Severity → words.Severity
 severity_in severity.Severe = words.severe

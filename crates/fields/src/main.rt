@@ -1,68 +1,65 @@
 // Reads lines of fields from standard input, and writes what the readers and writers of the sheet say of each.
 #![tactic(auto)]
 
-use sheet::{
-    BlockWord, DefineWord, DuplicateWord, KeyWord, Length, LineEnd, Number, Signed, Unescaped,
-    ValueWord, Word,
-};
+use sheet::{BlockKind, ConfigKey, Define, Duplicate, EventWord, NotUnescaped, Signed, ValueKind};
 use std::io;
 
-fn event_number(w: Word) -> u32 {
+fn event_number(w: Option<EventWord>) -> u32 {
     match w {
-        Word::Unknown => 0,
-        Word::Meta => 1,
-        Word::Section => 2,
-        Word::Start => 3,
-        Word::End => 4,
-        Word::Text => 5,
-        Word::Ingredient => 6,
-        Word::Cookware => 7,
-        Word::Timer => 8,
-        Word::Error => 9,
-        Word::Warning => 10,
+        None => 0,
+        Some(EventWord::Meta) => 1,
+        Some(EventWord::Section) => 2,
+        Some(EventWord::Start) => 3,
+        Some(EventWord::End) => 4,
+        Some(EventWord::Text) => 5,
+        Some(EventWord::Ingredient) => 6,
+        Some(EventWord::Cookware) => 7,
+        Some(EventWord::Timer) => 8,
+        Some(EventWord::Error) => 9,
+        Some(EventWord::Warning) => 10,
     }
 }
 
-fn block_number(w: BlockWord) -> u32 {
+fn block_number(w: Option<BlockKind>) -> u32 {
     match w {
-        BlockWord::Unknown => 0,
-        BlockWord::Step => 1,
-        BlockWord::Text => 2,
+        None => 0,
+        Some(BlockKind::Step) => 1,
+        Some(BlockKind::Text) => 2,
     }
 }
 
-fn value_number(w: ValueWord) -> u32 {
+fn value_number(w: Option<ValueKind>) -> u32 {
     match w {
-        ValueWord::Unknown => 0,
-        ValueWord::Number => 1,
-        ValueWord::Range => 2,
-        ValueWord::Text => 3,
+        None => 0,
+        Some(ValueKind::Number) => 1,
+        Some(ValueKind::Range) => 2,
+        Some(ValueKind::Textual) => 3,
     }
 }
 
-fn key_number(w: KeyWord) -> u32 {
+fn key_number(w: Option<ConfigKey>) -> u32 {
     match w {
-        KeyWord::Unknown => 0,
-        KeyWord::Define => 1,
-        KeyWord::Duplicate => 2,
+        None => 0,
+        Some(ConfigKey::Define) => 1,
+        Some(ConfigKey::Duplicate) => 2,
     }
 }
 
-fn define_number(w: DefineWord) -> u32 {
+fn define_number(w: Option<Define>) -> u32 {
     match w {
-        DefineWord::Unknown => 0,
-        DefineWord::All => 1,
-        DefineWord::Components => 2,
-        DefineWord::Steps => 3,
-        DefineWord::Text => 4,
+        None => 0,
+        Some(Define::All) => 1,
+        Some(Define::Components) => 2,
+        Some(Define::Steps) => 3,
+        Some(Define::Text) => 4,
     }
 }
 
-fn duplicate_number(w: DuplicateWord) -> u32 {
+fn duplicate_number(w: Option<Duplicate>) -> u32 {
     match w {
-        DuplicateWord::Unknown => 0,
-        DuplicateWord::New => 1,
-        DuplicateWord::Reference => 2,
+        None => 0,
+        Some(Duplicate::New) => 1,
+        Some(Duplicate::Reference) => 2,
     }
 }
 
@@ -88,20 +85,20 @@ fn put_config_words(out: &mut [u8], at: usize, f: &[u8]) -> usize {
 // What it is as a number.
 fn put_number(out: &mut [u8], at: usize, f: &[u8]) -> usize {
     match sheet::read_number(f) {
-        Number::Value(n) => output::put_number(out, at, n),
-        Number::Bad => put_told(out, at, b"bad"),
+        Some(n) => output::put_number(out, at, n),
+        None => put_told(out, at, b"bad"),
     }
 }
 
 // What it is as a number with a sign.
 fn put_signed(out: &mut [u8], at: usize, f: &[u8]) -> usize {
     match sheet::read_signed(f) {
-        Signed::Plus(n) => output::put_number(out, at, n),
-        Signed::Minus(n) => {
+        Some(Signed::Plus(n)) => output::put_number(out, at, n),
+        Some(Signed::Minus(n)) => {
             let a = put_told(out, at, b"-");
             output::put_decimal(out, a, n)
         }
-        Signed::Bad => put_told(out, at, b"bad"),
+        None => put_told(out, at, b"bad"),
     }
 }
 
@@ -113,11 +110,11 @@ fn put_well(out: &mut [u8], at: usize, f: &[u8]) -> usize {
     put_told(out, at, b"ill")
 }
 
-fn put_answer(out: &mut [u8], at: usize, r: Unescaped) -> usize {
+fn put_answer(out: &mut [u8], at: usize, r: Result<usize, NotUnescaped>) -> usize {
     match r {
-        Unescaped::Done(n) => output::put_number(out, at, length_number(n)),
-        Unescaped::Ill => put_told(out, at, b"ill"),
-        Unescaped::NoRoom => put_told(out, at, b"no room"),
+        Ok(n) => output::put_number(out, at, length_number(n)),
+        Err(NotUnescaped::Ill) => put_told(out, at, b"ill"),
+        Err(NotUnescaped::NoRoom) => put_told(out, at, b"no room"),
     }
 }
 
@@ -129,8 +126,8 @@ fn length_number(n: usize) -> u32 {
 // How many bytes it has without its escapes.
 fn put_length(out: &mut [u8], at: usize, f: &[u8]) -> usize {
     match sheet::unescaped_len(f) {
-        Length::Len(n) => output::put_number(out, at, length_number(n)),
-        Length::Ill => put_told(out, at, b"ill"),
+        Some(n) => output::put_number(out, at, length_number(n)),
+        None => put_told(out, at, b"ill"),
     }
 }
 
@@ -177,7 +174,7 @@ fn put_lines(out: &mut [u8], at: usize, s: &[u8]) -> usize {
     let mut n = at;
     let mut i = 0;
     loop {
-        let LineEnd::At(e) = sheet::line_end(s, i) else {
+        let Some(e) = sheet::line_end(s, i) else {
             n = output::put_bytes(out, n, b"unended ");
             return put_fields(out, n, &s[i..]);
         };

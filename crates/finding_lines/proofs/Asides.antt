@@ -3,7 +3,7 @@ use Prim.Native.Nat.{ℕ, zero, suc}
 use mathlib.Core.Path.{◌≡◌, refl, ◌∙◌}
 use mathlib.Core.Bool.{Bool, true, false, ◌&&◌, not}
 use mathlib.Core.List.{List, [], ◌∷◌, ◌++◌, reverse_aux}
-use mathlib.Core.Option.{Option, none, some}
+use Rattle.std.specs.Prelude.{Option, None, Some}
 use native.Mathlib.Omega.{arith}
 use Rattle.rules.specs.Basic.{pick, when}
 use Rattle.rules.specs.Words.{BlockKind, step_kind, text_kind, define_key, duplicate_key, DefineMode, DuplicateMode}
@@ -50,16 +50,16 @@ either false a b p q = q
 
 lock_quiet : (q : Option Quantity) → NoParsed (lock_findings q)
 unfolding lock_findings
-lock_quiet none = none_parsed
-lock_quiet (some q) = when_diag q.lock 6 _ false
+lock_quiet None = none_parsed
+lock_quiet (Some q) = when_diag q.lock 6 _ false
 
 -- ---- references
 
 module _ (modes : Modes) (new : Entry) where
   missing_quiet : (inherit : _) (same : Option Earlier) → NoParsed (conflict_or_missing modes new inherit same)
   unfolding conflict_or_missing
-  missing_quiet inherit none = one_diag 14 _ _
-  missing_quiet inherit (some d) = when_diag _ 13 _ _
+  missing_quiet inherit None = one_diag 14 _ _
+  missing_quiet inherit (Some d) = when_diag _ 13 _ _
 
   reference_quiet : (inherit : _) (same : Option Earlier) → NoParsed (reference_findings modes new inherit same)
   unfolding reference_findings redundant_new redundant_ref
@@ -77,14 +77,14 @@ unit_quiet (suc code) ss = one_diag (suc code) ss false
 module _ (units : List NamedUnit) where
   pair_quiet : (new : Entry) (a b : Option Amount) (old : Entry) → NoParsed (unit_pair units new a b old)
   unfolding unit_pair
-  pair_quiet new none q old = none_parsed
-  pair_quiet new (some a) none old = none_parsed
-  pair_quiet new (some a) (some b) old = unit_quiet _ _
+  pair_quiet new None q old = none_parsed
+  pair_quiet new (Some a) None old = none_parsed
+  pair_quiet new (Some a) (Some b) old = unit_quiet _ _
 
   against_quiet : (new : Entry) (old : Option Entry) → NoParsed (unit_against units new old)
   unfolding unit_against
-  against_quiet new none = none_parsed
-  against_quiet new (some old) = pair_quiet new _ _ old
+  against_quiet new None = none_parsed
+  against_quiet new (Some old) = pair_quiet new _ _ old
 
   all_quiet : (new : Entry) (table : List Entry) (is : List ℕ) → NoParsed (units_against units new table is)
   unfolding units_against
@@ -93,8 +93,8 @@ module _ (units : List NamedUnit) where
 
 note_quiet : (i : Bool) (n : Option Text) (d : Source) → NoParsed (note_check i n d)
 unfolding note_check
-note_quiet i none d = none_parsed
-note_quiet i (some n) d = one_diag 18 _ i
+note_quiet i None d = none_parsed
+note_quiet i (Some n) d = one_diag 18 _ i
 
 text_quiet : (i a b : Bool) (s t : Span) → NoParsed (text_check i a b s t)
 unfolding text_check
@@ -105,9 +105,9 @@ text_quiet i false false s t = none_parsed
 
 quantity_quiet : (i : Bool) (s : Source) (d : Entry) (a b : Option Amount) → NoParsed (quantity_check i s d a b)
 unfolding quantity_check
-quantity_quiet i s d none q = none_parsed
-quantity_quiet i s d (some a) none = none_parsed
-quantity_quiet i s d (some a) (some b) = both _ _ (when_diag _ 19 _ i) (text_quiet i _ _ _ _)
+quantity_quiet i s d None q = none_parsed
+quantity_quiet i s d (Some a) None = none_parsed
+quantity_quiet i s d (Some a) (Some b) = both _ _ (when_diag _ 19 _ i) (text_quiet i _ _ _ _)
 
 checks_quiet : (i : Bool) (new d : Entry) → NoParsed (reference_checks i new d)
 unfolding reference_checks
@@ -118,8 +118,8 @@ checks_quiet i new d = both _ _ (note_quiet i _ _) (quantity_quiet i _ d _ _)
 module _ (units : List NamedUnit) (flags : ℕ) where
   after_quiet : (k : Kind) (new : Entry) (table : List Entry) (d : Option Earlier) → NoParsed (checks_after units flags k new table d)
   unfolding checks_after unit_check
-  after_quiet k new table none = none_parsed
-  after_quiet k new table (some d) =
+  after_quiet k new table None = none_parsed
+  after_quiet k new table (Some d) =
       both (pick (is_ingredient k && has_advanced_units flags) (units_against units new table (d.index ∷ referrers d.entry.relation)) []) (reference_checks (not new.modifiers.ref) new d.entry)
       (either (is_ingredient k && has_advanced_units flags) _ _ (all_quiet units new table _) none_parsed) (checks_quiet _ new d.entry)
 
@@ -129,28 +129,28 @@ module _ (units : List NamedUnit) (flags : ℕ) where
 
   target_quiet : (i : Intermediate) (o : Option ℕ) → NoParsed (intermediate_findings i o)
   unfolding intermediate_findings
-  target_quiet i none = one_diag _ _ false
-  target_quiet i (some j) = none_parsed
+  target_quiet i None = one_diag _ _ false
+  target_quiet i (Some j) = none_parsed
 
   ingredient_quiet : (c : Component) (i : Option Intermediate) (st : State) → NoParsed (make_ingredient units flags c i st).findings
   unfolding make_ingredient made_intermediate intermediate_modifiers
-  ingredient_quiet c none st = named_quiet ingredient c st
-  ingredient_quiet c (some i) st = both _ _ (both _ _ (lock_quiet c.quantity) (when_diag _ 7 _ false)) (target_quiet i _)
+  ingredient_quiet c None st = named_quiet ingredient c st
+  ingredient_quiet c (Some i) st = both _ _ (both _ _ (lock_quiet c.quantity) (when_diag _ 7 _ false)) (target_quiet i _)
 
   time_quiet : (s : Span) (o : Option PhysicalQuantity) → NoParsed (time_unit units flags s o)
   unfolding time_unit
-  time_quiet s none = one_diag 23 _ false
-  time_quiet s (some p) = when_diag _ 22 _ false
+  time_quiet s None = one_diag 23 _ false
+  time_quiet s (Some p) = when_diag _ 22 _ false
 
   timer_unit_quiet : (o : Option Text) → NoParsed (timer_unit units flags o)
   unfolding timer_unit
-  timer_unit_quiet none = none_parsed
-  timer_unit_quiet (some t) = time_quiet t.span _
+  timer_unit_quiet None = none_parsed
+  timer_unit_quiet (Some t) = time_quiet t.span _
 
   timer_checks_quiet : (q : Option Quantity) → NoParsed (timer_checks units flags q)
   unfolding timer_checks
-  timer_checks_quiet none = none_parsed
-  timer_checks_quiet (some q) = both _ _ (when_diag _ 21 _ false) (timer_unit_quiet q.unit)
+  timer_checks_quiet None = none_parsed
+  timer_checks_quiet (Some q) = both _ _ (when_diag _ 21 _ false) (timer_unit_quiet q.unit)
 
   timer_quiet : (q : Option Quantity) → NoParsed (timer_findings units flags q)
   unfolding timer_findings
@@ -228,8 +228,8 @@ chained_aside {st} {a} m p =
 
 fault_aside : (st : State) (o : Option ℕ) (s : Step) → AsideStep st s → AsideStep st (unless_fault o s)
 unfolding unless_fault
-fault_aside st none s p = p
-fault_aside st (some n) s p = tt
+fault_aside st None s p = p
+fault_aside st (Some n) s p = tt
 
 component_pushed : (k : Kind) (m : Made) (is : List Item) (st : State) → NoParsed m.findings → Aside st (push_component k m is st)
 unfolding push_component
@@ -298,13 +298,13 @@ inside_aside text units flags i (text_mode_open ts) st = mode_aside text i ts st
 
 define_parsers : (k v : Text) (o : Option DefineMode) (st : State) → only_parsed (on_define k v o st).findings ≡ only_parsed st.findings
 unfolding on_define set_modes bad_value
-define_parsers k v none st = (reported _ st (one_diag 1 _ false)).parsers
-define_parsers k v (some m) st = refl
+define_parsers k v None st = (reported _ st (one_diag 1 _ false)).parsers
+define_parsers k v (Some m) st = refl
 
 duplicate_parsers : (k v : Text) (o : Option DuplicateMode) (st : State) → only_parsed (on_duplicate k v o st).findings ≡ only_parsed st.findings
 unfolding on_duplicate set_modes bad_value
-duplicate_parsers k v none st = (reported _ st (one_diag 1 _ false)).parsers
-duplicate_parsers k v (some m) st = refl
+duplicate_parsers k v None st = (reported _ st (one_diag 1 _ false)).parsers
+duplicate_parsers k v (Some m) st = refl
 
 key_parsers : (key : Key) (k v : Text) (st : State) → only_parsed (on_key key k v st).findings ≡ only_parsed st.findings
 unfolding on_key store_meta set_metadata

@@ -2,7 +2,7 @@
 use Prim.Native.Nat.{ℕ}
 use mathlib.Core.Path.{◌≡◌, refl, subst}
 use mathlib.Core.List.{List, [], ◌∷◌, ◌++◌}
-use mathlib.Core.Option.{some}
+use Rattle.std.specs.Prelude.{Some}
 use Rattle.rules.specs.Basic.{tab, lf, each, join_by}
 use Rattle.rules.specs.Sheet.{escape, escape_char}
 use Rattle.rules.specs.Words.{severe, mild}
@@ -61,5 +61,5 @@ begins_text (parser_event severe n) = joined 101 114 _ _
 begins_text (parser_event mild n) = joined 119 97 _ _
 
 -- the bytes that a well-formed line begins with
-pub line_begins : {line : List ℕ} {e : Event} → Without lf line → parse_line line ≡ some e → Begins line (first_byte e) (second_byte e)
+pub line_begins : {line : List ℕ} {e : Event} → Without lf line → parse_line line ≡ Some e → Begins line (first_byte e) (second_byte e)
 line_begins {line} {e} n q = subst (λ (l : List ℕ). Begins l (first_byte e) (second_byte e)) (line_text_lem line e n q) (begins_text e)

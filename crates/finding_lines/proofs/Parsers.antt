@@ -1,4 +1,5 @@
 -- The page of a failed recipe: the lines of the parser's findings, all of them and in their order.
+use Rattle.std.specs.Prelude.{None, Option, Some}
 use Prim.Native.Nat.{ℕ, suc, ◌+◌, ◌-◌, ◌≤◌, ◌<◌}
 use mathlib.Core.Path.{◌≡◌, refl, ap, sym, ◌∙◌}
 use mathlib.Core.Bool.{Bool, true, false}
@@ -18,8 +19,6 @@ use Rattle.rules.specs.Page.{lines_onto, table_lines, finding_line}
 use Rattle.rules.specs.Answer.{events, events_or, read_sheet}
 use Rattle.rules.proofs.Basics.{pick_either}
 use Rattle.rules.proofs.Walks.{stays_refused, step_settles, step_fails}
-use Rattle.sheet.specs.declared.LineEnd.{LineEnd}
-use Rattle.sheet.specs.declared.LineEnd.TheVariants.{At, Nothing}
 use Rattle.sheet.specs.Lines.{LineAt}
 use Rattle.events.specs.declared.Between.{Between as BetweenView}
 use Rattle.events.specs.declared.Inside.{Inside as InsideView}
@@ -28,8 +27,6 @@ use Rattle.events.specs.declared.Severity.TheVariants as severity
 use Rattle.events.specs.declared.EventView.{EventView}
 use Rattle.events.specs.declared.EventView.TheVariants as event
 use Rattle.events.specs.Views.{event_in, severity_in}
-use Rattle.reading.specs.declared.ReadEvent.{ReadEvent}
-use Rattle.reading.specs.declared.ReadEvent.TheVariants as answer
 use Rattle.reading.specs.Answers.{event_as, IfEvent, IfWhole, EventOf, LineOf}
 use Rattle.reading.proofs.Passes.{Rest, rest_ends, rest_ended, rest_read, rest_event}
 use Rattle.output.specs.Put.{Put}
@@ -176,30 +173,30 @@ pub write_starts : {text bytes : List ℕ} (o : List ℕ) (at : ℕ) → read_sh
 write_starts {text} {bytes} o at q = record { number = 1; others = events_or (read_sheet text bytes); rest = record { is = unfold read_sheet in q }; put = starts }
 
 -- a line of a sheet that was read is UTF-8
-module _ {text bytes : List ℕ} {from number : ℕ} {es : List Event} (w : Rest text bytes from number es) {r : LineEnd} (l : LineAt bytes from r) {end : ℕ} (q : r ≡ At end) where
-  pub line_known : {a : ReadEvent} → EventOf (take (end - from) (drop from bytes)) a → LineOf (take (end - from) (drop from bytes)) a
+module _ {text bytes : List ℕ} {from number : ℕ} {es : List Event} (w : Rest text bytes from number es) {r : Option ℕ} (l : LineAt bytes from r) {end : ℕ} (q : r ≡ Some end) where
+  pub line_known : {a : Option EventView} → EventOf (take (end - from) (drop from bytes)) a → LineOf (take (end - from) (drop from bytes)) a
   unfolding parse_line
   line_known {a} p = go (is_utf8 (take (end - from) (drop from bytes))) refl
     where
       go : (t : Bool) → is_utf8 (take (end - from) (drop from bytes)) ≡ t → LineOf (take (end - from) (drop from bytes)) a
       go true e = record { is = rw e p.is; within = p.within; whole = p.whole }
       go false e =
-          let z : LineOf (take (end - from) (drop from bytes)) answer.Ill = record { is = unfold event_as in rw e; within = unfold IfEvent in tt; whole = unfold IfWhole in tt } in
+          let z : LineOf (take (end - from) (drop from bytes)) None = record { is = unfold event_as in rw e; within = unfold IfEvent in tt; whole = unfold IfWhole in tt } in
           rest_read w l q z refl
 
 module _ {text bytes o₀ : List ℕ} {at : ℕ} {o : List ℕ} {m from : ℕ} (w : Writing text bytes o₀ at o m from) where
   pub write_ends : {r : ℕ} → length bytes ≤ from → Put [] o m o r → ParsedPut text bytes o₀ at o r
   write_ends h p = record { is = leads_placed (turn (ap parsed_lines (rest_ends w.rest h) ∙ unfold parsed_lines in refl) w.put) p }
 
-  module _ {r : LineEnd} (l : LineAt bytes from r) where
-    pub write_cut : {P : Type 0} → from < length bytes → r ≡ Nothing → P
+  module _ {r : Option ℕ} (l : LineAt bytes from r) where
+    pub write_cut : {P : Type 0} → from < length bytes → r ≡ None → P
     write_cut h q = rest_ended w.rest l h q
 
-    module _ {end : ℕ} (q : r ≡ At end) {a : ReadEvent} (p : EventOf (take (end - from) (drop from bytes)) a) where
-      pub write_ill : {P : Type 0} → a ≡ answer.Ill → P
+    module _ {end : ℕ} (q : r ≡ Some end) {a : Option EventView} (p : EventOf (take (end - from) (drop from bytes)) a) where
+      pub write_ill : {P : Type 0} → a ≡ None → P
       write_ill k = rest_read w.rest l q (line_known w.rest l q p) k
 
-      pub write_on : {v : EventView} {o' : List ℕ} {m' : ℕ} → a ≡ answer.Event v → EventPut v o m o' m' → Writing text bytes o₀ at o' m' (end + 1)
+      pub write_on : {v : EventView} {o' : List ℕ} {m' : ℕ} → a ≡ Some v → EventPut v o m o' m' → Writing text bytes o₀ at o' m' (end + 1)
       write_on {v} k t =
           let f = rest_event w.rest l q (line_known w.rest l q p) k in
           record {

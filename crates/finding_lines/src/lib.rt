@@ -247,10 +247,10 @@ pub fn parsed_lines(sheet: &[u8], text: &[u8], out: &mut [u8], at: usize) -> usi
     let mut from = 0;
     let mut m = at;
     while from < sheet.len() {
-        let sheet::LineEnd::At(end) = sheet::line_end(sheet, from) else {
+        let Some(end) = sheet::line_end(sheet, from) else {
             return m;
         };
-        let reading::ReadEvent::Event(v) = reading::event_in(&sheet[from..end]) else {
+        let Some(v) = reading::event_in(&sheet[from..end]) else {
             return m;
         };
         m = put_event(out, m, v);

@@ -3,7 +3,7 @@ use Prim.Native.Nat.{ℕ}
 use mathlib.Core.Path.{◌≡◌, refl, sym, ap, ◌∙◌, subst}
 use mathlib.Core.List.{List, [], ◌∷◌, ◌++◌, append-nil}
 use mathlib.Core.Bool.{Bool, false, ◌||◌}
-use mathlib.Core.Option.{Option, none, some}
+use Rattle.std.specs.Prelude.{Option, None, Some}
 use lib.ListN.{length}
 use Rattle.rules.specs.Basic.{pick, is_empty, is_some, on_some, word_in, concat}
 use Rattle.rules.specs.Utf8.{encode}
@@ -20,7 +20,6 @@ use Rattle.rules.specs.State.{State, Metadata, Kept, Tables, no_block, step_open
 use Rattle.rules.specs.Pass.{is_open, is_empty_section, close_section, on_section, opened, on_between, on_event}
 use Rattle.rules.specs.Page.{lines_onto, table_lines, block_lines, section_lines}
 use Rattle.content.specs.Contents.{spell}
-use Rattle.model.specs.Memory.{define_of}
 use Rattle.model.specs.declared.Open.{Open}
 use Rattle.following.specs.declared.Follow.{Follow}
 use Rattle.following.specs.Drawn.{define_in, kind_of, keeps, section_line, text_lead, open_drawn, is_shown, sections_drawn, old_drawn, follow_of, opens_as, lead, start_adds, sections_add, timers_add, inline_add, quantities_added, key_adds, old_add}
@@ -28,6 +27,7 @@ use Rattle.following.specs.Follow.{define_meta, key_meta, meta_of, meta_follow, 
 use Rattle.following.proofs.Lists.{table_more, span_more}
 use Rattle.following.proofs.Grows.{Grows, nil, made, Fresh, start_grows}
 use Rattle.following.proofs.Insides.{EventGrows, StepGrows, inside_grows}
+use Rattle.sheet.specs.Words.{define_of}
 
 -- inline quantities stay
 inline_grows : {st st' : State} {f : Follow} {a b c d : List ℕ} {qs : List InlineQuantity} → Grows st st' f a b c d qs → Grows st st' (with_inline (length st'.tables.inline) f) a b c d qs
@@ -67,20 +67,20 @@ opens_kind mode_text text_kind = refl
 -- between blocks the section that is left is drawn whole
 pub sections_closed : (m : DefineMode) (d : DuplicateMode) (md : Metadata) (name : Option (List ℕ)) (content : List Block) (n : ℕ) (k : Kept) (t : Tables) (fs : List Finding) → sections_drawn (made m d md name content n no_block k t fs) ≡ table_lines section_lines (close_section (made m d md name content n no_block k t fs)).kept.sections
 unfolding sections_drawn is_shown keeps kind_of open_drawn close_section is_empty_section set_kept is_some is_empty section_lines section_line
-sections_closed m d md (some s) content n k t fs = ap (λ (x : List ℕ). table_lines section_lines k.sections ++ (section_line (some s) ++ x)) (append-nil (table_lines block_lines content)) ∙ sym (table_more section_lines (record { name = some s; content = content }) k.sections)
-sections_closed m d md none (b ∷ bs) n k t fs = ap (λ (x : List ℕ). table_lines section_lines k.sections ++ (section_line none ++ x)) (append-nil (table_lines block_lines (b ∷ bs))) ∙ sym (table_more section_lines (record { name = none; content = b ∷ bs }) k.sections)
-sections_closed m d md none [] n k t fs = unfold table_lines lines_onto in append-nil _
+sections_closed m d md (Some s) content n k t fs = ap (λ (x : List ℕ). table_lines section_lines k.sections ++ (section_line (Some s) ++ x)) (append-nil (table_lines block_lines content)) ∙ sym (table_more section_lines (record { name = Some s; content = content }) k.sections)
+sections_closed m d md None (b ∷ bs) n k t fs = ap (λ (x : List ℕ). table_lines section_lines k.sections ++ (section_line None ++ x)) (append-nil (table_lines block_lines (b ∷ bs))) ∙ sym (table_more section_lines (record { name = None; content = b ∷ bs }) k.sections)
+sections_closed m d md None [] n k t fs = unfold table_lines lines_onto in append-nil _
 
 -- a new section's line
 named_lines : (a : List ℕ) (x : Option Text) → a ++ (pick (is_some (on_some trimmed_text x) || false || false) (section_line (on_some trimmed_text x)) [] ++ (table_lines block_lines [] ++ [])) ≡ a ++ pick (is_some x) (section_line (on_some trimmed_text x)) []
 unfolding is_some on_some table_lines lines_onto
-named_lines a none = refl
-named_lines a (some x) = ap (λ (y : List ℕ). a ++ y) (append-nil _)
+named_lines a None = refl
+named_lines a (Some x) = ap (λ (y : List ℕ). a ++ y) (append-nil _)
 
 named_shown : (x : Option Text) → (is_some (on_some trimmed_text x) || false || false) ≡ is_some x
 unfolding is_some on_some
-named_shown none = refl
-named_shown (some x) = refl
+named_shown None = refl
+named_shown (Some x) = refl
 
 abbrev begun : Option Text → State → State
 begun x st = set_place (record { section = record { name = on_some trimmed_text x; content = [] }; step_counter = 1; block = no_block }) st
@@ -112,13 +112,13 @@ module _ (text : List ℕ) (units : List NamedUnit) (flags : ℕ) (m : DefineMod
 
   define_grows : (a v : Text) (o : Option DefineMode) → Grows here (on_define a v o here) (meta_follow (define_meta o) (follow_of here)) [] [] [] [] []
   unfolding on_define define_meta meta_follow report set_modes follow_of is_shown keeps kind_of sections_drawn old_drawn open_drawn
-  define_grows a v none = record { follow = refl; sections_is = nil; timers_is = nil; inline_is = nil; old_is = nil; table_is = refl }
-  define_grows a v (some x) = record { follow = refl; sections_is = nil; timers_is = nil; inline_is = nil; old_is = nil; table_is = refl }
+  define_grows a v None = record { follow = refl; sections_is = nil; timers_is = nil; inline_is = nil; old_is = nil; table_is = refl }
+  define_grows a v (Some x) = record { follow = refl; sections_is = nil; timers_is = nil; inline_is = nil; old_is = nil; table_is = refl }
 
   duplicate_grows : (a v : Text) (o : Option DuplicateMode) → Grows here (on_duplicate a v o here) (follow_of here) [] [] [] [] []
   unfolding on_duplicate report set_modes follow_of is_shown keeps kind_of sections_drawn old_drawn open_drawn
-  duplicate_grows a v none = record { follow = refl; sections_is = nil; timers_is = nil; inline_is = nil; old_is = nil; table_is = refl }
-  duplicate_grows a v (some x) = record { follow = refl; sections_is = nil; timers_is = nil; inline_is = nil; old_is = nil; table_is = refl }
+  duplicate_grows a v None = record { follow = refl; sections_is = nil; timers_is = nil; inline_is = nil; old_is = nil; table_is = refl }
+  duplicate_grows a v (Some x) = record { follow = refl; sections_is = nil; timers_is = nil; inline_is = nil; old_is = nil; table_is = refl }
 
   key_grows : (key : Key) (a v : Text)
       → Grows here (on_key key a v here) (meta_follow (key_meta key (word_in (value_text v) define_words)) (follow_of here)) [] [] [] (key_adds key a v (follow_of here)) []
@@ -134,9 +134,9 @@ module _ (text : List ℕ) (units : List NamedUnit) (flags : ℕ) (m : DefineMod
 
 section_event_lem : (text : List ℕ) (units : List NamedUnit) (flags : ℕ) (m : DefineMode) (d : DuplicateMode) (md : Metadata) (name : Option (List ℕ)) (content : List Block) (n : ℕ) (k : Kept) (t : Tables) (fs : List Finding) (x : Option Text) → EventGrows text units flags (between (section_event x)) (made m d md name content n no_block k t fs) (on_section x (made m d md name content n no_block k t fs))
 unfolding on_section close_section is_empty_section set_kept is_some is_empty
-section_event_lem text units flags m d md (some s) content n k t fs x = section_grows text units flags m d md (some s) content n k t fs x (record { sections = record { name = some s; content = content } ∷ k.sections; blocks = k.blocks; items = k.items }) (sections_closed m d md (some s) content n k t fs)
-section_event_lem text units flags m d md none (b ∷ bs) n k t fs x = section_grows text units flags m d md none (b ∷ bs) n k t fs x (record { sections = record { name = none; content = b ∷ bs } ∷ k.sections; blocks = k.blocks; items = k.items }) (sections_closed m d md none (b ∷ bs) n k t fs)
-section_event_lem text units flags m d md none [] n k t fs x = section_grows text units flags m d md none [] n k t fs x k (sections_closed m d md none [] n k t fs)
+section_event_lem text units flags m d md (Some s) content n k t fs x = section_grows text units flags m d md (Some s) content n k t fs x (record { sections = record { name = Some s; content = content } ∷ k.sections; blocks = k.blocks; items = k.items }) (sections_closed m d md (Some s) content n k t fs)
+section_event_lem text units flags m d md None (b ∷ bs) n k t fs x = section_grows text units flags m d md None (b ∷ bs) n k t fs x (record { sections = record { name = None; content = b ∷ bs } ∷ k.sections; blocks = k.blocks; items = k.items }) (sections_closed m d md None (b ∷ bs) n k t fs)
+section_event_lem text units flags m d md None [] n k t fs x = section_grows text units flags m d md None [] n k t fs x k (sections_closed m d md None [] n k t fs)
 
 -- ---- every line
 

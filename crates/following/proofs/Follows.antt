@@ -3,28 +3,23 @@ use Prim.Native.Nat.{ℕ, suc, ◌+◌, ◌%◌}
 use mathlib.Core.Path.{◌≡◌, refl, sym, ap, ◌∙◌, subst}
 use mathlib.Core.List.{List}
 use mathlib.Core.Bool.{Bool, true, false, ◌||◌, not}
-use mathlib.Core.Option.{Option, none, some}
+use Rattle.std.specs.Prelude.{Option, None, Some}
 use native.Mathlib.Numerals.{add-one}
 use borrow.Author.Tests.{ne_eqb}
-use Rattle.rules.specs.Basic.{pick, is_some, word_in}
-use Rattle.rules.specs.Words.{DefineMode, mode_all, mode_components, mode_steps, mode_text, define_words}
+use Rattle.rules.specs.Basic.{pick, is_some, on_some, word_in}
+use Rattle.rules.specs.Words.{define_words}
 use Rattle.rules.specs.Text.{text_trimmed, text_outer_trimmed}
 use Rattle.rules.specs.Modes as modes
 use Rattle.rules.specs.Modes.{is_components, is_text, has_modes, key_of, value_text}
-use Rattle.sheet.specs.Words.{define_as}
-use Rattle.sheet.specs.declared.DefineWord.{DefineWord}
+use Rattle.sheet.specs.Words.{block_in, define_of}
 use Rattle.content.specs.Contents as contents
 use Rattle.parts.specs.Views.{part_of, text_in, TextWithin, opt_text_in}
 use Rattle.parts.specs.declared.Span.{Span}
 use Rattle.parts.specs.declared.TextView.{TextView}
-use Rattle.parts.specs.declared.OptText.{OptText}
-use Rattle.parts.specs.declared.OptText.TheVariants as text
-use Rattle.parts.specs.declared.OptQuantity.{OptQuantity}
 use Rattle.components.specs.declared.ComponentView.{ComponentView}
-use Rattle.components.specs.declared.OptIntermediate.{OptIntermediate}
-use Rattle.events.specs.Views.{block_in, between_in, component_event_in, inside_in, event_in, BetweenWithin, EventWithin}
-use Rattle.events.specs.declared.BlockKind.{BlockKind}
-use Rattle.events.specs.declared.BlockKind.TheVariants as kind
+use Rattle.events.specs.Views.{between_in, component_event_in, inside_in, event_in, BetweenWithin, EventWithin}
+use Rattle.sheet.specs.declared.BlockKind.{BlockKind}
+use Rattle.sheet.specs.declared.BlockKind.TheVariants as kind
 use Rattle.events.specs.declared.Between.{Between}
 use Rattle.events.specs.declared.Between.TheVariants as between
 use Rattle.events.specs.declared.ComponentEvent.{ComponentEvent}
@@ -37,8 +32,8 @@ use Rattle.events.specs.declared.EventView.TheVariants as event
 use Rattle.config_keys.specs.Keys.{key_in}
 use Rattle.config_keys.specs.declared.Key.{Key}
 use Rattle.config_keys.specs.declared.Key.TheVariants.{Define as DefineKey}
-use Rattle.model.specs.Memory.{define_of}
-use Rattle.model.specs.declared.Define.{Define}
+use Rattle.sheet.specs.declared.Define.{Define}
+use Rattle.sheet.specs.declared.Define.TheVariants as define
 use Rattle.model.specs.declared.Open.{Open}
 use Rattle.model.specs.declared.Open.TheVariants as block
 use Rattle.metadata.proofs.Whole.{key_at_lem, value_at_lem}
@@ -48,6 +43,8 @@ use Rattle.following.specs.declared.Meta.TheVariants.{Ordinary}
 use Rattle.following.specs.Drawn.{define_in, keeps, opens_as}
 use Rattle.following.specs.Follow.{word_meta, define_meta, key_meta, meta_of, meta_follow, section_follow, start_follow, close_follow, counter_after, count_component, component_follow, inside_follow, between_follow, next_follow, with_inline, MetaRead, BetweenFollowed, EventFollowed, ComponentCounted, InsideFollowed, Followed}
 use Rattle.following.proofs.Laws.{follows_next}
+use Rattle.parts.specs.declared.QuantityView.{QuantityView}
+use Rattle.components.specs.declared.Intermediate.{Intermediate}
 
 -- what is said of a variant is said of a value that is the variant
 pub arm : {A B : Type 0} (g : A → B) {x : A} (y : A) {r : B} → r ≡ g y → x ≡ y → r ≡ g x
@@ -55,13 +52,13 @@ arm g y e q = e ∙ ap g (sym q)
 
 -- ---- `meta` lines
 
-word_back : (o : Option DefineMode) → word_meta (define_as o) ≡ define_meta o
-unfolding word_meta define_as define_meta define_in
-word_back none = refl
-word_back (some mode_all) = refl
-word_back (some mode_components) = refl
-word_back (some mode_steps) = refl
-word_back (some mode_text) = refl
+word_back : (o : Option Define) → word_meta o ≡ define_meta (on_some define_of o)
+unfolding define_meta define_in define_of on_some
+word_back None = refl
+word_back (Some define.All) = refl
+word_back (Some define.Components) = refl
+word_back (Some define.Steps) = refl
+word_back (Some define.Text) = refl
 
 pub meta_off : {flags : ℕ} {line : List ℕ} {k v : TextView} → (flags % 2 ≡ 1 → ⊥) → MetaRead flags line k v Ordinary
 unfolding meta_of has_modes key_meta
@@ -73,10 +70,10 @@ module _ {flags : ℕ} {line : List ℕ} {key value : TextView} (on : flags % 2 
   unfolding meta_of
   meta_key y e q = record { is = q ∙ ap (λ (z : modes.Key). key_meta z (word_in (value_text (text_in line value)) define_words)) (sym (key_at_lem flags line key x y kb on kz kp g e)) }
 
-  pub meta_define : TextWithin line value → (vb : List ℕ) → vb ≡ part_of line value.content → {m : DefineWord} {r : Meta} → x ≡ DefineKey
-      → m ≡ define_as (word_in (text_outer_trimmed (contents.content_in vb)) define_words) → r ≡ word_meta m → MetaRead flags line key value r
+  pub meta_define : TextWithin line value → (vb : List ℕ) → vb ≡ part_of line value.content → (m : Option Define) {r : Meta} → x ≡ DefineKey
+      → on_some define_of m ≡ word_in (text_outer_trimmed (contents.content_in vb)) define_words → r ≡ word_meta m → MetaRead flags line key value r
   unfolding key_in key_meta
-  meta_define vz vb vp e q w = meta_key DefineKey e (w ∙ (ap word_meta q ∙ (word_back (word_in (text_outer_trimmed (contents.content_in vb)) define_words) ∙ ap (λ (cs : List ℕ). define_meta (word_in cs define_words)) (value_at_lem line value vb vz vp))))
+  meta_define vz vb vp m e q w = meta_key DefineKey e (w ∙ (word_back m ∙ (ap define_meta q ∙ ap (λ (cs : List ℕ). define_meta (word_in cs define_words)) (value_at_lem line value vb vz vp))))
 
 -- ---- blocks
 
@@ -136,7 +133,7 @@ counts_as i c t f =
     record { define = f.define; block = f.block; shown = f.shown; counter = f.counter; ingredients = i; cookware = c; timers = t; inline = f.inline; old = f.old }
 
 module _ {c : ComponentEvent} (f : Follow) where
-  pub counted_ingredient : (v : ComponentView) (i : OptIntermediate) → c ≡ component.Ingredient v i → ComponentCounted c f (counts_as (f.ingredients + 1) f.cookware f.timers f)
+  pub counted_ingredient : (v : ComponentView) (i : Option Intermediate) → c ≡ component.Ingredient v i → ComponentCounted c f (counts_as (f.ingredients + 1) f.cookware f.timers f)
   unfolding count_component component_event_in
   counted_ingredient v i q = record { at = λ line. arm (λ (x : ComponentEvent). count_component (component_event_in line x) f) (component.Ingredient v i) (ap (λ (n : ℕ). counts_as n f.cookware f.timers f) (add-one f.ingredients)) q }
 
@@ -144,7 +141,7 @@ module _ {c : ComponentEvent} (f : Follow) where
   unfolding count_component component_event_in
   counted_cookware v q = record { at = λ line. arm (λ (x : ComponentEvent). count_component (component_event_in line x) f) (component.Cookware v) (ap (λ (n : ℕ). counts_as f.ingredients n f.timers f) (add-one f.cookware)) q }
 
-  pub counted_timer : (s : Span) (n : OptText) (a : OptQuantity) → c ≡ component.Timer s n a → ComponentCounted c f (counts_as f.ingredients f.cookware (f.timers + 1) f)
+  pub counted_timer : (s : Span) (n : Option TextView) (a : Option QuantityView) → c ≡ component.Timer s n a → ComponentCounted c f (counts_as f.ingredients f.cookware (f.timers + 1) f)
   unfolding count_component component_event_in
   counted_timer s n a q = record { at = λ line. arm (λ (x : ComponentEvent). count_component (component_event_in line x) f) (component.Timer s n a) (ap (λ (m : ℕ). counts_as f.ingredients f.cookware m f) (add-one f.timers)) q }
 
@@ -191,13 +188,13 @@ module _ {flags : ℕ} {line : List ℕ} {b : Between} {f r : Follow} where
   unfolding between_follow between_in
   between_meta k v q e w = record { is = arm (λ (x : Between). between_follow flags (between_in line x) f) (between.Meta k v) (w ∙ ap (λ (m : Meta). meta_follow m f) e.is) q }
 
-  pub between_bare : (n : OptText) → b ≡ between.Section n → n ≡ text.Absent → r ≡ section_follow false f → BetweenFollowed flags line b f r
+  pub between_bare : (n : Option TextView) → b ≡ between.Section n → n ≡ None → r ≡ section_follow false f → BetweenFollowed flags line b f r
   unfolding between_follow between_in opt_text_in is_some
-  between_bare n q e w = record { is = arm (λ (x : Between). between_follow flags (between_in line x) f) (between.Section n) (arm (λ (y : OptText). section_follow (is_some (opt_text_in line y)) f) text.Absent w e) q }
+  between_bare n q e w = record { is = arm (λ (x : Between). between_follow flags (between_in line x) f) (between.Section n) (arm (λ (y : Option TextView). section_follow (is_some (opt_text_in line y)) f) None w e) q }
 
-  pub between_named : (n : OptText) (v : TextView) → b ≡ between.Section n → n ≡ text.Present v → r ≡ section_follow true f → BetweenFollowed flags line b f r
+  pub between_named : (n : Option TextView) (v : TextView) → b ≡ between.Section n → n ≡ Some v → r ≡ section_follow true f → BetweenFollowed flags line b f r
   unfolding between_follow between_in opt_text_in is_some
-  between_named n v q e w = record { is = arm (λ (x : Between). between_follow flags (between_in line x) f) (between.Section n) (arm (λ (y : OptText). section_follow (is_some (opt_text_in line y)) f) (text.Present v) w e) q }
+  between_named n v q e w = record { is = arm (λ (x : Between). between_follow flags (between_in line x) f) (between.Section n) (arm (λ (y : Option TextView). section_follow (is_some (opt_text_in line y)) f) (Some v) w e) q }
 
   pub between_start : (k : BlockKind) {o : Open} → b ≡ between.Start k → o ≡ opens_as f.define (block_in k) → r ≡ start_follow o f → BetweenFollowed flags line b f r
   unfolding between_follow between_in

@@ -3,7 +3,7 @@ use Prim.Native.Nat.{ℕ}
 use mathlib.Core.Path.{◌≡◌, refl, sym, ap, ◌∙◌}
 use mathlib.Core.List.{List, [], ◌∷◌, ◌++◌, reverse_aux, append-nil, append_assoc}
 use mathlib.Core.Bool.{Bool, true, false, ◌||◌, not}
-use mathlib.Core.Option.{Option, none, some}
+use Rattle.std.specs.Prelude.{Option, None, Some}
 use lib.ListN.{length}
 use Rattle.rules.specs.Basic.{pick, is_empty, is_some}
 use Rattle.rules.specs.Words.{DefineMode, DuplicateMode, mode_all, mode_components, mode_steps, mode_text}
@@ -13,12 +13,12 @@ use Rattle.rules.specs.State as state
 use Rattle.rules.specs.State.{State, Metadata, Kept, Tables, no_block, set_place, set_block, set_kept}
 use Rattle.rules.specs.Pass.{keep_block}
 use Rattle.rules.specs.Page.{lines_onto, table_lines, block_lines, section_lines, timer_line, inline_line}
-use Rattle.model.specs.Memory.{define_of}
 use Rattle.model.specs.declared.Open.{Open}
 use Rattle.following.specs.declared.Follow.{Follow}
 use Rattle.following.specs.Drawn.{define_in, kind_of, keeps, section_line, open_drawn, is_shown, sections_drawn, old_drawn, follow_of, lead, start_adds}
 use Rattle.following.specs.Follow.{start_follow, close_follow}
 use Rattle.following.proofs.Lists.{table_more}
+use Rattle.sheet.specs.Words.{define_of}
 
 -- from the state before to the one after: what follows, and what each part of the page has more
 pub record Grows (st st' : State) (f : Follow) (sections timers inline old : List ℕ) (quantities : List InlineQuantity) : Type 0 where
@@ -72,12 +72,12 @@ picked false l = refl
 
 start_lines : (name : Option (List ℕ)) (content : List Block) (c : Bool) (a l : List ℕ)
     → a ++ (pick (is_some name || not (is_empty content) || c) (section_line name) [] ++ (table_lines block_lines content ++ pick c l []))
-    ≡ (a ++ (pick (is_some name || not (is_empty content) || false) (section_line name) [] ++ (table_lines block_lines content ++ []))) ++ pick c (pick (is_some name || not (is_empty content) || false) [] (section_line none) ++ l) []
+    ≡ (a ++ (pick (is_some name || not (is_empty content) || false) (section_line name) [] ++ (table_lines block_lines content ++ []))) ++ pick c (pick (is_some name || not (is_empty content) || false) [] (section_line None) ++ l) []
 unfolding is_some is_empty
-start_lines (some s) content c a l = in_open a (section_line (some s)) (table_lines block_lines content) [] (pick c ([] ++ l) []) (picked c l)
-start_lines none (b ∷ bs) c a l = in_open a (section_line none) (table_lines block_lines (b ∷ bs)) [] (pick c ([] ++ l) []) (picked c l)
-start_lines none [] true a l = unfold table_lines lines_onto in sym (ap (λ (x : List ℕ). x ++ (section_line none ++ l)) (append-nil a))
-start_lines none [] false a l = nil
+start_lines (Some s) content c a l = in_open a (section_line (Some s)) (table_lines block_lines content) [] (pick c ([] ++ l) []) (picked c l)
+start_lines None (b ∷ bs) c a l = in_open a (section_line None) (table_lines block_lines (b ∷ bs)) [] (pick c ([] ++ l) []) (picked c l)
+start_lines None [] true a l = unfold table_lines lines_onto in sym (ap (λ (x : List ℕ). x ++ (section_line None ++ l)) (append-nil a))
+start_lines None [] false a l = nil
 
 abbrev shown_as : Bool → Follow → Follow
 shown_as b f =

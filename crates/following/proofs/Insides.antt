@@ -3,7 +3,7 @@ use Prim.Native.Nat.{ℕ, suc}
 use mathlib.Core.Path.{◌≡◌, refl, sym, ap, ◌∙◌}
 use mathlib.Core.List.{List, [], ◌∷◌, ◌++◌, reverse_aux, append_assoc, reverse}
 use mathlib.Core.Bool.{Bool, false}
-use mathlib.Core.Option.{Option, none, some}
+use Rattle.std.specs.Prelude.{Option, None, Some}
 use lib.Dec.{eqb}
 use lib.ListN.{length}
 use Rattle.rules.specs.Basic.{pick, lf, join_by, each, concat}
@@ -24,11 +24,11 @@ use Rattle.rules.proofs.Basics.{pick_either}
 use Rattle.content.specs.Contents.{spell}
 use Rattle.step_lines.specs.Lines.{item_text, inline_text}
 use Rattle.step_lines.proofs.Lines.{item_more, text_items_more, quantities_more, pieces_more}
-use Rattle.model.specs.Memory.{define_of}
 use Rattle.following.specs.Drawn.{define_in, kind_of, keeps, section_line, step_line, text_lead, open_drawn, is_shown, sections_drawn, old_drawn, follow_of, component_item, unless_components, inside_adds, sections_add, timer_adds, timers_add, inline_adds, inline_add, quantities_in, quantities_added, old_add}
 use Rattle.following.specs.Follow.{close_follow, counter_after, count_component, component_follow, inside_follow, next_follow, with_inline}
 use Rattle.following.proofs.Lists.{table_more}
 use Rattle.following.proofs.Grows.{Grows, nil, made, in_open, keep_grows}
+use Rattle.sheet.specs.Words.{define_of}
 
 -- what a line adds where the pass goes on
 module _ (text : List ℕ) (units : List NamedUnit) (flags : ℕ) where
@@ -67,8 +67,8 @@ length_set i n (e ∷ es) = pick_either (λ (l : List Entry). length l ≡ suc (
 
 length_referred : (o : Option Earlier) (es : List Entry) → length (referred o es) ≡ length es
 unfolding referred
-length_referred none es = refl
-length_referred (some d) es = length_set d.index (length es) es
+length_referred None es = refl
+length_referred (Some d) es = length_set d.index (length es) es
 
 module _ (text : List ℕ) (units : List NamedUnit) (flags : ℕ) (m : DefineMode) (d : DuplicateMode) (md : Metadata) (name : Option (List ℕ)) (content : List Block) (n : ℕ) (k : Kept) (t : Tables) (fs : List Finding) where
   -- the state with this block open
@@ -133,8 +133,8 @@ module _ (text : List ℕ) (units : List NamedUnit) (flags : ℕ) (m : DefineMod
 
   fault_grows : (e : Event) (o : Option ℕ) (is : List Item) (s : Step) → StepGrows text units flags e (has (step_open is)) s → StepGrows text units flags e (has (step_open is)) (unless_fault o s)
   unfolding unless_fault
-  fault_grows e none is s g = g
-  fault_grows e (some x) is s g = tt
+  fault_grows e None is s g = g
+  fault_grows e (Some x) is s g = tt
 
   component_grows : (c : ComponentEvent) (is : List Item) → StepGrows text units flags (inside (component_event c)) (has (step_open is)) (on_component units flags c is (has (step_open is)))
   unfolding on_component on_made

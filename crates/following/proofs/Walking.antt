@@ -17,7 +17,6 @@ use Rattle.rules.specs.Pass.{is_open, on_event, walk, ended, unless_over, finish
 use Rattle.rules.proofs.Basics.{pick_either, no_truth}
 use Rattle.rules.proofs.Walks.{no_walk, step_next}
 use Rattle.rules.proofs.FaultWalk.{Takes, takes, walk_on}
-use Rattle.model.specs.Memory.{define_of}
 use Rattle.model.specs.declared.Open.{Open}
 use Rattle.model.specs.declared.Open.TheVariants as block
 use Rattle.following.specs.declared.Follow.{Follow}
@@ -27,6 +26,7 @@ use Rattle.following.specs.Drawn.{follow_of, first_follow, opens_as}
 use Rattle.following.specs.Follow.{Follows, meta_of, meta_follow, section_follow, start_follow, close_follow, counter_after, count_component, component_follow, inside_follow, between_follow, next_follow, with_inline, Room}
 use Rattle.following.proofs.Betweens.{line_grows}
 use Rattle.following.proofs.Laws.{follows_first}
+use Rattle.sheet.specs.Words.{define_of}
 
 -- ---- counts: at most one more a line
 

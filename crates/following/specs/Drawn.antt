@@ -1,7 +1,6 @@
 -- What of the page has been drawn when the walk stands in a state, and what a line adds to it: the parts of the page that
 -- work memory does not hold. Lists of a state have the newest first.
-use Rattle.std.specs.Prelude.{ℕ, List, [], ◌∷◌, ◌++◌, reverse, Bool, true, false, ◌||◌, not, length}
-use Rattle.std.proofs.Math.Option.{Option, none}
+use Rattle.std.specs.Prelude.{ℕ, List, [], ◌∷◌, ◌++◌, reverse, Bool, true, false, ◌||◌, not, length, Option, None}
 use Rattle.rules.specs.Basic.{pick, codes, tab, lf, comma, decimal, join_by, each, concat, is_empty, is_some, on_some}
 use Rattle.rules.specs.Sheet.{line_of}
 use Rattle.rules.specs.Words.{BlockKind, step_kind, text_kind, DefineMode, mode_all, mode_components, mode_steps, mode_text}
@@ -15,15 +14,15 @@ use Rattle.rules.specs.Components.{timer_of}
 use Rattle.rules.specs.Pass.{quantities_of, pieces, source_text}
 use Rattle.rules.specs.Page.{table_lines, optional, item_line, block_lines, section_lines, timer_line, inline_line, span_word}
 use Rattle.content.specs.Contents.{spell}
-use Rattle.model.specs.Memory.{define_of}
-use Rattle.model.specs.declared.Define.{Define}
-use Rattle.model.specs.declared.Define.TheVariants as define
+use Rattle.sheet.specs.declared.Define.{Define}
+use Rattle.sheet.specs.declared.Define.TheVariants as define
 use Rattle.model.specs.declared.Open.{Open}
 use Rattle.model.specs.declared.Open.TheVariants as block
 use Rattle.step_lines.specs.Lines.{item_text, inline_text}
 use Rattle.following.specs.declared.Part.{Part}
 use Rattle.following.specs.declared.Part.TheVariants.{Sections, Timers, Inline, Old}
 use Rattle.following.specs.declared.Follow.{Follow}
+use Rattle.sheet.specs.Words.{define_of}
 
 -- ---- modes and open blocks as the code has them
 
@@ -138,7 +137,7 @@ lead n block.TextMode = text_lead
 
 -- a block that will be kept is drawn at once, after the section's line where that is missing; such a section has no name
 unfoldable pub start_adds : Follow → Open → List ℕ
-start_adds f b = pick (keeps f.define b) (pick f.shown [] (section_line none) ++ lead f.counter b) []
+start_adds f b = pick (keeps f.define b) (pick f.shown [] (section_line None) ++ lead f.counter b) []
 
 unfoldable pub component_item : ComponentEvent → Follow → Item
 component_item (ingredient_event c i) f = ingredient_item f.ingredients

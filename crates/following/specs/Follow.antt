@@ -1,6 +1,5 @@
 -- How the small state follows the walk.
-use Rattle.std.specs.Prelude.{ℕ, suc, ◌+◌, ◌≤◌, ◌≡◌, List, Bool, true, ◌||◌, length}
-use Rattle.std.proofs.Math.Option.{Option, none, some}
+use Rattle.std.specs.Prelude.{ℕ, suc, ◌+◌, ◌≤◌, ◌≡◌, List, Bool, true, ◌||◌, length, Option, None, Some}
 use Rattle.rules.specs.Basic.{pick, is_some, word_in}
 use Rattle.rules.specs.Words.{DefineMode, define_key, duplicate_key, define_words}
 use Rattle.rules.specs.Event as rules
@@ -10,8 +9,6 @@ use Rattle.rules.specs.Modes as modes
 use Rattle.rules.specs.Modes.{is_components, has_modes, key_of, key_text, value_text, config, unknown_config, ordinary}
 use Rattle.rules.specs.State.{State, next}
 use Rattle.rules.specs.Pass.{on_event}
-use Rattle.sheet.specs.declared.DefineWord.{DefineWord}
-use Rattle.sheet.specs.declared.DefineWord.TheVariants as word
 use Rattle.parts.specs.Views.{text_in}
 use Rattle.parts.specs.declared.TextView.{TextView}
 use Rattle.events.specs.Views.{between_in, component_event_in, inside_in, event_in}
@@ -19,14 +16,14 @@ use Rattle.events.specs.declared.Between.{Between}
 use Rattle.events.specs.declared.ComponentEvent.{ComponentEvent}
 use Rattle.events.specs.declared.Inside.{Inside}
 use Rattle.events.specs.declared.EventView.{EventView}
-use Rattle.model.specs.Memory.{define_of}
-use Rattle.model.specs.declared.Define.TheVariants as define
+use Rattle.sheet.specs.declared.Define.{Define}
 use Rattle.model.specs.declared.Open.{Open}
 use Rattle.model.specs.declared.Open.TheVariants as block
 use Rattle.following.specs.Drawn.{define_in, keeps, opens_as, follow_of}
 use Rattle.following.specs.declared.Follow.{Follow}
 use Rattle.following.specs.declared.Meta.{Meta}
 use Rattle.following.specs.declared.Meta.TheVariants.{Defines, Ordinary, Other}
+use Rattle.sheet.specs.Words.{define_of}
 
 -- f is what of the state the page's next bytes depend on
 pub record Follows (st : State) (f : Follow) : Type 0 where
@@ -35,16 +32,13 @@ pub record Follows (st : State) (f : Follow) : Type 0 where
 -- ---- `meta` lines
 
 -- what the value of `[mode]` or `[define]` does
-unfoldable pub word_meta : DefineWord → Meta
-word_meta word.All = Defines define.All
-word_meta word.Components = Defines define.Components
-word_meta word.Steps = Defines define.Steps
-word_meta word.Text = Defines define.Text
-word_meta word.Unknown = Other
+abbrev pub word_meta : Option Define → Meta
+word_meta None = Other
+word_meta (Some d) = Defines d
 
 unfoldable pub define_meta : Option DefineMode → Meta
-define_meta none = Other
-define_meta (some m) = Defines (define_in m)
+define_meta None = Other
+define_meta (Some m) = Defines (define_in m)
 
 unfoldable pub key_meta : modes.Key → Option DefineMode → Meta
 key_meta (config define_key) o = define_meta o

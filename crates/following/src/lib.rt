@@ -5,14 +5,15 @@
 ghost use Rattle.std.specs.Prelude.{◌≡◌, ◌+◌, ◌≤◌};
 ghost use Rattle.letters.specs.Tables.{unicode_tables};
 ghost use Rattle.parts.specs.Views.{TextWithin};
-ghost use Rattle.events.specs.Views.{block_in, BetweenWithin, EventWithin};
+ghost use Rattle.events.specs.Views.{BetweenWithin, EventWithin};
 ghost use Rattle.following.specs.Drawn.{keeps, opens_as, first_follow};
 ghost use Rattle.following.specs.Follow.{word_meta, meta_follow, section_follow, start_follow, close_follow, counter_after, with_inline, Room, MetaRead, BetweenFollowed, EventFollowed, ComponentCounted, InsideFollowed, Followed};
+ghost use Rattle.sheet.specs.Words.{block_in};
 
-use events::{Between, BlockKind, ComponentEvent, EventView, Inside};
-use model::{Define, Open};
-use parts::{OptText, TextView};
-use sheet::DefineWord;
+use events::{Between, ComponentEvent, EventView, Inside};
+use model::Open;
+use parts::TextView;
+use sheet::{BlockKind, Define};
 
 // The parts of the page that are drawn by a second walk: sections with their blocks and items; timers; inline
 // quantities; the spans of finding 3.
@@ -64,15 +65,12 @@ pub fn first_follow() -> Follow
 
 // ---- `meta` lines
 
-fn word_meta(m: DefineWord) -> Meta
+fn word_meta(m: Option<Define>) -> Meta
     ensures { result ≡ word_meta m }
 {
     match m {
-        DefineWord::All => Meta::Defines(Define::All),
-        DefineWord::Components => Meta::Defines(Define::Components),
-        DefineWord::Steps => Meta::Defines(Define::Steps),
-        DefineWord::Text => Meta::Defines(Define::Text),
-        DefineWord::Unknown => Meta::Other,
+        Some(define) => Meta::Defines(define),
+        None => Meta::Other,
     }
 }
 
@@ -288,8 +286,8 @@ fn after_between(t: &[u32], flags: u32, line: &[u8], b: Between, f: Follow) -> F
             after_meta(m, f)
         }
         Between::Section(name) => match name {
-            OptText::Absent => after_section(false, f),
-            OptText::Present(v) => after_section(true, f),
+            None => after_section(false, f),
+            Some(v) => after_section(true, f),
         },
         Between::Start(kind) => {
             let define = f.define;

@@ -15,9 +15,8 @@ use Rattle.rules.specs.Inline.{Piece, text_piece, quantity_piece, text_if_any, i
 use Rattle.rules.specs.Pass.{items_of, quantities_of}
 use Rattle.rules.proofs.Basics.{by_order}
 use Rattle.inline.specs.declared.Inline.{Inline}
-use Rattle.inline.specs.declared.Inline.TheVariants.{Found, Nothing}
 use Rattle.inline.specs.Scans.{part}
-use Rattle.inline.specs.Found.{inline_as, FoundAt, InlineAt}
+use Rattle.inline.specs.Found.{FoundAt}
 use Rattle.inline.specs.Items.{CountsOf, text_items}
 use Rattle.inline.proofs.Turns.{some_content}
 
@@ -73,17 +72,6 @@ unfolding text_if_any quantities_of
 text_quantities [] ps = refl
 text_quantities (c ∷ x) ps = refl
 
--- ---- what an answer says of the pieces
-
-module _ {us : List NamedUnit} {s : List ℕ} {at : ℕ} {f : Inline} (i : InlineAt us s at f) where
-  pub pieces_none : f ≡ Nothing → inline_pieces us (content_in (drop at s)) ≡ text_if_any (content_in (drop at s))
-  pieces_none e = sym (unfold inline_as in (rw e at i.is))
-
-  pub pieces_found : {a b u v e : ℕ} → f ≡ Found a b u v e
-      → inline_pieces us (content_in (drop at s))
-      ≡ text_if_any (content_in (part at a s)) ++ (quantity_piece (content_in (part a b s)) (content_in (part u v s)) ∷ inline_pieces us (content_in (drop e s)))
-  pieces_found h = sym (unfold inline_as in (rw h at i.is))
-
 -- ---- the count
 
 -- n items, k of them quantities, stand before a place
@@ -106,10 +94,9 @@ counting_start us s w =
       left = w;
     }
 
-module _ {us : List NamedUnit} {s : List ℕ} {at n k : ℕ} {f : Inline} (c : Counting us s at n k) (i : InlineAt us s at f) where
-  pub counting_end : {t : ℕ} → f ≡ Nothing → t ≡ text_items at (length s) → CountsOf us s (record { items = n + t; quantities = k })
-  counting_end e q =
-      let p = pieces_none i e in
+module _ {us : List NamedUnit} {s : List ℕ} {at n k : ℕ} (c : Counting us s at n k) where
+  pub counting_end : {t : ℕ} → inline_pieces us (content_in (drop at s)) ≡ text_if_any (content_in (drop at s)) → t ≡ text_items at (length s) → CountsOf us s (record { items = n + t; quantities = k })
+  counting_end p q =
       let none : quantities_of (text_if_any (content_in (drop at s))) ≡ [] = ap quantities_of (sym (append-nil (text_if_any (content_in (drop at s))))) ∙ text_quantities (content_in (drop at s)) [] ∙ unfold quantities_of in refl in
       record {
         items = omega (arith, c.items, ap length p, rest_count s at, q);
@@ -117,36 +104,31 @@ module _ {us : List NamedUnit} {s : List ℕ} {at n k : ℕ} {f : Inline} (c : C
         few = omega (arith, c.few, c.to, items_few at (length s) c.to, q);
       }
 
-  module _ {a b u v e : ℕ} (h : f ≡ Found a b u v e) where
-    place : FoundAt s at a b u v e
-    place = i.found a b u v e h
+  module _ {f : Inline} (i : FoundAt us s at f) where
+    quantities_split : length (quantities_of (inline_pieces us (content_in (drop at s)))) ≡ suc (length (quantities_of (inline_pieces us (content_in (drop f.after s)))))
+    quantities_split = ap (λ (ps : List Piece). length (quantities_of ps)) i.is ∙ ap length (text_quantities (content_in (part at f.number_from s)) _) ∙ unfold quantities_of in refl
 
-    quantities_split : length (quantities_of (inline_pieces us (content_in (drop at s)))) ≡ suc (length (quantities_of (inline_pieces us (content_in (drop e s)))))
-    quantities_split = ap (λ (ps : List Piece). length (quantities_of ps)) (pieces_found i h) ∙ ap length (text_quantities (content_in (part at a s)) _) ∙ unfold quantities_of in refl
+    pub counting_fits : {t : ℕ} → t ≡ text_items at f.number_from → n + t + 1 ≤ f.after
+    counting_fits q = omega (arith, c.few, items_few at f.number_from i.start, i.number, i.gap, i.unit, i.rest)
 
-    pub counting_fits : {t : ℕ} → t ≡ text_items at a → n + t + 1 ≤ e
-    counting_fits q = omega (arith, c.few, items_few at a place.start, place.number, place.gap, place.unit, place.rest)
+    pub counting_less : at < f.after
+    counting_less = omega (arith, i.start, i.number, i.gap, i.unit, i.rest)
 
-    pub counting_less : at < e
-    counting_less = omega (arith, place.start, place.number, place.gap, place.unit, place.rest)
-
-    pub counting_to : e ≤ length s
-    counting_to = place.end
-
-    pub counting_more : {t : ℕ} → t ≡ text_items at a → Counting us s e (n + t + 1) (k + 1)
+    pub counting_more : {t : ℕ} → t ≡ text_items at f.number_from → Counting us s f.after (n + t + 1) (k + 1)
     counting_more q =
         record {
           items =
               omega (
                 arith,
                 c.items,
-                ap length (pieces_found i h),
-                length-append (text_if_any (content_in (part at a s))) (quantity_piece (content_in (part a b s)) (content_in (part u v s)) ∷ inline_pieces us (content_in (drop e s))),
-                text_count s at a (omega (arith, place.number, place.gap, place.unit, place.rest, place.end)),
+                ap length i.is,
+                length-append (text_if_any (content_in (part at f.number_from s)))
+                    (quantity_piece (content_in (part f.number_from f.number_to s)) (content_in (part f.unit_from f.unit_to s)) ∷ inline_pieces us (content_in (drop f.after s))),
+                text_count s at f.number_from (omega (arith, i.number, i.gap, i.unit, i.rest, i.end)),
               );
           quantities = omega (arith, c.quantities, quantities_split);
           few = counting_fits q;
           fewer = omega (arith, c.fewer, counting_less);
-          to = place.end;
-          left = place.after_field;
+          to = i.end;
+          left = i.after_field;
         }

@@ -7,12 +7,11 @@ use native.Mathlib.Nat.{le_refl, sub_self, add-zero, zero-add}
 use native.Mathlib.Omega.{arith}
 use lib.ListN.{length, take, drop, length-drop, take-append-drop, drop_of_length-le}
 use lib.Seq.{drop-drop, take-add, append_snoc}
-use lib.Dec.{eqb}
 use borrow.Author.Tests.{eq-eqb, ne_eqb}
 use Rattle.rules.specs.Basic.{is_digit}
 use Rattle.rules.specs.Unicode.{is_white_space, is_alphabetic}
 use Rattle.rules.specs.Text.{is_not_alphabetic}
-use Rattle.rules.specs.Inline.{is_no_digit, is_digit_or_point, points}
+use Rattle.rules.specs.Inline.{is_no_digit, points}
 use Rattle.utf8.specs.declared.Char.{Char}
 use Rattle.content.specs.Contents.{content_in}
 use Rattle.content.specs.Readings.{char_in}
@@ -141,14 +140,6 @@ module _ {b : Bool} (c : ℕ) where
   pub letter_none : b ≡ is_alphabetic c → b ≡ false → is_not_alphabetic c ≡ true
   unfolding is_not_alphabetic
   letter_none e t = rw (← e, t)
-
-  pub digit_passes : b ≡ is_digit c → b ≡ true → true ≡ is_digit_or_point c
-  unfolding is_digit_or_point
-  digit_passes e t = rw (← e, t)
-
-  pub point_passes : b ≡ is_digit c → b ≡ false → eqb c 46 ≡ is_digit_or_point c
-  unfolding is_digit_or_point
-  point_passes e t = rw (← e, t)
 
 -- ---- points
 

@@ -3,7 +3,6 @@ use Prim.Native.Nat.{ℕ, ◌+◌, ◌-◌, ◌≤◌, ◌<◌}
 use mathlib.Core.Path.{◌≡◌, refl, sym, ap, ◌∙◌}
 use mathlib.Core.Bool.{true, false, ◌&&◌}
 use mathlib.Core.List.{List, [], ◌∷◌, ◌++◌}
-use mathlib.Core.Option.{none}
 use native.Mathlib.Nat.{le_refl}
 use native.Mathlib.Omega.{arith}
 use lib.ListN.{length, drop, length-drop, drop_of_length-le}
@@ -19,9 +18,8 @@ use Rattle.rules.specs.Units.{NamedUnit, find_unit}
 use Rattle.rules.specs.Inline.{front, behind, is_no_digit, is_digit_or_point, points, is_number, sign, text_if_any, try_unit, inline_pieces}
 use Rattle.rules.proofs.Basics.{by_order}
 use Rattle.inline.specs.declared.Span.{Span}
-use Rattle.inline.specs.declared.Inline.TheVariants.{Found, Nothing}
 use Rattle.inline.specs.Scans.{is_not_white, part, Front, SignAt, UnitPart}
-use Rattle.inline.specs.Found.{inline_as, FoundAt, InlineAt}
+use Rattle.inline.specs.Found.{FoundAt}
 use Rattle.inline.proofs.Fronts.{front_yes, behind_head, digit_number}
 use Rattle.inline.proofs.Seeks.{seek, seek_all, seek_none, seek_front}
 use Rattle.inline.proofs.Tries.{Sign, unsigned, signed, sign_is, after, number_last, number_unit, unit_known, unit_other}
@@ -40,16 +38,16 @@ field_join : (s : List ℕ) (a b e : ℕ) → a ≤ b → b ≤ e → Field (par
 field_join s a b e h k w v = rw (part_part a b e s h k) (field_append w v)
 
 -- bytes are at least one character
-pub record Some (t : List ℕ) : Type 0 where
+pub record Starting (t : List ℕ) : Type 0 where
   pub head : ℕ
   pub tail : List ℕ
   pub is : content_in t ≡ head ∷ tail
 
-pub some_content : (t : List ℕ) → 1 ≤ length t → Some t
+pub some_content : (t : List ℕ) → 1 ≤ length t → Starting t
 some_content [] h = absurd (omega arith)
 some_content (a ∷ t) h = record { head = (char_in (a ∷ t)).code; tail = content_in (drop (char_in (a ∷ t)).size (a ∷ t)); is = (content_first (a ∷ t) h).reads }
 
-some_at : (s : List ℕ) (d : ℕ) → d < length s → Some (drop d s)
+some_at : (s : List ℕ) (d : ℕ) → d < length s → Starting (drop d s)
 some_at s d h = some_content (drop d s) (rw (length-drop d s) (omega arith))
 
 -- ---- the search
@@ -76,19 +74,14 @@ points_sign : {g : List ℕ} (n : List ℕ) → Sign g → points (g ++ n) ≡ p
 points_sign n unsigned = refl
 points_sign n signed = unfold points in refl
 
--- all is text
-all_text : {us : List NamedUnit} {s : List ℕ} {from : ℕ} → text_if_any (content_in (drop from s)) ≡ inline_pieces us (content_in (drop from s)) → InlineAt us s from Nothing
-all_text {us} {s} {from} e =
-    record { is = unfold inline_as in e; found = λ a b c d e q. absurd (let z : ◌≡◌ {A = ℕ} 0 1 = cc in omega arith) }
-
-pub turn_none : {us : List NamedUnit} {s : List ℕ} {from i d : ℕ} → Sought us s from i → Front is_no_digit s i d → d ≡ length s → InlineAt us s from Nothing
+pub turn_none : {us : List NamedUnit} {s : List ℕ} {from i d : ℕ} → Sought us s from i → Front is_no_digit s i d → d ≡ length s → inline_pieces us (content_in (drop from s)) ≡ text_if_any (content_in (drop from s))
 turn_none {us} {s} {from} {i} {d} g f h =
     let e : behind is_no_digit (content_in (drop i s)) ≡ [] = sym f.behind ∙ rw (drop_of_length-le s {i = d} (omega arith)) no_content in
-    all_text (sym (seek_none us (content_in (part from i s)) (content_in (drop i s)) e ∙ ap text_if_any (sym (content_rest s from i g.start g.whole))) ∙ g.is)
+    sym g.is ∙ seek_none us (content_in (part from i s)) (content_in (drop i s)) e ∙ ap text_if_any (sym (content_rest s from i g.start g.whole))
 
 -- a number is there
 module _ {us : List NamedUnit} {s : List ℕ} {from i d m : ℕ} (g : Sought us s from i) (f : Front is_no_digit s i d) (h : d ≡ length s → ⊥) (k : SignAt s i d m) where
-  it : Some (drop d s)
+  it : Starting (drop d s)
   it = some_at s d (omega (arith, f.to))
 
   digit : is_digit it.head ≡ true
@@ -111,30 +104,28 @@ module _ {us : List NamedUnit} {s : List ℕ} {from i d m : ℕ} (g : Sought us 
 
     -- it has a digit
     pub number_more : d < e
-    number_more = by_order e d (λ l. absurd (none (omega (arith, n.from)))) (λ l. l)
+    number_more = by_order e d (λ l. absurd (never (omega (arith, n.from)))) (λ l. l)
       where
-        none : e ≡ d → ⊥
-        none q =
+        never : e ≡ d → ⊥
+        never q =
             let z : content_in (part d e s) ≡ [] = rw q (rw (part_none d s) no_content) in
             let y : content_in (part d e s) ≡ it.head ∷ front is_digit_or_point it.tail = number_is ∙ front_yes is_digit_or_point it.head it.tail (digit_number it.head digit) in
             let o : ◌≡◌ {A = ℕ} 0 1 = cc in omega arith
 
     -- it ends the text
-    pub turn_last : {w : ℕ} → Front is_white_space s e w → w ≡ length s → InlineAt us s from Nothing
+    pub turn_last : {w : ℕ} → Front is_white_space s e w → w ≡ length s → inline_pieces us (content_in (drop from s)) ≡ text_if_any (content_in (drop from s))
     turn_last {w} b l =
         let q : behind is_white_space (behind is_digit_or_point (it.head ∷ it.tail)) ≡ [] =
         ap (behind is_white_space) after_number ∙ sym b.behind ∙ rw (drop_of_length-le s {i = w} (omega arith)) no_content in
-        all_text
-        (sym (number_last us (content_in (part from m s)) it.head it.tail with_sign digit q
-        ∙ ap text_if_any (rw (← it.is, ← content_rest s m d k.to k.sign, ← content_rest s from m (omega (arith, g.start, k.from)) before)))
-        ∙ at_number)
+        sym at_number ∙ number_last us (content_in (part from m s)) it.head it.tail with_sign digit q
+        ∙ ap text_if_any (rw (← it.is, ← content_rest s m d k.to k.sign, ← content_rest s from m (omega (arith, g.start, k.from)) before))
       where
         before : Field (part from m s)
         before = field_join s from i m g.start k.from g.whole k.whole
 
     -- a word follows
     module _ {w a : ℕ} {u : Span} (b : Front is_white_space s e w) (l : w ≡ length s → ⊥) (v : Front is_not_white s w a) (y : UnitPart s w a u) where
-      next : Some (drop w s)
+      next : Starting (drop w s)
       next = some_at s w (omega (arith, b.to))
 
       before : Field (part from m s)
@@ -195,34 +186,19 @@ module _ {us : List NamedUnit} {s : List ℕ} {from i d m : ℕ} (g : Sought us 
         pub turn_unknown : r ≤ 1 → is_some (find_unit (content_in (part u.from u.to s)) us) ≡ false → Sought us s from a
         turn_unknown h q = other (rw (is_number_lem h) q)
 
-        pub turn_found : r ≤ 1 → is_some (find_unit (content_in (part u.from u.to s)) us) ≡ true → InlineAt us s from (Found m e u.from u.to a)
+        pub turn_found : r ≤ 1 → is_some (find_unit (content_in (part u.from u.to s)) us) ≡ true
+            → FoundAt us s from (record { number_from = m; number_to = e; unit_from = u.from; unit_to = u.to; after = a })
         turn_found h q =
             record {
-              is = unfold inline_as in
-                  (sym (unit_known us (content_in (part from m s)) (content_in (part m e s)) (content_in (part u.from u.to s)) (content_in (part from a s)) (content_in (drop a s)) (is_number_lem h) q) ∙ tried);
-              found = places;
+              is = sym tried ∙ unit_known us (content_in (part from m s)) (content_in (part m e s)) (content_in (part u.from u.to s)) (content_in (part from a s)) (content_in (drop a s)) (is_number_lem h) q;
+              start = from_m;
+              number = omega (arith, k.to, number_more);
+              gap = omega (arith, b.from, y.from);
+              unit = y.order;
+              rest = y.to;
+              end = v.to;
+              before_field = before;
+              number_field = number;
+              unit_field = y.whole;
+              after_field = v.left;
             }
-          where
-            here : FoundAt s from m e u.from u.to a
-            here =
-                record {
-                  start = from_m;
-                  number = omega (arith, k.to, number_more);
-                  gap = omega (arith, b.from, y.from);
-                  unit = y.order;
-                  rest = y.to;
-                  end = v.to;
-                  before_field = before;
-                  number_field = number;
-                  unit_field = y.whole;
-                  after_field = v.left;
-                }
-
-            places : (p₁ p₂ p₃ p₄ p₅ : ℕ) → Found m e u.from u.to a ≡ Found p₁ p₂ p₃ p₄ p₅ → FoundAt s from p₁ p₂ p₃ p₄ p₅
-            places p₁ p₂ p₃ p₄ p₅ q =
-                let q₁ : m ≡ p₁ = cc in
-                let q₂ : e ≡ p₂ = cc in
-                let q₃ : u.from ≡ p₃ = cc in
-                let q₄ : u.to ≡ p₄ = cc in
-                let q₅ : a ≡ p₅ = cc in
-                rw (← q₁, ← q₂, ← q₃, ← q₄, ← q₅) here

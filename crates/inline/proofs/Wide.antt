@@ -6,9 +6,9 @@ use mathlib.Core.Bool.{Bool, true, false, not}
 use mathlib.Core.List.{List, ◌∷◌}
 use native.Mathlib.Omega.{arith}
 use lib.Dec.{eqb, ltb}
-use lib.ListN.{length, get_or, drop, get_or-eq_default}
+use lib.ListN.{length, get_or, drop}
 use lib.Seq.{drop-cons, get_or-drop}
-use borrow.Author.Tests.{lt-ltb, le-ltb, ltb-true, eqb-true, eqb-false, eq-eqb, ne_eqb, not-true}
+use borrow.Author.Tests.{lt-ltb, le-ltb, ltb-true, eqb-true, eqb-false, ne_eqb, not-true}
 use Rattle.rules.specs.Inline.{is_no_digit, is_digit_or_point}
 use Rattle.rules.specs.Unicode.{is_white_space}
 use Rattle.rules.specs.Utf8.{size_of, char_or, followers}
@@ -27,60 +27,40 @@ use Rattle.content.proofs.Chars.{content_step, char_plain}
 use Rattle.inline.specs.Scans.{is_not_white, lead_size, is_solid, is_solid_e3, Front}
 use Rattle.inline.proofs.Scans.{Going, going_stop, going_on}
 
--- ---- the ways of `lead_size`, `is_solid` and `is_solid_e3`
+-- ---- `lead_size` and `is_solid` by cases
 
 module _ (a : ℕ) where
-  pub lead_one : a < 128 → 1 ≡ lead_size a
+  lead_one : a < 128 → 1 ≡ lead_size a
   unfolding lead_size
   lead_one h = rw (lt-ltb a 128 h)
 
-  pub lead_two : 128 ≤ a → a < 224 → 2 ≡ lead_size a
+  lead_two : 128 ≤ a → a < 224 → 2 ≡ lead_size a
   unfolding lead_size
   lead_two l h = rw (le-ltb a 128 l, lt-ltb a 224 h)
 
-  pub lead_three : 128 ≤ a → 224 ≤ a → a < 240 → 3 ≡ lead_size a
+  lead_three : 128 ≤ a → 224 ≤ a → a < 240 → 3 ≡ lead_size a
   unfolding lead_size
   lead_three l h g = rw (le-ltb a 128 l, le-ltb a 224 h, lt-ltb a 240 g)
 
-  pub lead_four : 128 ≤ a → 224 ≤ a → 240 ≤ a → 4 ≡ lead_size a
+  lead_four : 128 ≤ a → 224 ≤ a → 240 ≤ a → 4 ≡ lead_size a
   unfolding lead_size
   lead_four l h g = rw (le-ltb a 128 l, le-ltb a 224 h, le-ltb a 240 g)
 
-  pub solid_blank : a < 128 → a < 33 → false ≡ is_solid a
+  solid_blank : a < 128 → a < 33 → false ≡ is_solid a
   unfolding is_solid
   solid_blank h g = rw (lt-ltb a 128 h, lt-ltb a 33 g)
 
-  pub solid_ascii : a < 128 → 33 ≤ a → not (eqb a 92) ≡ is_solid a
+  solid_ascii : a < 128 → 33 ≤ a → not (eqb a 92) ≡ is_solid a
   unfolding is_solid
   solid_ascii h g = rw (lt-ltb a 128 h, le-ltb a 33 g)
 
-  pub solid_low : 128 ≤ a → a < 225 → not (eqb a 194) ≡ is_solid a
+  solid_low : 128 ≤ a → a < 225 → not (eqb a 194) ≡ is_solid a
   unfolding is_solid
   solid_low h g = rw (le-ltb a 128 h, lt-ltb a 225 g)
 
-  pub solid_high : 128 ≤ a → 225 ≤ a → ltb 227 a ≡ is_solid a
+  solid_high : 128 ≤ a → 225 ≤ a → ltb 227 a ≡ is_solid a
   unfolding is_solid
   solid_high h g = rw (le-ltb a 128 h, le-ltb a 225 g)
-
-module _ (s : List ℕ) (i : ℕ) where
-  pub e3_other : (get_or s i 0 ≡ 227 → ⊥) → false ≡ is_solid_e3 s i
-  unfolding is_solid_e3
-  e3_other h = rw (ne_eqb (get_or s i 0) 227 h)
-
-  module _ (h : get_or s i 0 ≡ 227) where
-    pub e3_cut : length s - i < 3 → true ≡ is_solid_e3 s i
-    unfolding is_solid_e3
-    e3_cut l =
-        rw (eq-eqb (get_or s i 0) 227 h)
-        (pick_either (λ (x : Bool). true ≡ x) (eqb (get_or s (i + 1) 0) 128) _ _ (λ _. rw (get_or-eq_default s 0 {n = i + 2} (omega arith))) (λ _. refl))
-
-    pub e3_second : (get_or s (i + 1) 0 ≡ 128 → ⊥) → true ≡ is_solid_e3 s i
-    unfolding is_solid_e3
-    e3_second n = rw (eq-eqb (get_or s i 0) 227 h, ne_eqb (get_or s (i + 1) 0) 128 n)
-
-    pub e3_third : get_or s (i + 1) 0 ≡ 128 → not (eqb (get_or s (i + 2) 0) 128) ≡ is_solid_e3 s i
-    unfolding is_solid_e3
-    e3_third e = rw (eq-eqb (get_or s i 0) 227 h, eq-eqb (get_or s (i + 1) 0) 128 e)
 
 -- ---- the character
 

@@ -30,22 +30,18 @@ struct Span {
 fn is_digit(c: u32) -> bool
     ensures { result ≡ is_digit c }
 {
-    if c < 48 {
-        return false;
-    }
-    c <= 57
+    48 <= c && c <= 57
 }
 
+#[tactic(auto, unfolding(rules::specs::Inline::is_digit_or_point))]
 fn is_digit_or_point(c: u32) -> bool
     ensures { result ≡ is_digit_or_point c }
 {
-    if is_digit(c) {
-        return true;
-    }
-    c == 46
+    is_digit(c) || c == 46
 }
 
 // How many bytes the character takes that a byte starts.
+#[tactic(auto, unfolding(crate::specs::Scans::lead_size))]
 fn lead_size(a: u8) -> usize
     ensures { result ≡ lead_size a }
 {
@@ -62,14 +58,12 @@ fn lead_size(a: u8) -> usize
 }
 
 // Whether a byte is seen to start a character that is not White_Space.
+#[tactic(auto, unfolding(crate::specs::Scans::is_solid))]
 fn is_solid(a: u8) -> bool
     ensures { result ≡ is_solid a }
 {
     if a < 0x80 {
-        if a < 33 {
-            return false;
-        }
-        return a != b'\\';
+        return 33 <= a && a != b'\\';
     }
     if a < 0xe1 {
         return a != 0xc2;
@@ -78,20 +72,12 @@ fn is_solid(a: u8) -> bool
 }
 
 // Whether the byte at a place is E3 and does not start U+3000, the only White_Space that starts so.
+#[tactic(auto, unfolding(crate::specs::Scans::is_solid_e3))]
 fn is_solid_e3(s: &[u8], i: usize) -> bool
     requires { i < length s.now }
     ensures { result ≡ is_solid_e3 s.now i }
 {
-    if s[i] != 0xe3 {
-        return false;
-    }
-    if s.len() - i < 3 {
-        return true;
-    }
-    if s[i + 1] != 0x80 {
-        return true;
-    }
-    s[i + 2] != 0x80
+    s[i] == 0xe3 && (s.len() - i < 3 || s[i + 1] != 0x80 || s[i + 2] != 0x80)
 }
 
 // The place of the next ASCII digit, or the end.
@@ -236,36 +222,39 @@ fn unit_part(t: &[u32], s: &[u8], from: usize, to: usize) -> Span
     }
 }
 
-// The first quantity of a text whose unit is known.
+// A quantity of a text, whose unit is known: where its number starts, with its sign, and ends; where its unit's name starts
+// and ends; where the search goes on.
 #[derive(Clone, Copy)]
-pub enum Inline {
-    // Where its number starts, with its sign, and ends; where its unit's name starts and ends; where the search goes on.
-    Found {
-        number_from: usize,
-        number_to: usize,
-        unit_from: usize,
-        unit_to: usize,
-        after: usize,
-    },
-    Nothing,
+pub struct Inline {
+    pub number_from: usize,
+    pub number_to: usize,
+    pub unit_from: usize,
+    pub unit_to: usize,
+    pub after: usize,
 }
 
 // The first quantity of the text from a place on.
-pub fn find_inline_quantity(t: &[u32], units: &[u8], index: &[u32], s: &[u8], from: usize) -> Inline
+pub fn find_inline_quantity(
+    t: &[u32],
+    units: &[u8],
+    index: &[u32],
+    s: &[u8],
+    from: usize,
+) -> Option<Inline>
     requires { (t.now ≡ unicode_tables) × Indexed units.now index.now × (from ≤ length s.now) × (Field (drop from s.now)) }
     ensures { InlineAt (units_or (read_units units.now)) s.now from result }
 {
     let mut i = from;
-    'numbers: loop {
+    loop {
         let digit = next_digit(s, i);
         if digit == s.len() {
-            break Inline::Nothing;
+            return None;
         }
         let number_from = sign_start(s, i, digit);
         let number_to = number_end(s, digit);
         let word = blanks_end(t, s, number_to);
         if word == s.len() {
-            break Inline::Nothing;
+            return None;
         }
         let after = word_end(t, s, word);
         let span = unit_part(t, s, word, after);
@@ -276,13 +265,13 @@ pub fn find_inline_quantity(t: &[u32], units: &[u8], index: &[u32], s: &[u8], fr
             let mut p = unit_index::first_of(index, name);
             while p != 0 {
                 if unit_index::is_named(units, index, p, name) {
-                    break 'numbers Inline::Found {
+                    return Some(Inline {
                         number_from,
                         number_to,
                         unit_from,
                         unit_to,
                         after,
-                    };
+                    });
                 }
                 p = unit_index::next_of(index, p);
             }
@@ -299,13 +288,11 @@ pub struct Counts {
 }
 
 // One item for a text that is not empty.
+#[tactic(auto, unfolding(crate::specs::Items::text_items))]
 fn text_items(from: usize, to: usize) -> usize
     ensures { result ≡ text_items from to }
 {
-    if from < to {
-        return 1;
-    }
-    0
+    if from < to { 1 } else { 0 }
 }
 
 pub fn count_items(t: &[u32], units: &[u8], index: &[u32], s: &[u8]) -> Counts
@@ -315,26 +302,13 @@ pub fn count_items(t: &[u32], units: &[u8], index: &[u32], s: &[u8]) -> Counts
     let mut items = 0;
     let mut quantities = 0;
     let mut at = 0;
-    loop {
-        let f = find_inline_quantity(t, units, index, s, at);
-        match f {
-            Inline::Nothing => {
-                return Counts {
-                    items: items + text_items(at, s.len()),
-                    quantities,
-                };
-            }
-            Inline::Found {
-                number_from,
-                number_to: _,
-                unit_from: _,
-                unit_to: _,
-                after,
-            } => {
-                items = items + text_items(at, number_from) + 1;
-                quantities += 1;
-                at = after;
-            }
-        }
+    while let Some(q) = find_inline_quantity(t, units, index, s, at) {
+        items = items + text_items(at, q.number_from) + 1;
+        quantities += 1;
+        at = q.after;
+    }
+    Counts {
+        items: items + text_items(at, s.len()),
+        quantities,
     }
 }

@@ -3,7 +3,7 @@ use Prim.Native.Nat.{ℕ}
 use mathlib.Core.Path.{◌≡◌, refl, ap, sym, ◌∙◌}
 use mathlib.Core.Bool.{Bool, true, false, ◌||◌}
 use mathlib.Core.List.{List}
-use mathlib.Core.Option.{Option, none, some}
+use Rattle.std.specs.Prelude.{Option, None, Some, Ok, Err}
 use lib.Dec.{ltb}
 use lib.ListN.{length}
 use borrow.Author.Tests.{ltb-false}
@@ -15,13 +15,14 @@ use Rattle.rules.specs.Pass.{parse_events}
 use Rattle.rules.specs.Answer.{declined, Reading, events, unread, read_sheet, events_or, units_or, passed, with_units, collection, Lent, words_needed, bytes_needed, is_short, written, collect_answer, plain_of, plain_answer}
 use Rattle.rules.proofs.Basics.{no_some, no_truth, some_inj}
 use Rattle.reading.specs.Answers.{fault_of}
-use Rattle.inputs.specs.declared.Inputs.TheVariants.{Good, Refused}
-use Rattle.inputs.specs.Inputs.{inputs_as, refused, lent, sheet_fault, units_fault, contents_fault, inputs_fault, InputsChecked, GoodInputs}
+use Rattle.refusals.specs.declared.Refusal.{Refusal}
+use Rattle.refusals.specs.Told.{told_of}
+use Rattle.inputs.specs.Inputs.{refused, lent, sheet_fault, units_fault, contents_fault, inputs_fault, InputsChecked, GoodInputs}
 
 -- a refusal, if there is one, or else this outcome
 unfoldable outcome_or : Option (ℕ × ℕ) → Outcome → Outcome
-outcome_or none o = o
-outcome_or (some p) o = refusal p.0 p.1
+outcome_or None o = o
+outcome_or (Some p) o = refusal p.0 p.1
 
 -- ---- one test
 pick_outcome : (b : Bool) (k : ℕ) (f : Option (ℕ × ℕ)) (x o : Outcome) → x ≡ outcome_or f o
@@ -34,12 +35,12 @@ unless_outcome : (b : Bool) (k : ℕ) (f : Option (ℕ × ℕ)) (x o : Outcome) 
 unless_outcome true k f x o e = e
 unless_outcome false k f x o e = unfold refused outcome_or in refl
 
-pick_none : (b : Bool) (k : ℕ) (f : Option (ℕ × ℕ)) → pick b (refused k) f ≡ none → (b ≡ false) × (f ≡ none)
+pick_none : (b : Bool) (k : ℕ) (f : Option (ℕ × ℕ)) → pick b (refused k) f ≡ None → (b ≡ false) × (f ≡ None)
 unfolding refused
 pick_none true k f e = no_some (sym e)
 pick_none false k f e = (refl, e)
 
-unless_none : (b : Bool) (k : ℕ) (f : Option (ℕ × ℕ)) → pick b f (refused k) ≡ none → (b ≡ true) × (f ≡ none)
+unless_none : (b : Bool) (k : ℕ) (f : Option (ℕ × ℕ)) → pick b f (refused k) ≡ None → (b ≡ true) × (f ≡ None)
 unfolding refused
 unless_none true k f e = (refl, e)
 unless_none false k f e = no_some (sym e)
@@ -49,7 +50,7 @@ or_pick true b x y = refl
 or_pick false b x y = refl
 
 -- ---- what was read, and what was listed
-reading_none : (r : Reading) → fault_of r ≡ none → r ≡ events (events_or r)
+reading_none : (r : Reading) → fault_of r ≡ None → r ≡ events (events_or r)
 reading_none (events es) e = unfold events_or in refl
 reading_none (unread n l) e = unfold fault_of in no_some (sym e)
 
@@ -62,15 +63,15 @@ module _ (sheet text : List ℕ) (flags : ℕ) where
   units_outcome : (o : Option (List NamedUnit))
       → with_units text flags sheet o ≡ outcome_or (units_fault sheet text flags o) (parse_events text (units_or o) flags (events_or (read_sheet text sheet)))
   unfolding with_units units_fault sheet_fault units_or
-  units_outcome none = unfold refused outcome_or in refl
-  units_outcome (some us) =
+  units_outcome None = unfold refused outcome_or in refl
+  units_outcome (Some us) =
       pick_outcome (name_twice us) 6 _ _ _ (pick_outcome (ltb 7 flags) 7 _ _ _ (passed_outcome us (read_sheet text sheet)))
 
-  units_none : (o : Option (List NamedUnit)) → units_fault sheet text flags o ≡ none
-      → (is_some o ≡ true) × (o ≡ some (units_or o)) × (name_twice (units_or o) ≡ false) × (sheet_fault sheet text flags ≡ none)
+  units_none : (o : Option (List NamedUnit)) → units_fault sheet text flags o ≡ None
+      → (is_some o ≡ true) × (o ≡ Some (units_or o)) × (name_twice (units_or o) ≡ false) × (sheet_fault sheet text flags ≡ None)
   unfolding units_fault units_or is_some
-  units_none none e = unfold refused in no_some (sym e)
-  units_none (some us) e = let p = pick_none (name_twice us) 6 _ e in (refl, refl, p.0, p.1)
+  units_none None e = unfold refused in no_some (sym e)
+  units_none (Some us) e = let p = pick_none (name_twice us) 6 _ e in (refl, refl, p.0, p.1)
 
 -- ---- the whole, with memory enough
 module _ (sheet text units : List ℕ) (flags : ℕ) where
@@ -90,10 +91,10 @@ module _ (sheet text units : List ℕ) (flags : ℕ) where
       (pick_outcome (ltb 16384 (length units)) 3 _ _ _
       (unless_outcome (is_utf8 text) 4 _ _ _ (units_outcome sheet text flags (read_units units)))))
 
-  collection_refused : {n l : ℕ} → files_fault ≡ some (n, l) → collection sheet text units flags ≡ refusal n l
+  collection_refused : {n l : ℕ} → files_fault ≡ Some (n, l) → collection sheet text units flags ≡ refusal n l
   collection_refused e = unfold outcome_or in (collection_outcome ∙ rw e)
 
-  collection_passed : files_fault ≡ none
+  collection_passed : files_fault ≡ None
       → collection sheet text units flags ≡ parse_events text (units_or (read_units units)) flags (events_or (read_sheet text sheet))
   collection_passed e = unfold outcome_or in (collection_outcome ∙ rw e)
 
@@ -108,25 +109,25 @@ module _ (sheet text units : List ℕ) (flags : ℕ) (m : Lent) where
   unfolding is_short
   short_lent = refl
 
-  refused_as : {X : Type 0} {n l : ℕ} (f : ℕ → ℕ → X) (a : X) → (files_fault sheet text units flags ≡ some (n, l) → a ≡ f n l)
-      → inputs_fault sheet text units flags m.words m.bytes ≡ some (n, l) → pick (is_short m) (f 1 0) a ≡ f n l
+  refused_as : {X : Type 0} {n l : ℕ} (f : ℕ → ℕ → X) (a : X) → (files_fault sheet text units flags ≡ Some (n, l) → a ≡ f n l)
+      → inputs_fault sheet text units flags m.words m.bytes ≡ Some (n, l) → pick (is_short m) (f 1 0) a ≡ f n l
   refused_as {n = n} {l = l} f a g e = by (is_short m) (rw (fault_split sheet text units flags m.words m.bytes, ← short_lent) at e)
     where
-      by : (b : Bool) → pick b (refused 1) (files_fault sheet text units flags) ≡ some (n, l) → pick b (f 1 0) a ≡ f n l
+      by : (b : Bool) → pick b (refused 1) (files_fault sheet text units flags) ≡ Some (n, l) → pick b (f 1 0) a ≡ f n l
       by true q = unfold refused in ap (λ (p : ℕ × ℕ). f p.0 p.1) (some_inj q)
       by false q = g q
 
   -- what the whole comes to
-  pub refused_outcome : {n l : ℕ} → inputs_fault sheet text units flags m.words m.bytes ≡ some (n, l)
+  pub refused_outcome : {n l : ℕ} → inputs_fault sheet text units flags m.words m.bytes ≡ Some (n, l)
       → pick (is_short m) (refusal 1 0) (collection sheet text units flags) ≡ refusal n l
   refused_outcome e = refused_as refusal _ (λ q. collection_refused sheet text units flags q) e
 
-  pub refused_collect : {n l : ℕ} → inputs_fault sheet text units flags m.words m.bytes ≡ some (n, l)
+  pub refused_collect : {n l : ℕ} → inputs_fault sheet text units flags m.words m.bytes ≡ Some (n, l)
       → collect_answer sheet text units flags m ≡ declined n l
   unfolding collect_answer written
   refused_collect e = refused_as declined _ (λ q. rw (collection_refused sheet text units flags q)) e
 
-  pub refused_plain : {n l : ℕ} → inputs_fault sheet text units flags m.words m.bytes ≡ some (n, l)
+  pub refused_plain : {n l : ℕ} → inputs_fault sheet text units flags m.words m.bytes ≡ Some (n, l)
       → plain_answer sheet text units flags m ≡ declined n l
   unfolding plain_answer plain_of
   refused_plain e = refused_as declined _ (λ q. rw (collection_refused sheet text units flags q)) e
@@ -140,7 +141,7 @@ or_right : (a b : Bool) → (a || b) ≡ false → b ≡ false
 or_right true b e = no_truth (sym e)
 or_right false b e = e
 
-pub good_inputs : (sheet text units : List ℕ) (flags words bytes : ℕ) → inputs_fault sheet text units flags words bytes ≡ none
+pub good_inputs : (sheet text units : List ℕ) (flags words bytes : ℕ) → inputs_fault sheet text units flags words bytes ≡ None
     → GoodInputs sheet text units flags words bytes
 unfolding is_short files_fault contents_fault sheet_fault
 good_inputs sheet text units flags words bytes e =
@@ -181,11 +182,8 @@ module _ (sheet text units : List ℕ) (flags : ℕ) (m : Lent) (g : GoodInputs 
 
 -- ---- the answer of `check_inputs`
 module _ {sheet text units : List ℕ} {flags words bytes : ℕ} where
-  pub told_good : InputsChecked sheet text units flags words bytes Good → GoodInputs sheet text units flags words bytes
-  unfolding inputs_as
+  pub told_good : InputsChecked sheet text units flags words bytes (Ok tt) → GoodInputs sheet text units flags words bytes
   told_good p = good_inputs sheet text units flags words bytes (sym p.is)
 
-  pub told_refused : {n l : ℕ} → InputsChecked sheet text units flags words bytes (Refused n l)
-      → inputs_fault sheet text units flags words bytes ≡ some (n, l)
-  unfolding inputs_as
+  pub told_refused : {f : Refusal} → InputsChecked sheet text units flags words bytes (Err f) → inputs_fault sheet text units flags words bytes ≡ Some (told_of f)
   told_refused p = sym p.is

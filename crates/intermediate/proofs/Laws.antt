@@ -1,7 +1,8 @@
 -- One law for each way through.
+use Rattle.std.specs.Prelude.{None, Option, Some, Ok, Err}
 use Prim.Native.Nat.{ℕ, zero, suc}
 use mathlib.Core.Path.{◌≡◌, refl, ap, ◌∙◌}
-use mathlib.Core.Bool.{Bool, true, false, not}
+use mathlib.Core.Bool.{Bool, true, false, not, ◌||◌}
 use mathlib.Core.List.{List, [], ◌∷◌}
 use borrow.Author.Tests.{eq-eqb, ne_eqb}
 use lib.ListN.{length, take, drop, replicate}
@@ -12,20 +13,17 @@ use Rattle.rules.specs.Model.{Entry}
 use Rattle.rules.specs.Checks.{step_indices, section_indices, candidates, resolve_intermediate_ref, intermediate_modifiers, intermediate_findings, intermediate_target, intermediate_relation}
 use Rattle.rules.specs.Units.{NamedUnit}
 use Rattle.rules.specs.Components.{intermediate_fault, lock_findings, made_intermediate}
+use Rattle.refusals.specs.declared.Reason.TheVariants.{NotMarked, Negative}
 use Rattle.parts.specs.Views.{span_in}
 use Rattle.parts.specs.declared.Span.{Span}
 use Rattle.components.specs.Views.{modifiers_in, signed_in, target_in, intermediate_in, opt_intermediate_in}
 use Rattle.components.specs.declared.Modifiers.{Modifiers}
 use Rattle.components.specs.declared.Target.TheVariants as target
 use Rattle.components.specs.declared.Intermediate.{Intermediate}
-use Rattle.components.specs.declared.OptIntermediate.{OptIntermediate}
-use Rattle.components.specs.declared.OptIntermediate.TheVariants as intermediate
 use Rattle.model.specs.Blank.{blank_section}
-use Rattle.model.specs.Searches.{found_of, TargetFound}
+use Rattle.model.specs.Searches.{TargetFound}
 use Rattle.model.specs.Rows.{relation_in, relation_as, blocks_in}
 use Rattle.model.specs.Memory.{state_in, state_of, windows_of}
-use Rattle.model.specs.declared.Found.{Found}
-use Rattle.model.specs.declared.Found.TheVariants.{At, Nothing}
 use Rattle.model.specs.declared.Target.TheVariants as model
 use Rattle.model.specs.declared.Relation.TheVariants.{Definition, Reference}
 use Rattle.model.specs.declared.Held.{Held}
@@ -36,42 +34,34 @@ use Rattle.intermediate.specs.Intermediates.{Faulted, ModifiersReported, Resolve
 
 -- ---- 15 and 16
 
-module _ {ref : Bool} {i : OptIntermediate} where
-  pub fault_absent : i ≡ intermediate.Absent → Faulted ref i 0
+module _ {ref : Bool} {i : Option Intermediate} where
+  pub fault_absent : i ≡ None → Faulted ref i (Ok tt)
   unfolding intermediate_fault opt_intermediate_in
   fault_absent e = record { is = λ c er. rw e }
 
-  module _ (v : Intermediate) (e : i ≡ intermediate.Present v) where
-    pub fault_ref : not ref ≡ true → Faulted ref i 15
+  module _ (v : Intermediate) (e : i ≡ Some v) where
+    pub fault_ref : not ref ≡ true → Faulted ref i (Err NotMarked)
     unfolding intermediate_fault opt_intermediate_in
     fault_ref t = record { is = λ c er. rw (e, er, t) }
 
-    pub fault_negative : not ref ≡ false → v.value.negative ≡ true → Faulted ref i 16
+    pub fault_negative : not ref ≡ false → v.value.negative ≡ true → Faulted ref i (Err Negative)
     unfolding intermediate_fault opt_intermediate_in intermediate_in signed_in
     fault_negative t n = record { is = λ c er. rw (e, er, t, n) }
 
-    pub fault_none : not ref ≡ false → v.value.negative ≡ false → Faulted ref i 0
+    pub fault_none : not ref ≡ false → v.value.negative ≡ false → Faulted ref i (Ok tt)
     unfolding intermediate_fault opt_intermediate_in intermediate_in signed_in
     fault_none t n = record { is = λ c er. rw (e, er, t, n) }
 
 -- ---- 7
 
 module _ {m : Modifiers} {at : Span} {w₀ : List ℕ} {h₀ : Held} where
-  pub modifiers_recipe : {w : List ℕ} {h : Held} → m.recipe ≡ true → Reported (found 7 (span_in at) ∷ []) w₀ h₀ w h → ModifiersReported m at w₀ h₀ w h
+  pub modifiers_found : {w : List ℕ} {h : Held} → (m.recipe || m.hidden || m.new) ≡ true → Reported (found 7 (span_in at) ∷ []) w₀ h₀ w h → ModifiersReported m at w₀ h₀ w h
   unfolding intermediate_modifiers modifiers_in when
-  modifiers_recipe t r = record { is = λ c em ea. said (rw (em, t, ea)) r }
+  modifiers_found t r = record { is = λ c em ea. said (rw (em, t, ea)) r }
 
-  pub modifiers_hidden : {w : List ℕ} {h : Held} → m.recipe ≡ false → m.hidden ≡ true → Reported (found 7 (span_in at) ∷ []) w₀ h₀ w h → ModifiersReported m at w₀ h₀ w h
+  pub modifiers_none : (m.recipe || m.hidden || m.new) ≡ false → ModifiersReported m at w₀ h₀ w₀ h₀
   unfolding intermediate_modifiers modifiers_in when
-  modifiers_hidden n t r = record { is = λ c em ea. said (rw (em, n, t, ea)) r }
-
-  pub modifiers_new : {w : List ℕ} {h : Held} → m.recipe ≡ false → m.hidden ≡ false → m.new ≡ true → Reported (found 7 (span_in at) ∷ []) w₀ h₀ w h → ModifiersReported m at w₀ h₀ w h
-  unfolding intermediate_modifiers modifiers_in when
-  modifiers_new n k t r = record { is = λ c em ea. said (rw (em, n, k, t, ea)) r }
-
-  pub modifiers_none : m.recipe ≡ false → m.hidden ≡ false → m.new ≡ false → ModifiersReported m at w₀ h₀ w₀ h₀
-  unfolding intermediate_modifiers modifiers_in when
-  modifiers_none n k t = record { is = λ c em ea. none_found (rw (em, n, k, t)) }
+  modifiers_none t = record { is = λ c em ea. none_found (rw (em, t)) }
 
 -- ---- the target
 
@@ -79,7 +69,7 @@ length_replicate : {A : Type 0} (n : ℕ) (a : A) → length (replicate n a) ≡
 length_replicate zero a = refl
 length_replicate (suc n) a = ap suc (length_replicate n a)
 
-module _ (i : Intermediate) {w : List ℕ} {h : Held} {r : Found} where
+module _ (i : Intermediate) {w : List ℕ} {h : Held} {r : Option ℕ} where
   pub to_step : i.target ≡ target.Step → TargetFound i.relative i.value.size (step_indices (blocks_in (take 1025 (drop 23132 w)) h.counts.here)) r → Resolved i w h r
   unfolding resolve_intermediate_ref candidates intermediate_in signed_in target_in state_in state_of windows_of
   to_step e t = record { is = λ sheet. t.is ∙ rw e }
@@ -90,39 +80,39 @@ module _ (i : Intermediate) {w : List ℕ} {h : Held} {r : Found} where
 
 -- ---- 8 and 9
 
-module _ (i : Intermediate) {f : Found} {w₀ : List ℕ} {h₀ : Held} where
-  pub findings_none : (j : ℕ) → f ≡ At j → Reported (intermediate_findings (intermediate_in i) (found_of f)) w₀ h₀ w₀ h₀
+module _ (i : Intermediate) {f : Option ℕ} {w₀ : List ℕ} {h₀ : Held} where
+  pub findings_none : (j : ℕ) → f ≡ Some j → Reported (intermediate_findings (intermediate_in i) f) w₀ h₀ w₀ h₀
   unfolding intermediate_findings
   findings_none j e = none_found (rw e)
 
-  module _ (e : f ≡ Nothing) {w : List ℕ} {h : Held} where
-    pub findings_zero : i.value.size ≡ 0 → Reported (found 8 (span_in i.span) ∷ []) w₀ h₀ w h → Reported (intermediate_findings (intermediate_in i) (found_of f)) w₀ h₀ w h
+  module _ (e : f ≡ None) {w : List ℕ} {h : Held} where
+    pub findings_zero : i.value.size ≡ 0 → Reported (found 8 (span_in i.span) ∷ []) w₀ h₀ w h → Reported (intermediate_findings (intermediate_in i) f) w₀ h₀ w h
     unfolding intermediate_findings intermediate_in signed_in
     findings_zero z r = said (rw (e, eq-eqb _ _ z)) r
 
-    pub findings_bounds : (i.value.size ≡ 0 → ⊥) → Reported (found 9 (span_in i.span) ∷ []) w₀ h₀ w h → Reported (intermediate_findings (intermediate_in i) (found_of f)) w₀ h₀ w h
+    pub findings_bounds : (i.value.size ≡ 0 → ⊥) → Reported (found 9 (span_in i.span) ∷ []) w₀ h₀ w h → Reported (intermediate_findings (intermediate_in i) f) w₀ h₀ w h
     unfolding intermediate_findings intermediate_in signed_in
     findings_bounds z r = said (rw (e, ne_eqb _ _ z)) r
 
 -- ---- the relation
 
-module _ (i : Intermediate) (in_step : Bool) {f : Found} where
-  pub related_none : f ≡ Nothing → Related i in_step f (record { relation = Definition; in_step = in_step; index = 0 })
+module _ (i : Intermediate) (in_step : Bool) {f : Option ℕ} where
+  pub related_none : f ≡ None → Related i in_step f (record { relation = Definition; in_step = in_step; index = 0 })
   unfolding relation_in relation_as intermediate_relation
   related_none e = record { is = rw e }
 
-  pub related_step : {j : ℕ} → f ≡ At j → i.target ≡ target.Step → Related i in_step f (record { relation = Reference model.Step; in_step = in_step; index = j })
+  pub related_step : {j : ℕ} → f ≡ Some j → i.target ≡ target.Step → Related i in_step f (record { relation = Reference model.Step; in_step = in_step; index = j })
   unfolding relation_in relation_as intermediate_relation intermediate_target intermediate_in target_in
   related_step e t = record { is = rw (e, t) }
 
-  pub related_section : {j : ℕ} → f ≡ At j → i.target ≡ target.Section → Related i in_step f (record { relation = Reference model.Section; in_step = in_step; index = j })
+  pub related_section : {j : ℕ} → f ≡ Some j → i.target ≡ target.Section → Related i in_step f (record { relation = Reference model.Section; in_step = in_step; index = j })
   unfolding relation_in relation_as intermediate_relation intermediate_target intermediate_in target_in
   related_section e t = record { is = rw (e, t) }
 
 -- ---- 6, then 7, then 8 or 9: all that is found
 
-pub intermediate_reported : (units : List NamedUnit) (flags : ℕ) (c : rules.Component) (new : Entry) (i : Intermediate) (f : Found) {m : Modifiers} {at : Span} {w₀ w₁ w₂ w : List ℕ} {h₀ h₁ h₂ h : Held}
+pub intermediate_reported : (units : List NamedUnit) (flags : ℕ) (c : rules.Component) (new : Entry) (i : Intermediate) (f : Option ℕ) {m : Modifiers} {at : Span} {w₀ w₁ w₂ w : List ℕ} {h₀ h₁ h₂ h : Held}
     → c.modifiers ≡ modifiers_in m → c.modifiers_span ≡ span_in at → Reported (lock_findings c.quantity) w₀ h₀ w₁ h₁ → ModifiersReported m at w₁ h₁ w₂ h₂
-    → Reported (intermediate_findings (intermediate_in i) (found_of f)) w₂ h₂ w h → Reported (made_intermediate units flags c new (intermediate_in i) (found_of f)).findings w₀ h₀ w h
+    → Reported (intermediate_findings (intermediate_in i) f) w₂ h₂ w h → Reported (made_intermediate units flags c new (intermediate_in i) f).findings w₀ h₀ w h
 unfolding made_intermediate
 intermediate_reported units flags c new i f em ea l k r = reported_seq (reported_seq l (k.is c em ea)) r

@@ -5,29 +5,29 @@
 ghost use Rattle.std.specs.Prelude.{◌<◌};
 ghost use Rattle.rules.specs.Checks.{intermediate_findings};
 ghost use Rattle.components.specs.Views.{intermediate_in};
-ghost use Rattle.model.specs.Searches.{found_of};
 ghost use Rattle.model.specs.Memory.{Sound};
 ghost use Rattle.checks.specs.Reports.{Reported};
 ghost use Rattle.intermediate.specs.Intermediates.{Faulted, ModifiersReported, Resolved, Related};
 
-use components::{Intermediate, Modifiers, OptIntermediate, Target};
-use model::{Found, Held, Relation, RelationRecord};
+use components::{Intermediate, Modifiers, Target};
+use model::{Held, Relation, RelationRecord};
 use parts::Span;
+use refusals::Reason;
 
-// 15 without REF, 16 a negative value, else 0.
-pub fn intermediate_fault(reference: bool, i: OptIntermediate) -> u32
+// 15 without REF, 16 a negative value.
+pub fn check_intermediate(reference: bool, i: Option<Intermediate>) -> Result<(), Reason>
     ensures { Faulted reference i result }
 {
     match i {
-        OptIntermediate::Absent => 0,
-        OptIntermediate::Present(v) => {
+        None => Ok(()),
+        Some(v) => {
             if !reference {
-                return 15;
+                return Err(Reason::NotMarked);
             }
             if v.value.negative {
-                return 16;
+                return Err(Reason::Negative);
             }
-            0
+            Ok(())
         }
     }
 }
@@ -37,20 +37,14 @@ pub fn intermediate_modifiers(words: &mut [u32], h: Held, m: Modifiers, at: Span
     requires { Sound words.old h × (h.counts.findings < 1544) }
     ensures { ModifiersReported m at words.old h words.new result }
 {
-    if m.recipe {
-        return reference_findings::push_one(words, h, 7, at, false);
-    }
-    if m.hidden {
-        return reference_findings::push_one(words, h, 7, at, false);
-    }
-    if m.new {
+    if m.recipe || m.hidden || m.new {
         return reference_findings::push_one(words, h, 7, at, false);
     }
     h
 }
 
 // The index of the step or section that is referred to.
-pub fn intermediate_target(words: &[u32], h: Held, i: Intermediate) -> Found
+pub fn intermediate_target(words: &[u32], h: Held, i: Intermediate) -> Option<u32>
     requires { Sound words.now h }
     ensures { Resolved i words.now h result }
 {
@@ -70,13 +64,18 @@ pub fn intermediate_target(words: &[u32], h: Held, i: Intermediate) -> Found
 }
 
 // 8 and 9
-pub fn intermediate_findings(words: &mut [u32], h: Held, i: Intermediate, target: Found) -> Held
+pub fn intermediate_findings(
+    words: &mut [u32],
+    h: Held,
+    i: Intermediate,
+    target: Option<u32>,
+) -> Held
     requires { Sound words.old h × (h.counts.findings < 1544) }
-    ensures { Reported (intermediate_findings (intermediate_in i) (found_of target)) words.old h words.new result }
+    ensures { Reported (intermediate_findings (intermediate_in i) target) words.old h words.new result }
 {
     match target {
-        Found::At(_) => h,
-        Found::Nothing => {
+        Some(_) => h,
+        None => {
             if i.value.size == 0 {
                 return reference_findings::push_one(words, h, 8, i.span, false);
             }
@@ -86,18 +85,18 @@ pub fn intermediate_findings(words: &mut [u32], h: Held, i: Intermediate, target
 }
 
 // The relation of an ingredient with an intermediate reference.
-pub fn intermediate_relation(i: Intermediate, in_step: bool, target: Found) -> RelationRecord
+pub fn intermediate_relation(i: Intermediate, in_step: bool, target: Option<u32>) -> RelationRecord
     ensures { Related i in_step target result }
 {
     match target {
-        Found::Nothing => {
+        None => {
             RelationRecord {
                 relation: Relation::Definition,
                 in_step,
                 index: 0,
             }
         }
-        Found::At(index) => {
+        Some(index) => {
             let t = i.target;
             match t {
                 Target::Step => {

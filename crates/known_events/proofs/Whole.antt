@@ -1,9 +1,9 @@
 -- The contents of a line's view, as fields of a line that is UTF-8 and holds no LF.
 use Prim.Native.Nat.{ℕ}
-use mathlib.Core.Path.{◌≡◌, refl, ap, sym, ◌∙◌}
+use mathlib.Core.Path.{◌≡◌, refl, sym, ◌∙◌}
 use mathlib.Core.Bool.{Bool, true, false}
 use mathlib.Core.List.{List, [], ◌∷◌, ◌++◌}
-use mathlib.Core.Option.{Option, none, some}
+use Rattle.std.specs.Prelude.{Option, None, Some}
 use Rattle.rules.specs.Basic.{pick, lf, is_some}
 use Rattle.rules.specs.Utf8.{is_utf8}
 use Rattle.rules.specs.Sheet.{fields_of}
@@ -15,11 +15,7 @@ use Rattle.content.specs.Parts.{Field}
 use Rattle.content.proofs.Lines.{Ready, AllReady, ready_none, ready_more, line_ready, ready_field}
 use Rattle.parts.specs.declared.Part.{Part}
 use Rattle.parts.specs.declared.TextView.{TextView}
-use Rattle.parts.specs.declared.OptText.{OptText}
-use Rattle.parts.specs.declared.OptText.TheVariants as text
 use Rattle.parts.specs.declared.QuantityView.{QuantityView}
-use Rattle.parts.specs.declared.OptQuantity.{OptQuantity}
-use Rattle.parts.specs.declared.OptQuantity.TheVariants as quantity
 use Rattle.parts.specs.Views.{part_of, PartWithin, TextWithin, OptTextWithin, QuantityWithin, OptQuantityWithin, raw_text, raw_opt_text, raw_quantity, raw_opt_quantity}
 use Rattle.parts.specs.Got.{Among, among_end, among_past, among_one}
 use Rattle.components.specs.declared.ComponentView.{ComponentView}
@@ -33,8 +29,6 @@ use Rattle.events.specs.declared.Inside.TheVariants as inside
 use Rattle.events.specs.declared.EventView.{EventView}
 use Rattle.events.specs.declared.EventView.TheVariants as event
 use Rattle.events.specs.Views.{BetweenWithin, ComponentEventWithin, InsideWithin, EventWithin, raw_between, raw_component_event, raw_inside, raw_event}
-use Rattle.reading.specs.declared.ReadEvent.{ReadEvent}
-use Rattle.reading.specs.declared.ReadEvent.TheVariants as answer
 use Rattle.reading.specs.Answers.{event_as, IfEvent, IfWhole, EventOf}
 use Rattle.known_events.specs.Fields.{TextField, OptTextField, QuantityFields, OptQuantityFields, ComponentFields, BetweenFields, ComponentEventFields, InsideFields, EventFields}
 use Rattle.known_events.specs.Known.{KnownEvent}
@@ -62,7 +56,7 @@ right_ready (f ∷ fs) gs (ready_more r rs) = right_ready fs gs rs
 
 -- ---- the parts of a view
 
-is_there : {A : Type 0} {o : Option A} {a : A} → o ≡ some a → is_some o ≡ true
+is_there : {A : Type 0} {o : Option A} {a : A} → o ≡ Some a → is_some o ≡ true
 unfolding is_some
 is_there e = rw e
 
@@ -74,18 +68,18 @@ module _ (line : List ℕ) where
   unfolding TextField
   text_field v w r = part_field v.content w.content (first_ready r)
 
-  opt_text_field : (v : OptText) → OptTextWithin line v → AllReady (raw_opt_text line v) → OptTextField line v
+  opt_text_field : (v : Option TextView) → OptTextWithin line v → AllReady (raw_opt_text line v) → OptTextField line v
   unfolding OptTextWithin OptTextField
-  opt_text_field text.Absent w r = tt
-  opt_text_field (text.Present v) w r = text_field v w r
+  opt_text_field None w r = tt
+  opt_text_field (Some v) w r = text_field v w r
 
   quantity_fields_lem : (v : QuantityView) → QuantityWithin line v → AllReady (raw_quantity line v) → QuantityFields line v
   quantity_fields_lem v w r = record { value = part_field v.value w.value (first_ready r); unit = opt_text_field v.unit w.unit (rest_ready r) }
 
-  opt_quantity_fields : (v : OptQuantity) → OptQuantityWithin line v → AllReady (raw_opt_quantity line v) → OptQuantityFields line v
+  opt_quantity_fields : (v : Option QuantityView) → OptQuantityWithin line v → AllReady (raw_opt_quantity line v) → OptQuantityFields line v
   unfolding OptQuantityWithin OptQuantityFields
-  opt_quantity_fields quantity.Absent w r = tt
-  opt_quantity_fields (quantity.Present v) w r = quantity_fields_lem v w r
+  opt_quantity_fields None w r = tt
+  opt_quantity_fields (Some v) w r = quantity_fields_lem v w r
 
   component_fields_lem : (v : ComponentView) → ComponentWithin line v → AllReady (raw_component line v) → ComponentFields line v
   component_fields_lem v w r =
@@ -125,11 +119,11 @@ module _ (line : List ℕ) where
 
 -- ---- a line that is well formed
 
-no_event : {P : Type 0} → is_some {A = Event} none ≡ true → P
+no_event : {P : Type 0} → is_some {A = Event} None ≡ true → P
 unfolding is_some
 no_event h = no_truth h
 
-utf8_read : (t : Bool) (o : Option Event) → is_some (pick t o none) ≡ true → t ≡ true
+utf8_read : (t : Bool) (o : Option Event) → is_some (pick t o None) ≡ true → t ≡ true
 utf8_read true o h = refl
 utf8_read false o h = no_event h
 
@@ -146,17 +140,11 @@ module _ (line : List ℕ) (h : is_some (parse_line line) ≡ true) where
   pub whole_fields : Without lf line → (v : EventView) → EventWithin line v → Among (raw_event line v) (fields_of line) [] → EventFields line v
   whole_fields n v w a = event_fields_lem line v w (among_ready a (line_ready line line_utf8 n))
 
-module _ {line : List ℕ} (h : (is_some (parse_line line) ≡ true) × Without lf line) {r : ReadEvent} (o : EventOf line r) where
-  event_is : event_as line r ≡ parse_line line
-  event_is = o.is ∙ sym (line_read line h.0)
-
-  pub known_ill : {P : Type 0} → r ≡ answer.Ill → P
+module _ {line : List ℕ} (h : (is_some (parse_line line) ≡ true) × Without lf line) where
+  pub known_ill : {P : Type 0} → EventOf line None → P
   unfolding event_as
-  known_ill e = let q : none ≡ parse_line line = sym (ap (event_as line) e) ∙ event_is in no_event (rw (sym q) at h.0)
+  known_ill o = no_event (rw (sym (o.is ∙ sym (line_read line h.0))) at h.0)
 
-  pub known_event : {v : EventView} → r ≡ answer.Event v → KnownEvent line v
+  pub known_event : {v : EventView} → EventOf line (Some v) → KnownEvent line v
   unfolding event_as IfEvent IfWhole
-  known_event {v} e =
-      let w : EventWithin line v = rw e at o.within in
-      let a : Among (raw_event line v) (fields_of line) [] = rw e at o.whole in
-      record { is = sym (sym (ap (event_as line) e) ∙ event_is); within = w; fields = whole_fields line h.0 h.1 v w a }
+  known_event {v} o = record { is = sym (o.is ∙ sym (line_read line h.0)); within = o.within; fields = whole_fields line h.0 h.1 v o.within o.whole }

@@ -1,13 +1,9 @@
 -- The contents that the view of a line holds are whole fields of the line.
-use Rattle.std.specs.Prelude.{ℕ, List}
+use Rattle.std.specs.Prelude.{ℕ, List, None, Option, Some}
 use Rattle.content.specs.Parts.{Field}
 use Rattle.parts.specs.Views.{part_of}
 use Rattle.parts.specs.declared.TextView.{TextView}
-use Rattle.parts.specs.declared.OptText.{OptText}
-use Rattle.parts.specs.declared.OptText.TheVariants as text
 use Rattle.parts.specs.declared.QuantityView.{QuantityView}
-use Rattle.parts.specs.declared.OptQuantity.{OptQuantity}
-use Rattle.parts.specs.declared.OptQuantity.TheVariants as quantity
 use Rattle.components.specs.declared.ComponentView.{ComponentView}
 use Rattle.events.specs.declared.Between.{Between}
 use Rattle.events.specs.declared.Between.TheVariants as between
@@ -21,17 +17,17 @@ use Rattle.events.specs.declared.EventView.TheVariants as event
 unfoldable pub TextField : List ℕ → TextView → Type 0
 TextField line v = Field (part_of line v.content)
 
-unfoldable pub OptTextField : List ℕ → OptText → Type 0
-OptTextField line text.Absent = Unit
-OptTextField line (text.Present v) = TextField line v
+unfoldable pub OptTextField : List ℕ → Option TextView → Type 0
+OptTextField line None = Unit
+OptTextField line (Some v) = TextField line v
 
 pub record QuantityFields (line : List ℕ) (v : QuantityView) : Type 0 where
   pub value : Field (part_of line v.value)
   pub unit : OptTextField line v.unit
 
-unfoldable pub OptQuantityFields : List ℕ → OptQuantity → Type 0
-OptQuantityFields line quantity.Absent = Unit
-OptQuantityFields line (quantity.Present v) = QuantityFields line v
+unfoldable pub OptQuantityFields : List ℕ → Option QuantityView → Type 0
+OptQuantityFields line None = Unit
+OptQuantityFields line (Some v) = QuantityFields line v
 
 pub record ComponentFields (line : List ℕ) (v : ComponentView) : Type 0 where
   pub name : TextField line v.name

@@ -14,8 +14,8 @@ pub fn event_of(line: &[u8]) -> EventView
     requires { (is_some (parse_line line.now) ≡ true) × Without lf line.now }
     ensures { KnownEvent line.now result }
 {
-    let reading::ReadEvent::Event(v) = reading::event_in(line) else {
-        return EventView::Between(events::Between::Start(events::BlockKind::Step));
+    let Some(v) = reading::event_in(line) else {
+        return EventView::Between(events::Between::Start(sheet::BlockKind::Step));
     };
     v
 }

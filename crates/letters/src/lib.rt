@@ -72,19 +72,13 @@ fn in_ranges(starts: &[u32], ends: &[u32], c: u32) -> bool
     ensures { result ≡ member c (zipped starts.now ends.now) }
 {
     let k = lower_bound(ends, c);
-    if k < starts.len() {
-        return starts[k] <= c;
-    }
-    false
+    k < starts.len() && starts[k] <= c
 }
 
 fn is_within(lo: u32, hi: u32, c: u32) -> bool
     ensures { result ≡ within lo hi c }
 {
-    if c < lo {
-        return false;
-    }
-    c <= hi
+    lo <= c && c <= hi
 }
 
 pub fn is_white_space(t: &[u32], c: u32) -> bool
@@ -92,10 +86,7 @@ pub fn is_white_space(t: &[u32], c: u32) -> bool
     ensures { result ≡ is_white_space c }
 {
     if c < 128 {
-        if c == 32 {
-            return true;
-        }
-        return is_within(9, 13, c);
+        return c == 32 || is_within(9, 13, c);
     }
     if 0xa0 < c {
         if c < 0x1680 {
@@ -165,10 +156,7 @@ pub fn is_alphanumeric(t: &[u32], c: u32) -> bool
     requires { t.now ≡ unicode_tables }
     ensures { result ≡ is_alphanumeric c }
 {
-    if is_alphabetic(t, c) {
-        return true;
-    }
-    is_numeric(t, c)
+    is_alphabetic(t, c) || is_numeric(t, c)
 }
 
 // The code points of a row of the folding table.

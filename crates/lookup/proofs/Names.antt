@@ -2,8 +2,8 @@
 use Prim.Native.Nat.{ℕ, zero, suc, ◌+◌, ◌-◌, ◌*◌, ◌≤◌, ◌<◌}
 use mathlib.Core.Path.{◌≡◌, refl, sym, ap, ◌∙◌}
 use mathlib.Core.List.{List, [], ◌∷◌}
-use mathlib.Core.Bool.{Bool, true, false, ◌||◌, not}
-use mathlib.Core.Option.{Option, none, some}
+use mathlib.Core.Bool.{Bool, true, false, ◌||◌, not, beq}
+use Rattle.std.specs.Prelude.{Option, None, Some}
 use native.Mathlib.Omega.{arith}
 use borrow.Author.Tests.{eq-eqb, ne_eqb, not-true, not-false}
 use lib.Dec.{eqb}
@@ -30,10 +30,8 @@ use Rattle.model.proofs.Stores.{get_or_mid}
 use Rattle.model.proofs.Tables.{entries_length}
 use Rattle.memory.proofs.Whole.{long_ingredients, long_cookware}
 use Rattle.memory.specs.Pushes.{count_of, pairs_of}
-use Rattle.lookup.specs.declared.Same.{Same}
-use Rattle.lookup.specs.declared.Same.TheVariants.{At, Nothing}
 use Rattle.lookup.specs.declared.NamePart.{NamePart}
-use Rattle.lookup.specs.Names.{name_part, NameInside, NamesInside, row_fits, same_row, same_of, rows_in, pairs_in, earlier_in, earlier_at, SameFound, NewName}
+use Rattle.lookup.specs.Names.{name_part, NameInside, NamesInside, row_fits, same_row, rows_in, pairs_in, earlier_in, earlier_at, SameFound, NewName}
 
 -- ---- the name of a row
 
@@ -43,10 +41,10 @@ fewer h = record { at = λ i l. h.at i (omega arith) }
 pub names_inside : {k : Kind} {sheet rows : List ℕ} {n : ℕ} → EachRow (Fits k sheet) rows n → NamesInside sheet rows n
 names_inside h = record { at = λ i l. record { order = (h.at i l).name; most = omega (arith, (h.at i l).name_end, (h.at i l).line.most) } }
 
-read_kept : (f name : List ℕ) (o : Option (List ℕ)) → content_of f ≡ o → on_some (retain 0) o ≡ some name → kept_in f ≡ name
+read_kept : (f name : List ℕ) (o : Option (List ℕ)) → content_of f ≡ o → on_some (retain 0) o ≡ Some name → kept_in f ≡ name
 unfolding on_some kept_in
-read_kept f name none e q = no_some q
-read_kept f name (some c) e q = ap (retain 0) (content_of_lem f e) ∙ some_inj q
+read_kept f name None e q = no_some q
+read_kept f name (Some c) e q = ap (retain 0) (content_of_lem f e) ∙ some_inj q
 
 -- what a row points at is the name of the entry that it stands for
 pub name_of : {k : Kind} {sheet : List ℕ} {r : Row} → Fits k sheet r → kept_in (name_part sheet r) ≡ (entry_as k sheet r []).name
@@ -80,20 +78,20 @@ module _ (k : Kind) (sheet rows pairs : List ℕ) (m : ℕ) where
     rows_search (suc n) h =
         rw (entry_fits n (h.at n (omega arith)), entries_length k sheet rows pairs m n, ← rows_search n (fewer h)) (go (row_fits sheet folded any_opt is_opt (row_of (row_at 12 rows n))))
       where
-        go : (b : Bool) → on_some (earlier_in k sheet rows pairs m) (pick b (some n) (same_row sheet folded any_opt is_opt rows n))
-            ≡ pick b (some (record { index = n; entry = entry_in k sheet rows pairs m n })) (on_some (earlier_in k sheet rows pairs m) (same_row sheet folded any_opt is_opt rows n))
+        go : (b : Bool) → on_some (earlier_in k sheet rows pairs m) (pick b (Some n) (same_row sheet folded any_opt is_opt rows n))
+            ≡ pick b (Some (record { index = n; entry = entry_in k sheet rows pairs m n })) (on_some (earlier_in k sheet rows pairs m) (same_row sheet folded any_opt is_opt rows n))
         go true = refl
         go false = refl
 
 -- ---- what is found is one of the rows
 
 module _ (sheet folded : List ℕ) (any_opt is_opt : Bool) (rows : List ℕ) where
-  same_below : (n i : ℕ) → same_row sheet folded any_opt is_opt rows n ≡ some i → i < n
+  same_below : (n i : ℕ) → same_row sheet folded any_opt is_opt rows n ≡ Some i → i < n
   unfolding same_row
   same_below zero i e = no_some e
   same_below (suc n) i e = go (row_fits sheet folded any_opt is_opt (row_of (row_at 12 rows n))) e (λ q. same_below n i q)
     where
-      go : (b : Bool) → pick b (some n) (same_row sheet folded any_opt is_opt rows n) ≡ some i → (same_row sheet folded any_opt is_opt rows n ≡ some i → i < n) → i < suc n
+      go : (b : Bool) → pick b (Some n) (same_row sheet folded any_opt is_opt rows n) ≡ Some i → (same_row sheet folded any_opt is_opt rows n ≡ Some i → i < n) → i < suc n
       go true q f = let z : n ≡ i = some_inj q in omega arith
       go false q f = let l : i < n = f q in omega arith
 
@@ -109,20 +107,19 @@ search_start sheet rows n name any_opt is_opt = record { most = omega arith; is 
 
 module _ {sheet rows : List ℕ} {n : ℕ} {name : List ℕ} {any_opt is_opt : Bool} {i : ℕ} (v : Searching sheet rows n name any_opt is_opt i) where
   turn : 0 < i → same_row sheet (fold_name (kept_in name)) any_opt is_opt rows i
-      ≡ pick (row_fits sheet (fold_name (kept_in name)) any_opt is_opt (row_of (row_at 12 rows (i - 1)))) (some (i - 1)) (same_row sheet (fold_name (kept_in name)) any_opt is_opt rows (i - 1))
+      ≡ pick (row_fits sheet (fold_name (kept_in name)) any_opt is_opt (row_of (row_at 12 rows (i - 1)))) (Some (i - 1)) (same_row sheet (fold_name (kept_in name)) any_opt is_opt rows (i - 1))
   unfolding same_row
   turn h = let e : i ≡ suc (i - 1) = omega arith in ap (λ (j : ℕ). same_row sheet (fold_name (kept_in name)) any_opt is_opt rows j) e
 
   module _ {r : Bool} (h : 0 < i) (e : r ≡ row_fits sheet (fold_name (kept_in name)) any_opt is_opt (row_of (row_at 12 rows (i - 1)))) where
-    pub search_hit : r ≡ true → same_of (At (i - 1)) ≡ same_row sheet (fold_name (kept_in name)) any_opt is_opt rows n
-    unfolding same_of
+    pub search_hit : r ≡ true → (Some (i - 1)) ≡ same_row sheet (fold_name (kept_in name)) any_opt is_opt rows n
     search_hit t = sym (turn h ∙ rw (← e, t)) ∙ v.is
 
     pub search_miss : r ≡ false → Searching sheet rows n name any_opt is_opt (i - 1)
     search_miss t = record { most = omega (arith, v.most); is = sym (turn h ∙ rw (← e, t)) ∙ v.is }
 
-  pub search_end : i ≤ 0 → same_of Nothing ≡ same_row sheet (fold_name (kept_in name)) any_opt is_opt rows n
-  unfolding same_of same_row
+  pub search_end : i ≤ 0 → None ≡ same_row sheet (fold_name (kept_in name)) any_opt is_opt rows n
+  unfolding same_row
   search_end h = let e : i ≡ 0 = omega arith in rw e at v.is
 
 -- ---- one row: its words as they are read
@@ -148,17 +145,12 @@ module _ (rows : List ℕ) (i : ℕ) where
   row_name_end = word 3 (omega arith)
 
 -- OPT
-module _ (any opt is : Bool) where
-  pub agree_any : any ≡ true → true ≡ (any || eq_bool opt is)
-  agree_any e = rw e
-
-  pub agree_opt : any ≡ false → opt ≡ true → is ≡ (any || eq_bool opt is)
-  unfolding eq_bool
-  agree_opt e f = rw (e, f)
-
-  pub agree_not : any ≡ false → opt ≡ false → not is ≡ (any || eq_bool opt is)
-  unfolding eq_bool
-  agree_not e f = rw (e, f)
+pub agree_not : (any opt is : Bool) → any ≡ false → beq opt is ≡ (any || eq_bool opt is)
+unfolding eq_bool
+agree_not any true true e = rw e
+agree_not any true false e = rw e
+agree_not any false true e = rw e
+agree_not any false false e = rw e
 
 -- a part that is lent, as a slice
 pub part_slice : (a b : ℕ) (l : List ℕ) → a ≤ b → take (b - a) (drop a l) ≡ slice a b l
@@ -201,9 +193,9 @@ module _ (sheet w : List ℕ) (h : Held) (name : List ℕ) (any_opt is_opt : Boo
   table_rows ingredient = refl
   table_rows cookware = refl
 
-  pub same_found : (k : Kind) (r : Same) → EachRow (Fits k sheet) (rows_in k w) (count_of k h)
-      → same_of r ≡ same_row sheet (fold_name (kept_in name)) any_opt is_opt (rows_in k w) (count_of k h) → SameFound k sheet w h name any_opt is_opt r
-  unfolding same_name_of same_of
+  pub same_found : (k : Kind) (r : Option ℕ) → EachRow (Fits k sheet) (rows_in k w) (count_of k h)
+      → r ≡ same_row sheet (fold_name (kept_in name)) any_opt is_opt (rows_in k w) (count_of k h) → SameFound k sheet w h name any_opt is_opt r
+  unfolding same_name_of
   same_found k r z e =
       record {
         is = λ new en eo. ap (on_some (earlier_at k sheet w h)) e ∙ rows_search k sheet (rows_in k w) (pairs_in k w) (pairs_of k h) (fold_name (kept_in name)) any_opt is_opt (count_of k h) z ∙ said new en eo;
@@ -214,7 +206,7 @@ module _ (sheet w : List ℕ) (h : Held) (name : List ℕ) (any_opt is_opt : Boo
           → same_name_in (fold_name (kept_in name)) any_opt is_opt (entries_in k sheet (rows_in k w) (pairs_in k w) (pairs_of k h) (count_of k h)) ≡ same_name_of any_opt new (table_of k (state_in sheet w h))
       said new en eo = rw (en, eo, table_rows k)
 
-      at : (i : ℕ) → r ≡ At i → same_of r ≡ some i
+      at : (i : ℕ) → r ≡ Some i → r ≡ Some i
       at i q = rw q
 
 module _ {w : List ℕ} {h : Held} (z : Sound w h) (sheet : List ℕ) where
@@ -226,34 +218,34 @@ module _ {w : List ℕ} {h : Held} (z : Sound w h) (sheet : List ℕ) where
       (omega (arith, z.room.ingredients), omega (arith, z.room.ingredients, l), names_inside n.ingredients)
 
 module _ (sheet w : List ℕ) (h : Held) (name : List ℕ) (any_opt is_opt : Bool) where
-  pub ingredient_found : (r : Same) → AllFit sheet w h
-      → same_of r ≡ same_row sheet (fold_name (kept_in name)) any_opt is_opt (take 6156 (drop 0 w)) h.counts.ingredients → SameFound ingredient sheet w h name any_opt is_opt r
+  pub ingredient_found : (r : Option ℕ) → AllFit sheet w h
+      → r ≡ same_row sheet (fold_name (kept_in name)) any_opt is_opt (take 6156 (drop 0 w)) h.counts.ingredients → SameFound ingredient sheet w h name any_opt is_opt r
   unfolding windows_of
   ingredient_found r n e = same_found sheet w h name any_opt is_opt ingredient r n.ingredients e
 
 module _ {w : List ℕ} {h : Held} (z : Sound w h) (sheet : List ℕ) where
-  pub cookware_ready_lem : AllFit sheet w h
+  pub cookware_ready : AllFit sheet w h
       → (h.counts.cookware ≤ 513) × (h.counts.cookware * 12 ≤ length (take 3084 (drop 6156 w))) × NamesInside sheet (take 3084 (drop 6156 w)) h.counts.cookware
   unfolding windows_of
-  cookware_ready_lem n =
+  cookware_ready n =
       let l : length (take 3084 (drop 6156 w)) ≡ 3084 = long_cookware z in
       (omega (arith, z.room.cookware), omega (arith, z.room.cookware, l), names_inside n.cookware)
 
 module _ (sheet w : List ℕ) (h : Held) (name : List ℕ) (any_opt is_opt : Bool) where
-  pub cookware_found : (r : Same) → AllFit sheet w h
-      → same_of r ≡ same_row sheet (fold_name (kept_in name)) any_opt is_opt (take 3084 (drop 6156 w)) h.counts.cookware → SameFound cookware sheet w h name any_opt is_opt r
+  pub cookware_found : (r : Option ℕ) → AllFit sheet w h
+      → r ≡ same_row sheet (fold_name (kept_in name)) any_opt is_opt (take 3084 (drop 6156 w)) h.counts.cookware → SameFound cookware sheet w h name any_opt is_opt r
   unfolding windows_of
   cookware_found r n e = same_found sheet w h name any_opt is_opt cookware r n.cookware e
 
 -- ---- the name of a new row
 
-field_kept : {f : List ℕ} → Field f → on_some (retain 0) (content_of f) ≡ some (kept_in f)
+field_kept : {f : List ℕ} → Field f → on_some (retain 0) (content_of f) ≡ Some (kept_in f)
 unfolding on_some kept_in
 field_kept h = ap (on_some (retain 0)) (field_content h)
 
 -- a row whose name is what `new_name` gives for its line points at it
 pub name_new : {k : Kind} {sheet : List ℕ} {from to : ℕ} {p : NamePart} (r : Row) → NewName k sheet from to p → Field (slice from to sheet) → r.name_at ≡ p.at → r.name_end ≡ p.end
-    → (component_of_line k (slice r.line_at r.line_end sheet)).name.content ≡ content_in (slice from to sheet) → on_some (retain 0) (content_of (name_part sheet r)) ≡ some (entry_as k sheet r []).name
+    → (component_of_line k (slice r.line_at r.line_end sheet)).name.content ≡ content_in (slice from to sheet) → on_some (retain 0) (content_of (name_part sheet r)) ≡ Some (entry_as k sheet r []).name
 unfolding entry_as set_relation set_modifiers
 name_new {k} {sheet} r z f ea ee e =
-    rw (ea, ee) (field_kept (z.field f) ∙ ap some (z.is true (component_of_line k (slice r.line_at r.line_end sheet)) e))
+    rw (ea, ee) (field_kept (z.field f) ∙ ap Some (z.is true (component_of_line k (slice r.line_at r.line_end sheet)) e))

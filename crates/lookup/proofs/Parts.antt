@@ -2,9 +2,7 @@
 use Prim.Native.Nat.{ℕ, zero, suc, ◌+◌, ◌-◌, ◌≤◌}
 use mathlib.Core.Path.{◌≡◌, sym, ap, ◌∙◌}
 use mathlib.Core.List.{List, [], ◌∷◌}
-use mathlib.Core.Bool.{Bool, true, false, not}
 use native.Mathlib.Omega.{arith}
-use borrow.Author.Tests.{not-true, not-false}
 use lib.ListN.{length, take, drop, length-drop}
 use lib.Seq.{slice, drop-drop, take-take, take_all, take-nil, length-slice}
 use Rattle.rules.specs.Text.{trim_end, trim_matches, text_outer_trimmed, text_trimmed}
@@ -19,8 +17,11 @@ use Rattle.content.proofs.Cuts.{cut_front, cut_back_lem}
 use Rattle.text.specs.Trims.{drops_of, StartAt, EndAt}
 use Rattle.text.specs.declared.Dropped.TheVariants.{White}
 use Rattle.lookup.specs.declared.NamePart.{NamePart}
-use Rattle.lookup.specs.Names.{kind_of, TrimmedAt, NewName}
+use Rattle.lookup.specs.Names.{TrimmedAt, NewName}
 use Rattle.lookup.proofs.Names.{part_slice}
+use Rattle.model.specs.Kinds.{kind_of}
+use Rattle.model.specs.declared.Kind.{Kind}
+use Rattle.model.specs.declared.Kind.TheVariants.{Ingredient, Cookware}
 
 -- a part of what is left after a place
 pub part_drop : (a e : ℕ) (l : List ℕ) → take e (drop a l) ≡ slice a (a + e) l
@@ -72,10 +73,10 @@ module _ (sheet : List ℕ) (from to : ℕ) (h : from ≤ to) (g : to ≤ length
   part_field : Field (slice from to sheet) → Field (slice (from + p.at) (from + p.end) sheet)
   part_field w = rw (slice_slice from to p.at p.end sheet own.order part_most) at (own.field w)
 
-  pub new_cookware : (b : Bool) → not b ≡ true → NewName (kind_of b) sheet from to (record { at = from + p.at; end = from + p.end })
+  pub new_cookware : {k : Kind} → k ≡ Cookware → NewName (kind_of k) sheet from to (record { at = from + p.at; end = from + p.end })
   unfolding entry_of entry_with reference_in name_of trimmed_text
-  new_cookware b t =
-      rw (not-true b t)
+  new_cookware t =
+      rw t
       record {
         least = omega arith;
         order = omega (arith, own.order);
@@ -84,17 +85,17 @@ module _ (sheet : List ℕ) (from to : ℕ) (h : from ≤ to) (g : to ≤ length
         field = part_field;
       }
 
-  pub new_ingredient : (b : Bool) → not b ≡ false → (q : NamePlace) → NameAt (take (from + p.end - (from + p.at)) (drop (from + p.at) sheet)) q
-      → NewName (kind_of b) sheet from to (record { at = from + p.at + q.start; end = from + p.end })
+  pub new_ingredient : {k : Kind} → k ≡ Ingredient → (q : NamePlace) → NameAt (take (from + p.end - (from + p.at)) (drop (from + p.at) sheet)) q
+      → NewName (kind_of k) sheet from to (record { at = from + p.at + q.start; end = from + p.end })
   unfolding entry_of entry_with reference_in trimmed_text
-  new_ingredient b t q z =
+  new_ingredient t q z =
       let l : from + p.at ≤ from + p.end = omega (arith, own.order) in
       let y : NameAt (slice (from + p.at) (from + p.end) sheet) q = rw (part_slice (from + p.at) (from + p.end) sheet l) at z in
-      let k : from + p.end ≤ length sheet = omega (arith, part_most) in
-      rw (not-false b t)
+      let fits : from + p.end ≤ length sheet = omega (arith, part_most) in
+      rw t
       record {
         least = omega arith;
-        order = omega (arith, y.most, length-slice (from + p.at) (from + p.end) sheet k);
+        order = omega (arith, y.most, length-slice (from + p.at) (from + p.end) sheet fits);
         most = part_most;
         is = λ in_step c e. ap kept_in (sym (drop-drop q.start (from + p.at) (take (from + p.end) sheet))) ∙ y.name ∙ rw (part_kept, e);
         field = λ w. rw (drop-drop q.start (from + p.at) (take (from + p.end) sheet)) at (cut_back_lem (slice (from + p.at) (from + p.end) sheet) q.start y.name_cut (part_field w));

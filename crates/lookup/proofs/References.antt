@@ -1,104 +1,82 @@
 -- What a new component refers to.
 use Prim.Native.Nat.{ℕ}
 use mathlib.Core.Path.{◌≡◌, refl, sym, ap, ◌∙◌}
-use mathlib.Core.Bool.{Bool, true, false}
-use mathlib.Core.Option.{Option, none, some}
+use mathlib.Core.Bool.{Bool, true, false, ◌||◌, ◌&&◌}
+use Rattle.std.specs.Prelude.{Option, None, Some}
+use Rattle.std.specs.Option as option
 use Rattle.rules.specs.Basic.{pick, is_some, on_some}
 use Rattle.rules.specs.Model.{Entry}
 use Rattle.rules.specs.Modes.{is_steps, is_reference}
 use Rattle.rules.specs.Reference.{Earlier, is_explicit, treat_as_reference, refers_to}
-use Rattle.model.specs.Memory.{define_of, duplicate_of}
-use Rattle.model.specs.declared.Define.{Define}
-use Rattle.model.specs.declared.Define.TheVariants.{All, Components, Steps, Text}
-use Rattle.model.specs.declared.Duplicate.{Duplicate}
-use Rattle.model.specs.declared.Duplicate.TheVariants.{New, Reference}
-use Rattle.lookup.specs.declared.Same.{Same}
-use Rattle.lookup.specs.declared.Same.TheVariants.{At, Nothing}
-use Rattle.lookup.specs.Names.{same_of}
+use Rattle.sheet.specs.declared.Define.{Define}
+use Rattle.sheet.specs.declared.Define.TheVariants.{All, Components, Steps, Text}
+use Rattle.sheet.specs.declared.Duplicate.{Duplicate}
 use Rattle.lookup.specs.References.{modes_of, Marked, TreatedAs, Refers}
+use Rattle.sheet.specs.Words.{define_of, duplicate_of}
 
--- ---- the modes and the answer of the search
+pub steps_not : (d : Define) → (d ≡ Steps → ⊥) → false ≡ is_steps (define_of d)
+unfolding is_steps define_of
+steps_not All n = refl
+steps_not Components n = refl
+steps_not Steps n = absurd (n refl)
+steps_not Text n = refl
 
-module _ (d : Define) where
-  pub steps_all : d ≡ All → false ≡ is_steps (define_of d)
-  unfolding is_steps define_of
-  steps_all e = rw e
+pub found_in : {A : Type 0} (s : Option A) → option.is_some s ≡ is_some s
+unfolding is_some
+found_in None = refl
+found_in (Some i) = refl
 
-  pub steps_components : d ≡ Components → false ≡ is_steps (define_of d)
-  unfolding is_steps define_of
-  steps_components e = rw e
-
-  pub steps_steps : d ≡ Steps → true ≡ is_steps (define_of d)
-  unfolding is_steps define_of
-  steps_steps e = rw e
-
-  pub steps_text : d ≡ Text → false ≡ is_steps (define_of d)
-  unfolding is_steps define_of
-  steps_text e = rw e
-
-module _ (d : Duplicate) where
-  pub reference_new : d ≡ New → false ≡ is_reference (duplicate_of d)
-  unfolding is_reference duplicate_of
-  reference_new e = rw e
-
-  pub reference_reference : d ≡ Reference → true ≡ is_reference (duplicate_of d)
-  unfolding is_reference duplicate_of
-  reference_reference e = rw e
-
-pub found_at : (s : Same) (i : ℕ) → s ≡ At i → true ≡ is_some (same_of s)
-unfolding is_some same_of
-found_at s i e = rw e
-
-pub found_nothing : (s : Same) → s ≡ Nothing → false ≡ is_some (same_of s)
-unfolding is_some same_of
-found_nothing s e = rw e
-
-some_on : {A B : Type 0} (f : A → B) (o : Option A) → is_some (on_some f o) ≡ is_some o
+pub some_on : {A B : Type 0} (f : A → B) (o : Option A) → is_some (on_some f o) ≡ is_some o
 unfolding is_some on_some
-some_on f none = refl
-some_on f (some a) = refl
+some_on f None = refl
+some_on f (Some a) = refl
 
 -- ---- `treat_as_reference`
 
-module _ (define : Define) (duplicate : Duplicate) (ref is_found : Bool) where
-  pub treat_ref : ref ≡ true → TreatedAs define duplicate ref is_found true
-  unfolding treat_as_reference is_explicit
-  treat_ref t = record { is = λ e same er ef. rw (er, t) }
+or_assoc : (a b c : Bool) → ((a || b) || c) ≡ (a || b || c)
+or_assoc true b c = refl
+or_assoc false b c = refl
 
-  module _ (n : ref ≡ false) {s : Bool} (es : s ≡ is_steps (define_of define)) where
-    pub treat_steps : s ≡ true → TreatedAs define duplicate ref is_found true
-    unfolding treat_as_reference is_explicit
-    treat_steps t = record { is = λ e same er ef. rw (er, n, ← es, t) }
+pub explicit_first : {ref v : Bool} (steps : Bool) → ref ≡ true → v ≡ ref → v ≡ (ref || steps)
+explicit_first steps t e = e ∙ rw t
 
-    module _ (f : s ≡ false) {q : Bool} (eq : q ≡ is_reference (duplicate_of duplicate)) where
-      pub treat_found : q ≡ true → TreatedAs define duplicate ref is_found is_found
-      unfolding treat_as_reference is_explicit
-      treat_found t = record { is = λ e same er ef. rw (er, n, ← es, f, ← eq, t, ef) }
+pub steps_next : {ref steps s v : Bool} → ref ≡ false → s ≡ steps → v ≡ s → v ≡ (ref || steps)
+steps_next t p e = e ∙ p ∙ rw t
 
-      pub treat_not : q ≡ false → TreatedAs define duplicate ref is_found false
-      unfolding treat_as_reference is_explicit
-      treat_not t = record { is = λ e same er ef. rw (er, n, ← es, f, ← eq, t) }
+module _ {define : Define} {duplicate : Duplicate} {ref is_found : Bool} {v : Bool} (ev : v ≡ (ref || is_steps (define_of define))) where
+  treated_by : (r : Bool) → r ≡ (v || is_reference (duplicate_of duplicate) && is_found) → TreatedAs define duplicate ref is_found r
+  treated_by r q = record { is = λ e same er ef. q ∙ (unfold treat_as_reference is_explicit in rw (ev, er, ef, or_assoc ref)) }
+
+  pub treat_first : v ≡ true → TreatedAs define duplicate ref is_found v
+  treat_first t = treated_by v (rw t)
+
+  module _ (n : v ≡ false) {q : Bool} (eq : q ≡ is_reference (duplicate_of duplicate)) where
+    pub treat_found : q ≡ true → TreatedAs define duplicate ref is_found is_found
+    treat_found t = treated_by is_found (rw (n, ← eq, t))
+
+    pub treat_not : q ≡ false → TreatedAs define duplicate ref is_found q
+    treat_not t = treated_by q (rw (n, ← eq, t))
 
 -- ---- `refers_to`
 
-module _ (define : Define) (duplicate : Duplicate) (ref new : Bool) (same : Same) where
-  pub refers_new : new ≡ true → Refers define duplicate ref new same Nothing
-  unfolding refers_to same_of on_some
+module _ (define : Define) (duplicate : Duplicate) (ref new : Bool) (same : Option ℕ) where
+  pub refers_new : new ≡ true → Refers define duplicate ref new same None
+  unfolding refers_to on_some
   refers_new t = record { is = λ e f m. rw (m.is_new, t) }
 
-  module _ (n : new ≡ false) {is_found : Bool} (ef : is_found ≡ is_some (same_of same)) {r : Bool} (z : TreatedAs define duplicate ref is_found r) where
-    first : (e : Entry) (o : Option Earlier) → Marked e ref new → refers_to (modes_of define duplicate) e o ≡ pick (treat_as_reference (modes_of define duplicate) e o) o none
+  module _ (n : new ≡ false) {is_found : Bool} (ef : is_found ≡ option.is_some same) {r : Bool} (z : TreatedAs define duplicate ref is_found r) where
+    first : (e : Entry) (o : Option Earlier) → Marked e ref new → refers_to (modes_of define duplicate) e o ≡ pick (treat_as_reference (modes_of define duplicate) e o) o None
     unfolding refers_to
     first e o m = rw (m.is_new, n)
 
-    treated : (e : Entry) (f : ℕ → Earlier) → Marked e ref new → refers_to (modes_of define duplicate) e (on_some f (same_of same)) ≡ pick r (on_some f (same_of same)) none
+    treated : (e : Entry) (f : ℕ → Earlier) → Marked e ref new → refers_to (modes_of define duplicate) e (on_some f same) ≡ pick r (on_some f same) None
     treated e f m =
-        first e (on_some f (same_of same)) m
-        ∙ ap (λ (b : Bool). pick b (on_some f (same_of same)) none) (sym (z.is e (on_some f (same_of same)) m.is_ref (some_on f (same_of same) ∙ sym ef)))
+        first e (on_some f same) m
+        ∙ ap (λ (b : Bool). pick b (on_some f same) None) (sym (z.is e (on_some f same) m.is_ref (some_on f same ∙ sym (found_in same) ∙ sym ef)))
 
     pub refers_same : r ≡ true → Refers define duplicate ref new same same
     refers_same t = record { is = λ e f m. sym (treated e f m ∙ rw t) }
 
-    pub refers_not : r ≡ false → Refers define duplicate ref new same Nothing
-    unfolding same_of on_some
+    pub refers_not : r ≡ false → Refers define duplicate ref new same None
+    unfolding on_some
     refers_not t = record { is = λ e f m. sym (treated e f m ∙ rw t) }

@@ -1,6 +1,5 @@
 -- The names of components in work memory, and what the same-name search finds among them.
-use Rattle.std.specs.Prelude.{ℕ, zero, suc, ◌≤◌, ◌<◌, ◌≡◌, List, Bool, ◌&&◌, ◌||◌, not, length}
-use Rattle.std.proofs.Math.Option.{Option, none, some}
+use Rattle.std.specs.Prelude.{ℕ, zero, suc, ◌≤◌, ◌<◌, ◌≡◌, List, Bool, ◌&&◌, ◌||◌, not, length, Option, None, Some}
 use Rattle.std.proofs.Math.Seq.{slice}
 use Rattle.rules.specs.Basic.{pick, eq_list, on_some}
 use Rattle.rules.specs.Text.{text_outer_trimmed}
@@ -16,8 +15,6 @@ use Rattle.model.specs.Memory.{windows_of, state_in}
 use Rattle.model.specs.declared.Row.{Row}
 use Rattle.model.specs.declared.Held.{Held}
 use Rattle.memory.specs.Pushes.{count_of, pairs_of}
-use Rattle.lookup.specs.declared.Same.{Same}
-use Rattle.lookup.specs.declared.Same.TheVariants.{At, Nothing}
 use Rattle.lookup.specs.declared.NamePart.{NamePart}
 
 -- ---- the names of rows
@@ -43,12 +40,8 @@ module _ (sheet folded : List ℕ) (any_opt is_opt : Bool) where
 
   module _ (rows : List ℕ) where
     unfoldable pub same_row : ℕ → Option ℕ
-    same_row zero = none
-    same_row (suc i) = pick (row_fits (row_of (row_at 12 rows i))) (some i) (same_row i)
-
-unfoldable pub same_of : Same → Option ℕ
-same_of (At i) = some i
-same_of Nothing = none
+    same_row zero = None
+    same_row (suc i) = pick (row_fits (row_of (row_at 12 rows i))) (Some i) (same_row i)
 
 -- ---- the tables of a kind
 
@@ -68,15 +61,12 @@ abbrev pub earlier_at : Kind → List ℕ → List ℕ → Held → ℕ → Earl
 earlier_at k sheet w h i = earlier_in k sheet (rows_in k w) (pairs_in k w) (pairs_of k h) i
 
 -- r is what the same-name search finds in the table of a kind for a new entry of that name
-pub record SameFound (k : Kind) (sheet w : List ℕ) (h : Held) (name : List ℕ) (any_opt is_opt : Bool) (r : Same) : Type 0 where
+pub record SameFound (k : Kind) (sheet w : List ℕ) (h : Held) (name : List ℕ) (any_opt is_opt : Bool) (r : Option ℕ) : Type 0 where
   pub is : (new : Entry) → new.name ≡ kept_in name → new.modifiers.opt ≡ is_opt
-      → on_some (earlier_at k sheet w h) (same_of r) ≡ same_name_of any_opt new (table_of k (state_in sheet w h))
-  pub below : (i : ℕ) → r ≡ At i → i < count_of k h
+      → on_some (earlier_at k sheet w h) r ≡ same_name_of any_opt new (table_of k (state_in sheet w h))
+  pub below : (i : ℕ) → r ≡ Some i → i < count_of k h
 
 -- ---- the name of a new component
-
-abbrev pub kind_of : Bool → Kind
-kind_of is_ingredient = pick is_ingredient ingredient cookware
 
 -- p is the part of a field that trimming leaves
 pub record TrimmedAt (f : List ℕ) (p : NamePart) : Type 0 where

@@ -1,15 +1,12 @@
 -- What a new component refers to.
-use Rattle.std.specs.Prelude.{ℕ, ◌≡◌, Bool}
-use Rattle.std.proofs.Math.Option.{Option}
+use Rattle.std.specs.Prelude.{ℕ, ◌≡◌, Bool, Option}
 use Rattle.rules.specs.Basic.{is_some, on_some}
 use Rattle.rules.specs.Model.{Entry}
 use Rattle.rules.specs.Modes.{Modes}
 use Rattle.rules.specs.Reference.{Earlier, treat_as_reference, refers_to}
-use Rattle.model.specs.Memory.{define_of, duplicate_of}
-use Rattle.model.specs.declared.Define.{Define}
-use Rattle.model.specs.declared.Duplicate.{Duplicate}
-use Rattle.lookup.specs.declared.Same.{Same}
-use Rattle.lookup.specs.Names.{same_of}
+use Rattle.sheet.specs.declared.Define.{Define}
+use Rattle.sheet.specs.declared.Duplicate.{Duplicate}
+use Rattle.sheet.specs.Words.{define_of, duplicate_of}
 
 -- the modes of the small state
 abbrev pub modes_of : Define → Duplicate → Modes
@@ -24,5 +21,5 @@ pub record TreatedAs (define : Define) (duplicate : Duplicate) (ref is_found r :
   pub is : (e : Entry) (same : Option Earlier) → e.modifiers.ref ≡ ref → is_some same ≡ is_found → r ≡ treat_as_reference (modes_of define duplicate) e same
 
 -- r is what an entry refers to where the search found `same`; f gives the entries of indices
-pub record Refers (define : Define) (duplicate : Duplicate) (ref new : Bool) (same r : Same) : Type 0 where
-  pub is : (e : Entry) (f : ℕ → Earlier) → Marked e ref new → on_some f (same_of r) ≡ refers_to (modes_of define duplicate) e (on_some f (same_of same))
+pub record Refers (define : Define) (duplicate : Duplicate) (ref new : Bool) (same r : Option ℕ) : Type 0 where
+  pub is : (e : Entry) (f : ℕ → Earlier) → Marked e ref new → on_some f r ≡ refers_to (modes_of define duplicate) e (on_some f same)

@@ -3,28 +3,22 @@
 
 ghost use Rattle.std.specs.Prelude.{◌≡◌, ◌||◌, ◌+◌, ◌*◌, ◌<◌, ◌≤◌, length};
 ghost use Rattle.std.proofs.Math.Seq.{slice};
-ghost use Rattle.rules.specs.Basic.{is_some};
 ghost use Rattle.rules.specs.Unicode.{fold_name, same_name};
 ghost use Rattle.rules.specs.Modes.{is_steps, is_reference};
-ghost use Rattle.rules.specs.Model.{ingredient, cookware};
 ghost use Rattle.rules.specs.Reference.{eq_bool};
 ghost use Rattle.letters.specs.Tables.{unicode_tables};
 ghost use Rattle.content.specs.Contents.{kept_in};
 ghost use Rattle.model.specs.Rows.{row_at, row_of};
-ghost use Rattle.model.specs.Memory.{define_of, duplicate_of, Sound};
+ghost use Rattle.model.specs.Memory.{Sound};
 ghost use Rattle.model.specs.Fits.{AllFit};
-ghost use Rattle.lookup.specs.Names.{NameInside, NamesInside, row_fits, same_row, same_of, SameFound, kind_of, TrimmedAt, NewName};
+ghost use Rattle.lookup.specs.Names.{NameInside, NamesInside, row_fits, same_row, SameFound, TrimmedAt, NewName};
 ghost use Rattle.lookup.specs.References.{TreatedAs, Refers};
+ghost use Rattle.sheet.specs.Words.{define_of, duplicate_of};
+ghost use Rattle.model.specs.Kinds.{kind_of};
 
-use model::{Define, Duplicate, Held};
+use model::{Held, Kind};
+use sheet::{Define, Duplicate};
 use text::Dropped;
-
-// The row that the same-name search finds.
-#[derive(Clone, Copy)]
-pub enum Same {
-    At(usize),
-    Nothing,
-}
 
 // ---- the same-name search
 
@@ -32,13 +26,7 @@ pub enum Same {
 fn agrees(any_opt: bool, opt: bool, is_opt: bool) -> bool
     ensures { result ≡ (any_opt || eq_bool opt is_opt) }
 {
-    if any_opt {
-        return true;
-    }
-    if opt {
-        return is_opt;
-    }
-    !is_opt
+    any_opt || opt == is_opt
 }
 
 // Whether a part of the sheet has the name.
@@ -84,51 +72,45 @@ pub fn same_name_before(
     name: &[u8],
     any_opt: bool,
     is_opt: bool,
-) -> Same
+) -> Option<usize>
     requires { (t.now ≡ unicode_tables) × (count ≤ 513) × (count * 12 ≤ length rows.now) × NamesInside sheet.now rows.now count }
-    ensures { same_of result ≡ same_row sheet.now (fold_name (kept_in name.now)) any_opt is_opt rows.now count }
+    ensures { result ≡ same_row sheet.now (fold_name (kept_in name.now)) any_opt is_opt rows.now count }
 {
     let mut i = count;
     while 0 < i {
         let k = i - 1;
         if row_fits(t, sheet, rows, k, name, any_opt, is_opt) {
-            return Same::At(k);
+            return Some(k);
         }
         i = k;
     }
-    Same::Nothing
+    None
 }
 
-pub fn same_ingredient(
+// The same among the components of a kind.
+pub fn same_component(
     t: &[u32],
     sheet: &[u8],
     words: &[u32],
     h: Held,
+    kind: Kind,
     name: &[u8],
     any_opt: bool,
     is_opt: bool,
-) -> Same
+) -> Option<usize>
     requires { (t.now ≡ unicode_tables) × Sound words.now h × AllFit sheet.now words.now h }
-    ensures { SameFound ingredient sheet.now words.now h name.now any_opt is_opt result }
+    ensures { SameFound (kind_of kind) sheet.now words.now h name.now any_opt is_opt result }
 {
-    let n = h.counts.ingredients;
-    same_name_before(t, sheet, &words[0..6156], n, name, any_opt, is_opt)
-}
-
-pub fn same_cookware(
-    t: &[u32],
-    sheet: &[u8],
-    words: &[u32],
-    h: Held,
-    name: &[u8],
-    any_opt: bool,
-    is_opt: bool,
-) -> Same
-    requires { (t.now ≡ unicode_tables) × Sound words.now h × AllFit sheet.now words.now h }
-    ensures { SameFound cookware sheet.now words.now h name.now any_opt is_opt result }
-{
-    let n = h.counts.cookware;
-    same_name_before(t, sheet, &words[6156..9240], n, name, any_opt, is_opt)
+    match kind {
+        Kind::Ingredient => {
+            let n = h.counts.ingredients;
+            same_name_before(t, sheet, &words[0..6156], n, name, any_opt, is_opt)
+        }
+        Kind::Cookware => {
+            let n = h.counts.cookware;
+            same_name_before(t, sheet, &words[6156..9240], n, name, any_opt, is_opt)
+        }
+    }
 }
 
 // ---- the name of a new component
@@ -151,19 +133,21 @@ fn trimmed_place(t: &[u32], f: &[u8]) -> NamePart
 }
 
 // The name of a new component: trimmed, and for ingredients without its path.
-pub fn new_name(t: &[u32], sheet: &[u8], from: usize, to: usize, is_ingredient: bool) -> NamePart
+pub fn new_name(t: &[u32], sheet: &[u8], from: usize, to: usize, kind: Kind) -> NamePart
     requires { (t.now ≡ unicode_tables) × (from ≤ to) × (to ≤ length sheet.now) }
-    ensures { NewName (kind_of is_ingredient) sheet.now from to result }
+    ensures { NewName (kind_of kind) sheet.now from to result }
 {
     let p = trimmed_place(t, &sheet[from..to]);
     let at = from + p.at;
     let end = from + p.end;
-    if !is_ingredient {
-        return NamePart { at, end };
+    match kind {
+        Kind::Cookware => NamePart { at, end },
+        Kind::Ingredient => {
+            let q = content::name_place(&sheet[at..end]);
+            let start = at + q.start;
+            NamePart { at: start, end }
+        }
     }
-    let q = content::name_place(&sheet[at..end]);
-    let start = at + q.start;
-    NamePart { at: start, end }
 }
 
 // ---- what it refers to
@@ -171,30 +155,13 @@ pub fn new_name(t: &[u32], sheet: &[u8], from: usize, to: usize, is_ingredient: 
 pub fn is_steps(d: Define) -> bool
     ensures { result ≡ is_steps (define_of d) }
 {
-    match d {
-        Define::All => false,
-        Define::Components => false,
-        Define::Steps => true,
-        Define::Text => false,
-    }
+    matches!(d, Define::Steps)
 }
 
 pub fn is_reference(d: Duplicate) -> bool
     ensures { result ≡ is_reference (duplicate_of d) }
 {
-    match d {
-        Duplicate::New => false,
-        Duplicate::Reference => true,
-    }
-}
-
-fn is_found(s: Same) -> bool
-    ensures { result ≡ is_some (same_of s) }
-{
-    match s {
-        Same::At(_) => true,
-        Same::Nothing => false,
-    }
+    matches!(d, Duplicate::Reference)
 }
 
 pub fn treat_as_reference(
@@ -205,16 +172,7 @@ pub fn treat_as_reference(
 ) -> bool
     ensures { TreatedAs define duplicate reference found result }
 {
-    if reference {
-        return true;
-    }
-    if is_steps(define) {
-        return true;
-    }
-    if is_reference(duplicate) {
-        return found;
-    }
-    false
+    reference || is_steps(define) || (is_reference(duplicate) && found)
 }
 
 // What a new component refers to, where the search found `same`.
@@ -223,16 +181,16 @@ pub fn refers_to(
     duplicate: Duplicate,
     reference: bool,
     new: bool,
-    same: Same,
-) -> Same
+    same: Option<usize>,
+) -> Option<usize>
     ensures { Refers define duplicate reference new same result }
 {
     if new {
-        return Same::Nothing;
+        return None;
     }
-    let found = is_found(same);
+    let found = same.is_some();
     if treat_as_reference(define, duplicate, reference, found) {
         return same;
     }
-    Same::Nothing
+    None
 }

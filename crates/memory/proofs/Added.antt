@@ -1,4 +1,5 @@
 -- A component and its referrer: first its row, then the pair.
+use Rattle.std.specs.Prelude.{None, Option, Some}
 use Prim.Native.Nat.{ℕ, ◌+◌, ◌*◌, ◌<◌}
 use mathlib.Core.Path.{◌≡◌, refl, sym, ap, ◌∙◌}
 use mathlib.Core.List.{List, [], ◌∷◌}
@@ -10,8 +11,6 @@ use Rattle.rules.specs.Reference.{set_referenced_from}
 use Rattle.rules.specs.State.{State, table_of, set_table}
 use Rattle.model.specs.Rows.{entry_as}
 use Rattle.model.specs.Memory.{windows_of, state_in, Sound}
-use Rattle.model.specs.declared.Found.{Found}
-use Rattle.model.specs.declared.Found.TheVariants.{At, Nothing}
 use Rattle.model.specs.declared.Row.{Row}
 use Rattle.model.specs.declared.Held.{Held}
 use Rattle.model.proofs.Tables.{entries_length}
@@ -35,7 +34,7 @@ later : (k : Kind) (d : ℕ) (e : Entry) (st : State) → d < length (table_of k
 later k d e st h = rw (table_set k (e ∷ table_of k st) st, referred_later d (length (table_of k st)) e (table_of k st) h) (set_table_twice k (e ∷ table_of k st) _ st)
 
 module _ (k : Kind) {w₀ w₁ : List ℕ} {h₀ h₁ : Held} {r : Row} (a : RowPushed k w₀ h₀ r w₁ h₁) where
-  pub added_alone : ComponentAdded k w₀ h₀ r Nothing w₁ h₁
+  pub added_alone : ComponentAdded k w₀ h₀ r None w₁ h₁
   added_alone = record { words = a.words; held = a.held; is = a.is; fit = a.fit; sound = a.sound }
 
   module _ {w : List ℕ} {h : Held} {d : ℕ} (b : PairPushed k w₁ h₁ d (count_of k h₀) w h) (l : d < count_of k h₀) where
@@ -50,7 +49,7 @@ module _ (k : Kind) {w₀ w₁ : List ℕ} {h₀ h₁ : Held} {r : Row} (a : Row
         ∙ ap (λ (m : ℕ). set_table k (set_referenced_from d m (table_of k (set_table k (entry_as k sheet r [] ∷ table_of k (state_in sheet w₀ h₀)) (state_in sheet w₀ h₀)))) (set_table k (entry_as k sheet r [] ∷ table_of k (state_in sheet w₀ h₀)) (state_in sheet w₀ h₀))) (sym n)
         ∙ later k d (entry_as k sheet r []) (state_in sheet w₀ h₀) (omega arith)
 
-    pub added_referring : ComponentAdded k w₀ h₀ r (At d) w h
+    pub added_referring : ComponentAdded k w₀ h₀ r (Some d) w h
     added_referring =
         record {
           words = b.words ∙ ap (λ (m : ℕ). sets w₁ (pairs_from k + m * 2) (d ∷ count_of k h₀ ∷ [])) added_pairs ∙ ap (λ (v : List ℕ). sets v (pairs_from k + pairs_of k h₀ * 2) (d ∷ count_of k h₀ ∷ [])) a.words;
@@ -66,19 +65,19 @@ count_more : (k : Kind) (n : ℕ) (h : Held) → count_of k (with_count k n h) �
 count_more ingredient n h = refl
 count_more cookware n h = refl
 
-below_at : {to : Found} (n d : ℕ) → FoundBelow to n → to ≡ At d → d < n
+below_at : {to : Option ℕ} (n d : ℕ) → FoundBelow to n → to ≡ Some d → d < n
 below_at {to} n d f e = rw e at f
 
-module _ (k : Kind) {w₀ w₁ : List ℕ} {h₀ h₁ : Held} {r : Row} (a : RowPushed k w₀ h₀ r w₁ h₁) {to : Found} where
-  pub refer_ready : (d : ℕ) → Sound w₀ h₀ → FoundBelow to (count_of k h₀) → to ≡ At d → Sound w₁ h₁ × (pairs_of k h₁ < count_of k h₁) × (d < count_of k h₁)
+module _ (k : Kind) {w₀ w₁ : List ℕ} {h₀ h₁ : Held} {r : Row} (a : RowPushed k w₀ h₀ r w₁ h₁) {to : Option ℕ} where
+  pub refer_ready : (d : ℕ) → Sound w₀ h₀ → FoundBelow to (count_of k h₀) → to ≡ Some d → Sound w₁ h₁ × (pairs_of k h₁ < count_of k h₁) × (d < count_of k h₁)
   refer_ready d z f e =
       let n : count_of k h₁ ≡ count_of k h₀ + 1 = ap (count_of k) a.held ∙ count_more k (count_of k h₀ + 1) h₀ in
       let p : pairs_of k h₁ ≡ pairs_of k h₀ = ap (pairs_of k) a.held ∙ pairs_same k (count_of k h₀ + 1) h₀ in
       let l : d < count_of k h₀ = below_at (count_of k h₀) d f e in
       (a.sound, omega (arith, room_pairs_lem k z.room), omega arith)
 
-  pub added_none : to ≡ Nothing → ComponentAdded k w₀ h₀ r to w₁ h₁
+  pub added_none : to ≡ None → ComponentAdded k w₀ h₀ r to w₁ h₁
   added_none e = rw e (added_alone k a)
 
-  pub added_to : {w : List ℕ} {h : Held} (d : ℕ) → FoundBelow to (count_of k h₀) → to ≡ At d → PairPushed k w₁ h₁ d (count_of k h₀) w h → ComponentAdded k w₀ h₀ r to w h
+  pub added_to : {w : List ℕ} {h : Held} (d : ℕ) → FoundBelow to (count_of k h₀) → to ≡ Some d → PairPushed k w₁ h₁ d (count_of k h₀) w h → ComponentAdded k w₀ h₀ r to w h
   added_to d f e b = rw e (added_referring k a b (below_at (count_of k h₀) d f e))

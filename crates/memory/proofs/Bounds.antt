@@ -8,8 +8,8 @@ use Rattle.rules.specs.Model.{ingredient, cookware}
 use Rattle.model.specs.Memory.{windows_of, Sound, first_held}
 use Rattle.model.specs.Fits.{Fits, AllFit}
 use Rattle.model.specs.Small.{with_define, with_duplicate, with_block, with_items, with_timers, with_inline, with_old}
-use Rattle.model.specs.declared.Define.{Define}
-use Rattle.model.specs.declared.Duplicate.{Duplicate}
+use Rattle.sheet.specs.declared.Define.{Define}
+use Rattle.sheet.specs.declared.Duplicate.{Duplicate}
 use Rattle.model.specs.declared.Open.{Open}
 use Rattle.model.specs.declared.Held.{Held}
 use Rattle.model.proofs.Tables.{each_none}

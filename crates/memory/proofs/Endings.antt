@@ -3,15 +3,16 @@ use Prim.Native.Nat.{ℕ, zero, suc, ◌+◌}
 use mathlib.Core.Path.{◌≡◌, refl, sym, ap, ◌∙◌}
 use mathlib.Core.List.{List, [], ◌∷◌}
 use mathlib.Core.Bool.{Bool, true, false}
-use mathlib.Core.Option.{none, some}
+use Rattle.std.specs.Prelude.{None, Some, Ok, Err}
 use native.Mathlib.Omega.{arith}
 use lib.ListN.{length, replicate}
-use Rattle.rules.specs.Basic.{pick, is_some}
+use Rattle.rules.specs.Basic.{pick, is_some, on_some}
 use Rattle.rules.specs.Finding.{Finding}
 use Rattle.rules.specs.State.{State, set_place, set_kept, report, over_limits, going, recipe, refusal}
 use Rattle.rules.specs.Metadata.{old_metadata}
 use Rattle.rules.specs.Event.{Span}
 use Rattle.rules.specs.Pass.{is_open, is_empty_section, close_section, on_section, ended, unless_over, finish}
+use Rattle.refusals.specs.declared.Reason.TheVariants.{OpenAtEnd, OverLimits as over}
 use Rattle.model.specs.Blank.{blank_span, blank, refusal_of}
 use Rattle.model.specs.Memory.{windows_of, open_of, state_of, state_in}
 use Rattle.model.specs.Small.{with_findings}
@@ -20,10 +21,10 @@ use Rattle.model.specs.declared.Open.TheVariants.{Nothing, Step, Text as TextBlo
 use Rattle.model.specs.declared.Held.{Held}
 use Rattle.model.proofs.Tables.{findings_length}
 use Rattle.model.proofs.Ends.{over_report_blank}
-use Rattle.memory.specs.Pushes.{SectionBegun, OverLimits, EndRefused, is_open_block}
+use Rattle.memory.specs.Pushes.{SectionBegun, OverLimits, EndChecked, is_open_block}
 use Rattle.memory.proofs.Smalls.{state_blank}
 
-open_as : (b : Open) → is_open (open_of b) ≡ is_open_block b
+pub open_as : (b : Open) → is_open (open_of b) ≡ is_open_block b
 unfolding is_open open_of
 open_as Nothing = refl
 open_as Step = refl
@@ -39,15 +40,15 @@ unfolding state_in state_of
 old_is sheet w h = refl
 
 -- 19
-pub end_open : (h : Held) (b : Bool) → b ≡ is_open_block h.block → b ≡ true → EndRefused h 19
-unfolding finish refusal_of
+pub end_open : (h : Held) (b : Bool) → b ≡ is_open_block h.block → b ≡ true → EndChecked h (Err OpenAtEnd)
+unfolding finish refusal_of on_some
 end_open h b e t = record { is = λ sheet w. rw (block_is sheet w h, open_as h.block, sym e ∙ t) }
 
-refusal_some : (n l : ℕ) → refusal_of (refusal n l) ≡ some (n, l)
+refusal_some : (n l : ℕ) → refusal_of (refusal n l) ≡ Some (n, l)
 unfolding refusal_of
 refusal_some n l = refl
 
-refusal_none : (st : State) → refusal_of (recipe st) ≡ none
+refusal_none : (st : State) → refusal_of (recipe st) ≡ None
 unfolding refusal_of
 refusal_none st = refl
 
@@ -55,22 +56,22 @@ finish_closed : (st : State) → is_open st.place.block ≡ false → refusal_of
 unfolding finish
 finish_closed st e = rw e
 
-unless_by : (st : State) (t : Bool) → over_limits st ≡ t → refusal_of (unless_over st) ≡ pick t (some (17, 0)) none
+unless_by : (st : State) (t : Bool) → over_limits st ≡ t → refusal_of (unless_over st) ≡ pick t (Some (17, 0)) None
 unfolding unless_over
 unless_by st t e = rw e (go t)
   where
-    go : (b : Bool) → refusal_of (pick b (refusal 17 0) (recipe st)) ≡ pick b (some (17, 0)) none
+    go : (b : Bool) → refusal_of (pick b (refusal 17 0) (recipe st)) ≡ pick b (Some (17, 0)) None
     go true = refusal_some 17 0
     go false = refusal_none st
 
 -- 17 or nothing
 end_by : (sheet w : List ℕ) (h : Held) → is_open_block h.block ≡ false → (t : Bool) → over_limits (ended (state_in sheet w h)) ≡ t
-    → refusal_of (finish (going (state_in sheet w h))) ≡ pick t (some (17, 0)) none
+    → refusal_of (finish (going (state_in sheet w h))) ≡ pick t (Some (17, 0)) None
 end_by sheet w h c t e =
     finish_closed (state_in sheet w h) (ap is_open (block_is sheet w h) ∙ open_as h.block ∙ c) ∙ unless_by (ended (state_in sheet w h)) t e
 
 -- where the current section lies does not count
-over_place : (fs : List Finding) (st : State) → over_limits (report fs (on_section none st)) ≡ over_limits (report fs (close_section st))
+over_place : (fs : List Finding) (st : State) → over_limits (report fs (on_section None st)) ≡ over_limits (report fs (close_section st))
 unfolding on_section set_place over_limits report
 over_place fs st = refl
 
@@ -82,7 +83,7 @@ findings_are : (sheet w : List ℕ) (h : Held) → length (state_in sheet w h).f
 unfolding state_in state_of
 findings_are sheet w h = findings_length (windows_of w).findings h.counts.findings
 
-findings_kept : (st : State) → (blank (on_section none st)).findings ≡ st.findings
+findings_kept : (st : State) → (blank (on_section None st)).findings ≡ st.findings
 unfolding blank on_section set_place close_section set_kept
 findings_kept st = go (is_empty_section st.place.section)
   where
@@ -101,12 +102,12 @@ module _ {h g : Held} (s : SectionBegun h false g) where
   ended_over sheet w =
       ap (λ (l : List Span). over_limits (report (old_metadata l) (close_section (state_in sheet w h)))) (old_is sheet w h)
       ∙ sym (over_place (old_metadata (replicate h.counts.old blank_span)) (state_in sheet w h))
-      ∙ over_report_blank (old_metadata (replicate h.counts.old blank_span)) (on_section none (state_in sheet w h)) (state_in sheet w g) (sym (s.is sheet w none refl) ∙ sym (state_blank sheet w g))
+      ∙ over_report_blank (old_metadata (replicate h.counts.old blank_span)) (on_section None (state_in sheet w h)) (state_in sheet w g) (sym (s.is sheet w None refl) ∙ sym (state_blank sheet w g))
 
   same_findings : g.counts.findings ≡ h.counts.findings
   unfolding is_some
   same_findings =
-      sym (findings_are [] [] g) ∙ ap (λ (st : State). length st.findings) (s.is [] [] none refl) ∙ ap length (findings_kept (state_in [] [] h)) ∙ findings_are [] [] h
+      sym (findings_are [] [] g) ∙ ap (λ (st : State). length st.findings) (s.is [] [] None refl) ∙ ap length (findings_kept (state_in [] [] h)) ∙ findings_are [] [] h
 
   over_old_none : h.counts.old ≡ 0 → (sheet w : List ℕ) → over_limits (ended (state_in sheet w h)) ≡ over_limits (state_in sheet w g)
   unfolding old_metadata
@@ -123,12 +124,13 @@ module _ {h g : Held} (s : SectionBegun h false g) where
           rw e (over_one sheet w _ g)
 
 module _ {h g : Held} (b : Bool) (c : b ≡ is_open_block h.block) (d : b ≡ false) (s : SectionBegun h false g) where
-  end_with : (t : Bool) → ((sheet w : List ℕ) → over_limits (ended (state_in sheet w h)) ≡ t) → EndRefused h (pick t 17 0)
+  end_with : (t : Bool) → ((sheet w : List ℕ) → over_limits (ended (state_in sheet w h)) ≡ t) → EndChecked h (pick t (Err over) (Ok tt))
+  unfolding on_some
   end_with true e = record { is = λ sheet w. end_by sheet w h (sym c ∙ d) true (e sheet w) }
   end_with false e = record { is = λ sheet w. end_by sheet w h (sym c ∙ d) false (e sheet w) }
 
-  pub end_none : (t r : Bool) → h.counts.old ≡ 0 → OverLimits g r → r ≡ t → EndRefused h (pick t 17 0)
+  pub end_none : (t r : Bool) → h.counts.old ≡ 0 → OverLimits g r → r ≡ t → EndChecked h (pick t (Err over) (Ok tt))
   end_none t r q o e = end_with t (λ sheet w. over_old_none s q sheet w ∙ sym (o.is sheet w) ∙ e)
 
-  pub end_some : (t r : Bool) → (h.counts.old ≡ 0 → ⊥) → OverLimits (with_findings (h.counts.findings + 1) g) r → r ≡ t → EndRefused h (pick t 17 0)
+  pub end_some : (t r : Bool) → (h.counts.old ≡ 0 → ⊥) → OverLimits (with_findings (h.counts.findings + 1) g) r → r ≡ t → EndChecked h (pick t (Err over) (Ok tt))
   end_some t r q o e = end_with t (λ sheet w. over_old_some s q sheet w ∙ sym (o.is sheet w) ∙ e)

@@ -3,7 +3,7 @@ use Prim.Native.Nat.{ℕ, zero, suc, ◌+◌, ◌≤◌, ◌<◌}
 use mathlib.Core.Path.{◌≡◌, refl, sym, ap, ◌∙◌}
 use mathlib.Core.List.{List, [], ◌∷◌}
 use mathlib.Core.Bool.{Bool, true, false, ◌||◌, ◌&&◌, not}
-use mathlib.Core.Option.{Option, none, some}
+use Rattle.std.specs.Prelude.{Option, None, Some}
 use native.Mathlib.Omega.{arith}
 use native.Mathlib.Numerals.{add-one}
 use lib.Dec.{eqb, ltb}
@@ -17,10 +17,10 @@ use Rattle.rules.specs.State.{State, first_state, no_block, set_modes, set_metad
 use Rattle.rules.specs.Pass.{is_empty_section, close_section, on_section}
 use Rattle.model.specs.Blank.{blank_span, blank_timer, blank_inline, blank_block, blank_open, blank_name, blank_place, blank_metadata, blank_kept, blank_tables, blank}
 use Rattle.model.specs.Rows.{block_of, blocks_in, entries_in, findings_in}
-use Rattle.model.specs.Memory.{windows_of, define_of, duplicate_of, open_of, state_of, state_in, first_held, Sound}
+use Rattle.model.specs.Memory.{windows_of, open_of, state_of, state_in, first_held, Sound}
 use Rattle.model.specs.Small.{with_define, with_duplicate, with_block, with_named, with_counter, with_here, with_sections, with_timers, with_inline, with_old}
-use Rattle.model.specs.declared.Define.{Define}
-use Rattle.model.specs.declared.Duplicate.{Duplicate}
+use Rattle.sheet.specs.declared.Define.{Define}
+use Rattle.sheet.specs.declared.Duplicate.{Duplicate}
 use Rattle.model.specs.declared.Open.{Open}
 use Rattle.model.specs.declared.Open.TheVariants.{Nothing, Step, Text as TextBlock, TextMode}
 use Rattle.model.specs.declared.Held.{Held}
@@ -28,6 +28,7 @@ use Rattle.model.proofs.Blanks.{blank_place_lem}
 use Rattle.model.proofs.Tables.{entries_length, findings_length}
 use Rattle.memory.specs.Pushes.{SectionBegun, OverLimits}
 use Rattle.memory.proofs.Bounds.{fit_counts}
+use Rattle.sheet.specs.Words.{define_of, duplicate_of}
 
 -- ---- nothing is left to take away
 
@@ -45,7 +46,7 @@ blocks_blank ks zero = refl
 blocks_blank ks (suc n) = rw (block_blank (get_or ks n 0), blocks_blank ks n)
 
 abbrev name_in : Bool → Option (List ℕ)
-name_in b = pick b (some []) none
+name_in b = pick b (Some []) None
 
 name_blank : (b : Bool) → blank_name (name_in b) ≡ name_in b
 unfolding blank_name
@@ -71,9 +72,9 @@ first_state_lem sheet w = refl
 
 -- ---- sections
 
-filled : (ks : List ℕ) (n : ℕ) → (n ≡ 0 → ⊥) → is_empty (blocks_in ks n) ≡ false
+filled : (ks : List ℕ) (n : ℕ) → 0 < n → is_empty (blocks_in ks n) ≡ false
 unfolding blocks_in is_empty
-filled ks zero q = absurd (q refl)
+filled ks zero q = absurd (omega arith)
 filled ks (suc n) q = refl
 
 module _ (sheet w : List ℕ) (h : Held) where
@@ -91,22 +92,22 @@ module _ (sheet w : List ℕ) (h : Held) where
   close_by true e = rw e (state_blank sheet w h)
   close_by false e = rw e kept_more
 
-  close_empty : h.named ≡ false → h.counts.here ≡ 0 → blank (close_section (state_in sheet w h)) ≡ state_in sheet w h
+  close_empty : h.named ≡ false → h.counts.here ≤ 0 → blank (close_section (state_in sheet w h)) ≡ state_in sheet w h
   unfolding is_some is_empty blocks_in
-  close_empty e q = close_by true (section_test ∙ rw (e, q))
+  close_empty e q = let z : h.counts.here ≡ 0 = omega arith in close_by true (section_test ∙ rw (e, z))
 
   close_named : h.named ≡ true → blank (close_section (state_in sheet w h)) ≡ state_in sheet w (with_sections (h.counts.sections + 1) h)
   unfolding is_some
   close_named e = close_by false (section_test ∙ rw e)
 
-  close_filled : h.named ≡ false → (h.counts.here ≡ 0 → ⊥) → blank (close_section (state_in sheet w h)) ≡ state_in sheet w (with_sections (h.counts.sections + 1) h)
+  close_filled : h.named ≡ false → 0 < h.counts.here → blank (close_section (state_in sheet w h)) ≡ state_in sheet w (with_sections (h.counts.sections + 1) h)
   unfolding is_some
   close_filled e q = close_by false (section_test ∙ rw (e, filled (windows_of w).kinds h.counts.here q))
 
 name_as : (name : Option Text) (b : Bool) → is_some name ≡ b → blank_name (on_some trimmed_text name) ≡ name_in b
 unfolding is_some blank_name on_some
-name_as none b e = rw (sym e)
-name_as (some t) b e = rw (sym e)
+name_as None b e = rw (sym e)
+name_as (Some t) b e = rw (sym e)
 
 abbrev next : Bool → Held → Held
 next named h = with_block Nothing (with_named named (with_here 0 (with_counter 1 h)))
@@ -137,10 +138,10 @@ module _ {h r : Held} (named : Bool) (l : h.counts.sections < 100000) where
   pub section_named : h.named ≡ true → r ≡ next named (with_sections (h.counts.sections + 1) h) → SectionBegun h named r
   section_named t e = section_by (h.counts.sections + 1) (omega arith) (λ sheet w. close_named sheet w h t) e
 
-  pub section_filled : h.named ≡ false → (h.counts.here ≡ 0 → ⊥) → r ≡ next named (with_sections (h.counts.sections + 1) h) → SectionBegun h named r
+  pub section_filled : h.named ≡ false → 0 < h.counts.here → r ≡ next named (with_sections (h.counts.sections + 1) h) → SectionBegun h named r
   section_filled t q e = section_by (h.counts.sections + 1) (omega arith) (λ sheet w. close_filled sheet w h t q) e
 
-  pub section_empty : h.named ≡ false → h.counts.here ≡ 0 → r ≡ next named h → SectionBegun h named r
+  pub section_empty : h.named ≡ false → h.counts.here ≤ 0 → r ≡ next named h → SectionBegun h named r
   section_empty t q e = section_by h.counts.sections (omega arith) (λ sheet w. close_empty sheet w h t q) e
 
 -- ---- limits

@@ -18,10 +18,11 @@ use Rattle.model.specs.declared.Open.TheVariants.{Nothing}
 use Rattle.model.specs.declared.Row.{Row}
 use Rattle.model.specs.declared.Noted.{Noted}
 use Rattle.model.specs.declared.Held.{Held}
+use Rattle.model.specs.Kinds.{room_of}
 use Rattle.model.proofs.Stores.{put_sets}
 use Rattle.model.proofs.Tables.{row_length, each_more, noted_length, entries_more, referrers_none, entries_referred, below_more, findings_more, blocks_more}
 use Rattle.memory.specs.Pushes.{rows_from, pairs_from, count_of, pairs_of, with_count, with_pairs, RowPushed, PairPushed, FindingPushed, BlockKept}
-use Rattle.memory.proofs.Windows.{most, rows_in, pairs_in, set_kind, in_rows, in_pairs, in_findings, in_kinds}
+use Rattle.memory.proofs.Windows.{rows_in, pairs_in, set_kind, in_rows, in_pairs, in_findings, in_kinds}
 
 -- ---- windows are as long as their table
 
@@ -53,11 +54,11 @@ module _ {w : List ℕ} {h : Held} (z : Sound w h) where
   unfolding windows_of
   long_kinds = mid_length w 23132 1025 (omega (arith, z.long))
 
-  long_rows : (k : Kind) → length (rows_in k (windows_of w)) ≡ most k * 12
+  long_rows : (k : Kind) → length (rows_in k (windows_of w)) ≡ room_of k * 12
   long_rows ingredient = long_ingredients
   long_rows cookware = long_cookware
 
-  long_pairs : (k : Kind) → length (pairs_in k (windows_of w)) ≡ most k * 2
+  long_pairs : (k : Kind) → length (pairs_in k (windows_of w)) ≡ room_of k * 2
   long_pairs ingredient = long_ingredient_pairs
   long_pairs cookware = long_cookware_pairs
 
@@ -70,7 +71,7 @@ lent a n w j vs l e = ap (put_mid a n w) e ∙ put_sets a n w j vs l
 
 -- ---- bounds of a kind
 
-room_count : (k : Kind) {h : Held} → Room h → count_of k h ≤ most k
+room_count : (k : Kind) {h : Held} → Room h → count_of k h ≤ room_of k
 room_count ingredient z = z.ingredients
 room_count cookware z = z.cookware
 
@@ -107,15 +108,15 @@ record Tabled (k : Kind) (w : List ℕ) (h : Held) (rows : List ℕ) (n : ℕ) (
 
 -- after stores in its rows, or in its pairs
 module _ {w v : List ℕ} {h : Held} (z : Sound w h) (j : ℕ) (vs : List ℕ) where
-  tabled_rows : (k : Kind) (n : ℕ) → j + length vs ≤ most k * 12 → v ≡ sets w (rows_from k + j) vs → Tabled k w h (sets (rows_in k (windows_of w)) j vs) n (pairs_in k (windows_of w)) (pairs_of k h) v (with_count k n h)
+  tabled_rows : (k : Kind) (n : ℕ) → j + length vs ≤ room_of k * 12 → v ≡ sets w (rows_from k + j) vs → Tabled k w h (sets (rows_in k (windows_of w)) j vs) n (pairs_in k (windows_of w)) (pairs_of k h) v (with_count k n h)
   tabled_rows ingredient n l q = record { windows = rw q (in_rows w j vs ingredient l); held = refl; long = rw q (still_long z 0 j vs) }
   tabled_rows cookware n l q = record { windows = rw q (in_rows w j vs cookware l); held = refl; long = rw q (still_long z 6156 j vs) }
 
-  tabled_pairs : (k : Kind) (m : ℕ) → j + length vs ≤ most k * 2 → v ≡ sets w (pairs_from k + j) vs → Tabled k w h (rows_in k (windows_of w)) (count_of k h) (sets (pairs_in k (windows_of w)) j vs) m v (with_pairs k m h)
+  tabled_pairs : (k : Kind) (m : ℕ) → j + length vs ≤ room_of k * 2 → v ≡ sets w (pairs_from k + j) vs → Tabled k w h (rows_in k (windows_of w)) (count_of k h) (sets (pairs_in k (windows_of w)) j vs) m v (with_pairs k m h)
   tabled_pairs ingredient m l q = record { windows = rw q (in_pairs w j vs ingredient l); held = refl; long = rw q (still_long z 9240 j vs) }
   tabled_pairs cookware m l q = record { windows = rw q (in_pairs w j vs cookware l); held = refl; long = rw q (still_long z 10266 j vs) }
 
-room_with : (k : Kind) {h : Held} (n m : ℕ) → Room h → n ≤ most k → m ≤ n → Room (with_table k n m h)
+room_with : (k : Kind) {h : Held} (n m : ℕ) → Room h → n ≤ room_of k → m ≤ n → Room (with_table k n m h)
 room_with ingredient n m z a b = record { ingredients = a; cookware = z.cookware; ingredient_pairs = b; cookware_pairs = z.cookware_pairs; findings = z.findings; here = z.here; counter = z.counter; sections = z.sections; blocks = z.blocks; items = z.items; timers = z.timers; inline = z.inline; old = z.old }
 room_with cookware n m z a b = record { ingredients = z.ingredients; cookware = a; ingredient_pairs = z.ingredient_pairs; cookware_pairs = b; findings = z.findings; here = z.here; counter = z.counter; sections = z.sections; blocks = z.blocks; items = z.items; timers = z.timers; inline = z.inline; old = z.old }
 
@@ -129,18 +130,18 @@ module _ {w rows pairs v : List ℕ} {n m : ℕ} {h g : Held} where
   tabled_fit ingredient t f x = rw t.held record { ingredients = rw t.windows x; cookware = rw t.windows f.cookware }
   tabled_fit cookware t f x = rw t.held record { ingredients = rw t.windows f.ingredients; cookware = rw t.windows x }
 
-  tabled_sound : (k : Kind) → Tabled k w h rows n pairs m v g → Sound w h → n ≤ most k → m ≤ n → Below pairs m n → Sound v g
+  tabled_sound : (k : Kind) → Tabled k w h rows n pairs m v g → Sound w h → n ≤ room_of k → m ≤ n → Below pairs m n → Sound v g
   tabled_sound ingredient t z a b x = rw t.held record { long = t.long; room = room_with ingredient n m z.room a b; ingredients = rw t.windows x; cookware = rw t.windows z.cookware }
   tabled_sound cookware t z a b x = rw t.held record { long = t.long; room = room_with cookware n m z.room a b; ingredients = rw t.windows z.ingredients; cookware = rw t.windows x }
 
 -- ---- a component more: its row, stored in the window that was lent
 
-pub row_pushed : (k : Kind) {w : List ℕ} {h : Held} → Sound w h → (r : Row) → count_of k h < most k → (p : List ℕ) → p ≡ sets (mid_of (rows_from k) (most k * 12) w) (count_of k h * 12) (row_words r)
-    → RowPushed k w h r (put_mid (rows_from k) (most k * 12) w p) (with_count k (count_of k h + 1) h)
+pub row_pushed : (k : Kind) {w : List ℕ} {h : Held} → Sound w h → (r : Row) → count_of k h < room_of k → (p : List ℕ) → p ≡ sets (mid_of (rows_from k) (room_of k * 12) w) (count_of k h * 12) (row_words r)
+    → RowPushed k w h r (put_mid (rows_from k) (room_of k * 12) w p) (with_count k (count_of k h + 1) h)
 row_pushed k {w} {h} z r l p e =
-    let room : count_of k h * 12 + length (row_words r) ≤ most k * 12 = omega (arith, row_length r) in
+    let room : count_of k h * 12 + length (row_words r) ≤ room_of k * 12 = omega (arith, row_length r) in
     let long : count_of k h * 12 + 12 ≤ length (rows_in k (windows_of w)) = omega (arith, long_rows z k) in
-    let q = lent (rows_from k) (most k * 12) w (count_of k h * 12) (row_words r) room e in
+    let q = lent (rows_from k) (room_of k * 12) w (count_of k h * 12) (row_words r) room e in
     let t = tabled_rows z (count_of k h * 12) (row_words r) k (count_of k h + 1) room q in
     record {
       words = q;
@@ -160,12 +161,12 @@ row_pushed k {w} {h} z r l p e =
 
 -- ---- a referrer more: its pair
 
-pub pair_pushed : (k : Kind) {w : List ℕ} {h : Held} → Sound w h → (d r : ℕ) → pairs_of k h < count_of k h → d < count_of k h → (p : List ℕ) → p ≡ sets (mid_of (pairs_from k) (most k * 2) w) (pairs_of k h * 2) (d ∷ r ∷ [])
-    → PairPushed k w h d r (put_mid (pairs_from k) (most k * 2) w p) (with_pairs k (pairs_of k h + 1) h)
+pub pair_pushed : (k : Kind) {w : List ℕ} {h : Held} → Sound w h → (d r : ℕ) → pairs_of k h < count_of k h → d < count_of k h → (p : List ℕ) → p ≡ sets (mid_of (pairs_from k) (room_of k * 2) w) (pairs_of k h * 2) (d ∷ r ∷ [])
+    → PairPushed k w h d r (put_mid (pairs_from k) (room_of k * 2) w p) (with_pairs k (pairs_of k h + 1) h)
 pair_pushed k {w} {h} z d r l g p e =
-    let room : pairs_of k h * 2 + length (d ∷ r ∷ []) ≤ most k * 2 = omega (arith, room_count k z.room) in
+    let room : pairs_of k h * 2 + length (d ∷ r ∷ []) ≤ room_of k * 2 = omega (arith, room_count k z.room) in
     let long : pairs_of k h * 2 + 2 ≤ length (pairs_in k (windows_of w)) = omega (arith, room_count k z.room, long_pairs z k) in
-    let q = lent (pairs_from k) (most k * 2) w (pairs_of k h * 2) (d ∷ r ∷ []) room e in
+    let q = lent (pairs_from k) (room_of k * 2) w (pairs_of k h * 2) (d ∷ r ∷ []) room e in
     let t = tabled_pairs z (pairs_of k h * 2) (d ∷ r ∷ []) k (pairs_of k h + 1) room q in
     record {
       words = q;

@@ -7,15 +7,11 @@ use lib.ListN.{length}
 use lib.Seq.{sets}
 use Rattle.rules.specs.Model.{Kind, ingredient, cookware}
 use Rattle.model.specs.Memory.{Windows, windows_of}
+use Rattle.model.specs.Kinds.{room_of}
 use Rattle.model.proofs.Stores.{mid_above, mid_below, mid_own}
 use Rattle.memory.specs.Pushes.{rows_from, pairs_from}
 
 -- ---- the windows of each kind
-
--- as many rows as they hold, and as many pairs
-abbrev pub most : Kind → ℕ
-most ingredient = 513
-most cookware = 257
 
 abbrev pub rows_in : Kind → Windows → List ℕ
 rows_in ingredient x = x.ingredients
@@ -33,12 +29,12 @@ set_kind cookware rows pairs x = record { ingredients = x.ingredients; cookware 
 -- ---- after the stores
 
 module _ (w : List ℕ) (j : ℕ) (vs : List ℕ) where
-  pub in_rows : (k : Kind) → j + length vs ≤ most k * 12 → windows_of (sets w (rows_from k + j) vs) ≡ set_kind k (sets (rows_in k (windows_of w)) j vs) (pairs_in k (windows_of w)) (windows_of w)
+  pub in_rows : (k : Kind) → j + length vs ≤ room_of k * 12 → windows_of (sets w (rows_from k + j) vs) ≡ set_kind k (sets (rows_in k (windows_of w)) j vs) (pairs_in k (windows_of w)) (windows_of w)
   unfolding windows_of
   in_rows ingredient h = rw (mid_own 0 6156 w j vs h, mid_above 6156 3084 w (0 + j) vs (omega arith), mid_above 9240 1026 w (0 + j) vs (omega arith), mid_above 10266 514 w (0 + j) vs (omega arith), mid_above 10780 12352 w (0 + j) vs (omega arith), mid_above 23132 1025 w (0 + j) vs (omega arith))
   in_rows cookware h = rw (mid_below 0 6156 w (6156 + j) vs (omega arith), mid_own 6156 3084 w j vs h, mid_above 9240 1026 w (6156 + j) vs (omega arith), mid_above 10266 514 w (6156 + j) vs (omega arith), mid_above 10780 12352 w (6156 + j) vs (omega arith), mid_above 23132 1025 w (6156 + j) vs (omega arith))
 
-  pub in_pairs : (k : Kind) → j + length vs ≤ most k * 2 → windows_of (sets w (pairs_from k + j) vs) ≡ set_kind k (rows_in k (windows_of w)) (sets (pairs_in k (windows_of w)) j vs) (windows_of w)
+  pub in_pairs : (k : Kind) → j + length vs ≤ room_of k * 2 → windows_of (sets w (pairs_from k + j) vs) ≡ set_kind k (rows_in k (windows_of w)) (sets (pairs_in k (windows_of w)) j vs) (windows_of w)
   unfolding windows_of
   in_pairs ingredient h = rw (mid_below 0 6156 w (9240 + j) vs (omega arith), mid_below 6156 3084 w (9240 + j) vs (omega arith), mid_own 9240 1026 w j vs h, mid_above 10266 514 w (9240 + j) vs (omega arith), mid_above 10780 12352 w (9240 + j) vs (omega arith), mid_above 23132 1025 w (9240 + j) vs (omega arith))
   in_pairs cookware h = rw (mid_below 0 6156 w (10266 + j) vs (omega arith), mid_below 6156 3084 w (10266 + j) vs (omega arith), mid_below 9240 1026 w (10266 + j) vs (omega arith), mid_own 10266 514 w j vs h, mid_above 10780 12352 w (10266 + j) vs (omega arith), mid_above 23132 1025 w (10266 + j) vs (omega arith))

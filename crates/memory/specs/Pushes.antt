@@ -1,23 +1,21 @@
 -- What the functions on the whole of work memory leave.
-use Rattle.std.specs.Prelude.{ℕ, ◌+◌, ◌*◌, ◌<◌, ◌≡◌, List, [], ◌∷◌, Bool, true, false, length, eqb}
-use Rattle.std.proofs.Math.Option.{Option, none, some}
+use Rattle.std.specs.Prelude.{ℕ, ◌+◌, ◌*◌, ◌<◌, ◌≡◌, List, [], ◌∷◌, Bool, true, false, length, Option, None, Some, Result}
 use Rattle.std.proofs.lemmas.List.Edits.{sets}
-use Rattle.rules.specs.Basic.{pick, is_some}
+use Rattle.rules.specs.Basic.{is_some, on_some}
 use Rattle.rules.specs.Event.{Text}
 use Rattle.rules.specs.Model.{Kind, ingredient, cookware, Entry}
 use Rattle.rules.specs.Reference.{set_referenced_from}
 use Rattle.rules.specs.State.{table_of, set_table, report, over_limits, going}
 use Rattle.rules.specs.Pass.{keep_block, on_section, finish}
+use Rattle.refusals.specs.declared.Reason.{Reason}
+use Rattle.refusals.specs.Told.{number_told}
 use Rattle.model.specs.Blank.{blank, refusal_of}
 use Rattle.model.specs.Rows.{row_words, entry_as, noted_words, finding_of, block_of}
 use Rattle.model.specs.Memory.{state_in, Sound}
 use Rattle.model.specs.Fits.{Fits, AllFit}
-use Rattle.model.specs.Searches.{found_of}
 use Rattle.model.specs.Small.{with_block, with_counter, with_here, with_blocks, with_ingredients, with_cookware, with_ingredient_pairs, with_cookware_pairs, with_findings}
 use Rattle.model.specs.declared.Open.{Open}
 use Rattle.model.specs.declared.Open.TheVariants.{Nothing, Step, Text as TextBlock, TextMode}
-use Rattle.model.specs.declared.Found.{Found}
-use Rattle.model.specs.declared.Found.TheVariants.{At, Nothing as Absent}
 use Rattle.model.specs.declared.Row.{Row}
 use Rattle.model.specs.declared.Noted.{Noted}
 use Rattle.model.specs.declared.Held.{Held}
@@ -90,9 +88,9 @@ pub record SectionBegun (h₀ : Held) (named : Bool) (h : Held) : Type 0 where
 pub record OverLimits (h : Held) (r : Bool) : Type 0 where
   pub is : (sheet w : List ℕ) → r ≡ over_limits (state_in sheet w h)
 
--- what the end of the pass refuses: 0 nothing, 19 a block is open, 17 a limit is passed
-pub record EndRefused (h : Held) (r : ℕ) : Type 0 where
-  pub is : (sheet w : List ℕ) → refusal_of (finish (going (state_in sheet w h))) ≡ pick (eqb r 0) none (some (r, 0))
+-- what the end of the pass refuses: 19 where a block is open, 17 where a limit is passed
+pub record EndChecked (h : Held) (r : Result (Unit {0}) Reason) : Type 0 where
+  pub is : (sheet w : List ℕ) → refusal_of (finish (going (state_in sheet w h))) ≡ on_some (λ (n : ℕ). (n, 0)) (number_told r)
 
 abbrev pub is_open_block : Open → Bool
 is_open_block Nothing = false
@@ -103,25 +101,25 @@ is_open_block TextMode = true
 -- ---- a component, and with it the referrer of what it refers to (`pushed` of the rules)
 
 abbrev pub referred_to : Option ℕ → List Entry → List Entry
-referred_to none table = table
-referred_to (some d) table = set_referenced_from d (length table) table
+referred_to None table = table
+referred_to (Some d) table = set_referenced_from d (length table) table
 
 -- what is referred to is there
-abbrev pub FoundBelow : Found → ℕ → Type 0
-FoundBelow (At d) n = d < n
-FoundBelow Absent n = Unit {0}
+abbrev pub FoundBelow : Option ℕ → ℕ → Type 0
+FoundBelow (Some d) n = d < n
+FoundBelow None n = Unit {0}
 
-abbrev pub held_with : Kind → Found → Held → Held
-held_with k Absent h = with_count k (count_of k h + 1) h
-held_with k (At d) h = with_pairs k (pairs_of k h + 1) (with_count k (count_of k h + 1) h)
+abbrev pub held_with : Kind → Option ℕ → Held → Held
+held_with k None h = with_count k (count_of k h + 1) h
+held_with k (Some d) h = with_pairs k (pairs_of k h + 1) (with_count k (count_of k h + 1) h)
 
-abbrev pub words_with : Kind → Found → List ℕ → Held → Row → List ℕ
-words_with k Absent w h r = sets w (rows_from k + count_of k h * 12) (row_words r)
-words_with k (At d) w h r = sets (sets w (rows_from k + count_of k h * 12) (row_words r)) (pairs_from k + pairs_of k h * 2) (d ∷ count_of k h ∷ [])
+abbrev pub words_with : Kind → Option ℕ → List ℕ → Held → Row → List ℕ
+words_with k None w h r = sets w (rows_from k + count_of k h * 12) (row_words r)
+words_with k (Some d) w h r = sets (sets w (rows_from k + count_of k h * 12) (row_words r)) (pairs_from k + pairs_of k h * 2) (d ∷ count_of k h ∷ [])
 
-pub record ComponentAdded (k : Kind) (w₀ : List ℕ) (h₀ : Held) (r : Row) (to : Found) (w : List ℕ) (h : Held) : Type 0 where
+pub record ComponentAdded (k : Kind) (w₀ : List ℕ) (h₀ : Held) (r : Row) (to : Option ℕ) (w : List ℕ) (h : Held) : Type 0 where
   pub words : w ≡ words_with k to w₀ h₀ r
   pub held : h ≡ held_with k to h₀
-  pub is : (sheet : List ℕ) → state_in sheet w h ≡ set_table k (entry_as k sheet r [] ∷ referred_to (found_of to) (table_of k (state_in sheet w₀ h₀))) (state_in sheet w₀ h₀)
+  pub is : (sheet : List ℕ) → state_in sheet w h ≡ set_table k (entry_as k sheet r [] ∷ referred_to to (table_of k (state_in sheet w₀ h₀))) (state_in sheet w₀ h₀)
   pub fit : (sheet : List ℕ) → AllFit sheet w₀ h₀ → Fits k sheet r → AllFit sheet w h
   pub sound : Sound w h

@@ -3,13 +3,16 @@
 #![tactic(auto)]
 
 ghost use Rattle.std.specs.Prelude.{◌≡◌, ◌+◌, ◌<◌};
-ghost use Rattle.rules.specs.Model.{ingredient, cookware};
 ghost use Rattle.model.specs.Memory.{first_held, Sound};
+ghost use Rattle.model.specs.Kinds.{kind_of, room_of};
+ghost use Rattle.memory.specs.Pushes.{count_of, pairs_of};
 ghost use Rattle.model.specs.Small.{with_counts, with_named, with_block};
 ghost use Rattle.model.specs.declared.Open.TheVariants.{Nothing};
-ghost use Rattle.memory.specs.Pushes.{RowPushed, PairPushed, ComponentAdded, FoundBelow, FindingPushed, BlockKept, SectionBegun, OverLimits, EndRefused, is_open_block};
+ghost use Rattle.memory.specs.Pushes.{RowPushed, PairPushed, ComponentAdded, FoundBelow, FindingPushed, BlockKept, SectionBegun, OverLimits, EndChecked, is_open_block};
 
-use model::{Counts, Define, Duplicate, Found, Held, Noted, Open, Row};
+use model::{Counts, Held, Kind, Noted, Open, Row};
+use refusals::Reason;
+use sheet::{Define, Duplicate};
 
 pub fn first_held() -> Held
     ensures { result ≡ first_held }
@@ -37,73 +40,71 @@ pub fn first_held() -> Held
     }
 }
 
-fn push_ingredient(words: &mut [u32], mut h: Held, row: Row) -> Held
-    requires { Sound words.old h × (h.counts.ingredients < 513) }
-    ensures { RowPushed ingredient words.old h row words.new result }
+// How many components of a kind there are.
+pub fn count_of(h: Held, kind: Kind) -> usize
+    ensures { result ≡ count_of (kind_of kind) h }
 {
-    let n = h.counts.ingredients;
-    model::put_row(&mut words[0..6156], n, row);
-    let more = n + 1;
-    h.counts.ingredients = more;
-    h
-}
-
-fn push_cookware(words: &mut [u32], mut h: Held, row: Row) -> Held
-    requires { Sound words.old h × (h.counts.cookware < 257) }
-    ensures { RowPushed cookware words.old h row words.new result }
-{
-    let n = h.counts.cookware;
-    model::put_row(&mut words[6156..9240], n, row);
-    let more = n + 1;
-    h.counts.cookware = more;
-    h
-}
-
-// `set_referenced_from`: one more that refers to the ingredient at `definition`.
-fn refer_ingredient(words: &mut [u32], mut h: Held, definition: u32, referrer: u32) -> Held
-    requires { Sound words.old h × (h.counts.ingredient_pairs < h.counts.ingredients) × (definition < h.counts.ingredients) }
-    ensures { PairPushed ingredient words.old h definition referrer words.new result }
-{
-    let n = h.counts.ingredient_pairs;
-    model::put_pair(&mut words[9240..10266], n, definition, referrer);
-    let more = n + 1;
-    h.counts.ingredient_pairs = more;
-    h
-}
-
-fn refer_cookware(words: &mut [u32], mut h: Held, definition: u32, referrer: u32) -> Held
-    requires { Sound words.old h × (h.counts.cookware_pairs < h.counts.cookware) × (definition < h.counts.cookware) }
-    ensures { PairPushed cookware words.old h definition referrer words.new result }
-{
-    let n = h.counts.cookware_pairs;
-    model::put_pair(&mut words[10266..10780], n, definition, referrer);
-    let more = n + 1;
-    h.counts.cookware_pairs = more;
-    h
-}
-
-// A component, and with it the referrer of what it refers to.
-pub fn add_ingredient(words: &mut [u32], h: Held, row: Row, to: Found) -> Held
-    requires { Sound words.old h × (h.counts.ingredients < 513) × FoundBelow to h.counts.ingredients }
-    ensures { ComponentAdded ingredient words.old h row to words.new result }
-{
-    let n = h.counts.ingredients;
-    let more = push_ingredient(words, h, row);
-    match to {
-        Found::Nothing => more,
-        Found::At(d) => refer_ingredient(words, more, d, n as u32),
+    match kind {
+        Kind::Ingredient => h.counts.ingredients,
+        Kind::Cookware => h.counts.cookware,
     }
 }
 
-pub fn add_cookware(words: &mut [u32], h: Held, row: Row, to: Found) -> Held
-    requires { Sound words.old h × (h.counts.cookware < 257) × FoundBelow to h.counts.cookware }
-    ensures { ComponentAdded cookware words.old h row to words.new result }
+fn push_row(words: &mut [u32], mut h: Held, kind: Kind, row: Row) -> Held
+    requires { Sound words.old h × (count_of (kind_of kind) h < room_of (kind_of kind)) }
+    ensures { RowPushed (kind_of kind) words.old h row words.new result }
 {
-    let n = h.counts.cookware;
-    let more = push_cookware(words, h, row);
+    match kind {
+        Kind::Ingredient => {
+            let n = h.counts.ingredients;
+            model::put_row(&mut words[0..6156], n, row);
+            let more = n + 1;
+            h.counts.ingredients = more;
+            h
+        }
+        Kind::Cookware => {
+            let n = h.counts.cookware;
+            model::put_row(&mut words[6156..9240], n, row);
+            let more = n + 1;
+            h.counts.cookware = more;
+            h
+        }
+    }
+}
+
+// `set_referenced_from`: one more that refers to the component at `definition`.
+fn push_pair(words: &mut [u32], mut h: Held, kind: Kind, definition: u32, referrer: u32) -> Held
+    requires { Sound words.old h × (pairs_of (kind_of kind) h < count_of (kind_of kind) h) × (definition < count_of (kind_of kind) h) }
+    ensures { PairPushed (kind_of kind) words.old h definition referrer words.new result }
+{
+    match kind {
+        Kind::Ingredient => {
+            let n = h.counts.ingredient_pairs;
+            model::put_pair(&mut words[9240..10266], n, definition, referrer);
+            let more = n + 1;
+            h.counts.ingredient_pairs = more;
+            h
+        }
+        Kind::Cookware => {
+            let n = h.counts.cookware_pairs;
+            model::put_pair(&mut words[10266..10780], n, definition, referrer);
+            let more = n + 1;
+            h.counts.cookware_pairs = more;
+            h
+        }
+    }
+}
+
+// A component of a kind, and with it the referrer of what it refers to.
+pub fn add_component(words: &mut [u32], h: Held, kind: Kind, row: Row, to: Option<u32>) -> Held
+    requires { Sound words.old h × (count_of (kind_of kind) h < room_of (kind_of kind)) × FoundBelow to (count_of (kind_of kind) h) }
+    ensures { ComponentAdded (kind_of kind) words.old h row to words.new result }
+{
+    let n = count_of(h, kind);
+    let more = push_row(words, h, kind, row);
     match to {
-        Found::Nothing => more,
-        Found::At(d) => refer_cookware(words, more, d, n as u32),
+        None => more,
+        Some(d) => push_pair(words, more, kind, d, n as u32),
     }
 }
 
@@ -172,17 +173,11 @@ pub fn begin_section(h: Held, named: bool) -> Held
 {
     let mut c = h.counts;
     let here = c.here;
-    let more = c.sections + 1;
     c.counter = 1;
     c.here = 0;
-    if h.named {
-        c.sections = more;
-        return closed(h, named, c);
+    if h.named || 0 < here {
+        c.sections += 1;
     }
-    if here == 0 {
-        return closed(h, named, c);
-    }
-    c.sections = more;
     closed(h, named, c)
 }
 
@@ -214,37 +209,33 @@ pub fn over_limits(h: Held) -> bool
     1024 < h.counts.findings
 }
 
-fn is_open(b: Open) -> bool
+// Whether the open block is one.
+pub fn is_open(b: Open) -> bool
     ensures { result ≡ is_open_block b }
 {
-    match b {
-        Open::Nothing => false,
-        Open::Step => true,
-        Open::Text => true,
-        Open::TextMode => true,
-    }
+    !matches!(b, Open::Nothing)
 }
 
-// What the end refuses: 19 where a block is open, 17 where the last section or finding 3 passes a limit, else 0.
-pub fn end_refusal(h: Held) -> u32
+// What the end refuses: 19 where a block is open, 17 where the last section or finding 3 passes a limit.
+pub fn check_end(h: Held) -> Result<(), Reason>
     requires { (h.counts.sections < 100000) × (h.counts.findings < 100000) }
-    ensures { EndRefused h result }
+    ensures { EndChecked h result }
 {
     let block = h.block;
     if is_open(block) {
-        return 19;
+        return Err(Reason::OpenAtEnd);
     }
     let mut g = begin_section(h, false);
     if h.counts.old == 0 {
         if over_limits(g) {
-            return 17;
+            return Err(Reason::OverLimits);
         }
-        return 0;
+        return Ok(());
     }
     let more = h.counts.findings + 1;
     g.counts.findings = more;
     if over_limits(g) {
-        return 17;
+        return Err(Reason::OverLimits);
     }
-    0
+    Ok(())
 }

@@ -1,4 +1,5 @@
 -- The rows that the walk along a chain and the printing of the map read.
+use Rattle.std.specs.Prelude.{None, Some}
 use Prim.Native.Nat.{ℕ, zero, suc, ◌-◌, ◌≤◌, ◌<◌}
 use mathlib.Core.Path.{◌≡◌, refl, ap, sym, ◌∙◌}
 use mathlib.Core.Bool.{Bool, true, false}
@@ -7,8 +8,7 @@ use native.Mathlib.Omega.{arith}
 use lib.ListN.{length}
 use Rattle.rules.specs.Basic.{eq_list}
 use Rattle.content.specs.Contents.{kept_in}
-use Rattle.meta_map.specs.declared.KeyRow.TheVariants.{At, Nothing}
-use Rattle.meta_map.specs.Index.{cell, head, part_at, key_at, RowIn, Indexed, row_as, RowFound}
+use Rattle.meta_map.specs.Index.{cell, head, part_at, key_at, RowIn, Indexed, RowFound}
 use Rattle.chains.specs.Hashes.{hash_of, Hashed}
 use Rattle.chains.specs.Rows.{head_in}
 use Rattle.chains.proofs.Seeks.{Seeking, seek_starts, seek_most, seek_gone, seek_hit, seek_on, next_less}
@@ -22,8 +22,8 @@ module _ {sheet m : List ℕ} {n p : ℕ} (key : List ℕ) (z : Indexed sheet m 
   find_starts {b} h e = seek_starts hash_of (key_at sheet m) (e ∙ (z.heads b h.small ∙ ap (λ (d : ℕ). head_in hash_of (key_at sheet m) d n) h.is))
 
   module _ (v : Seeking hash_of (key_at sheet m) n (kept_in key) p) where
-    pub find_ends : p ≡ 0 → RowFound sheet m n key Nothing
-    find_ends q = record { is = unfold row_as in seek_gone hash_of (key_at sheet m) v q }
+    pub find_ends : p ≡ 0 → RowFound sheet m n key None
+    find_ends q = record { is = seek_gone hash_of (key_at sheet m) v q }
 
     module _ (t : p ≡ 0 → ⊥) where
       row_below : p - 1 < n
@@ -44,8 +44,8 @@ module _ {sheet m : List ℕ} {n p : ℕ} (key : List ℕ) (z : Indexed sheet m 
           same : r ≡ eq_list (kept_in key) (key_at sheet m (p - 1))
           same = e ∙ ap (eq_list (kept_in key)) row_key
 
-          pub row_hit : r ≡ true → RowFound sheet m n key (At (p - 1))
-          row_hit q = record { is = unfold row_as in seek_hit hash_of (key_at sheet m) v (nonzero p t) (sym same ∙ q) }
+          pub row_hit : r ≡ true → RowFound sheet m n key (Some (p - 1))
+          row_hit q = record { is = seek_hit hash_of (key_at sheet m) v (nonzero p t) (sym same ∙ q) }
 
           pub row_on : {next : ℕ} → r ≡ false → next ≡ cell m (p - 1) 4 → Seeking hash_of (key_at sheet m) n (kept_in key) next
           row_on q g = seek_on hash_of (key_at sheet m) v (nonzero p t) (sym same ∙ q) (g ∙ z.nexts (p - 1) row_below)

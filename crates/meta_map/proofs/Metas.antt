@@ -1,4 +1,5 @@
 -- A `meta` line: whether it is heeded, its key and its value trimmed, and the row that it makes.
+use Rattle.std.specs.Prelude.{Option}
 use Prim.Native.Nat.{ℕ, zero, suc, ◌+◌, ◌-◌, ◌≤◌}
 use mathlib.Core.Path.{◌≡◌, refl, ap, sym, ◌∙◌}
 use mathlib.Core.Bool.{Bool, true, false, ◌&&◌}
@@ -29,8 +30,7 @@ use Rattle.events.specs.declared.Between.{Between}
 use Rattle.events.specs.declared.Between.TheVariants as between
 use Rattle.events.specs.declared.Inside.{Inside}
 use Rattle.events.specs.declared.Severity.{Severity}
-use Rattle.parts.specs.declared.OptText.{OptText}
-use Rattle.events.specs.declared.BlockKind.{BlockKind}
+use Rattle.sheet.specs.declared.BlockKind.{BlockKind}
 use Rattle.events.specs.declared.EventView.{EventView}
 use Rattle.events.specs.declared.EventView.TheVariants as event
 use Rattle.events.specs.Views.{event_in, between_in, EventWithin, BetweenWithin}
@@ -166,7 +166,7 @@ module _ {flags : ℕ} {sheet line m₀ : List ℕ} {n : ℕ} {v : EventView} wh
   event_meta e f x = record { map = rw (e, f) x.map; indexed = x.indexed; count = x.count }
 
   module _ (z : Indexed sheet m₀ n) where
-    pub event_section : {b : Between} {o : OptText} → v ≡ event.Between b → b ≡ between.Section o → EventIndexed flags sheet line m₀ n v m₀ n
+    pub event_section : {b : Between} {o : Option TextView} → v ≡ event.Between b → b ≡ between.Section o → EventIndexed flags sheet line m₀ n v m₀ n
     unfolding event_in between_in map_on
     event_section e f = record { map = rw (e, f); indexed = z; count = omega arith }
 

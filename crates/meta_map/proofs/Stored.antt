@@ -3,7 +3,7 @@ use Prim.Native.Nat.{ℕ, zero, suc, ◌+◌, ◌*◌, ◌≤◌, ◌<◌}
 use mathlib.Core.Path.{◌≡◌, refl, ap, sym, ◌∙◌}
 use mathlib.Core.Bool.{Bool, true, false, ◌||◌}
 use mathlib.Core.List.{List, [], ◌∷◌}
-use mathlib.Core.Option.{none, some}
+use Rattle.std.specs.Prelude.{None, Some, Option}
 use native.Mathlib.Omega.{arith}
 use native.Mathlib.Numerals.{add-one}
 use borrow.Author.Tests.{eqb-true, eqb-false}
@@ -17,9 +17,7 @@ use Rattle.rules.proofs.Basics.{by_order, no_some, some_inj}
 use Rattle.rules.proofs.SameChars.{eq_true}
 use Rattle.model.proofs.Stores.{get_or_sets_other, get_or_mid, mid_stored}
 use Rattle.content.specs.Contents.{content_in, kept_in}
-use Rattle.meta_map.specs.declared.KeyRow.{KeyRow}
-use Rattle.meta_map.specs.declared.KeyRow.TheVariants.{At, Nothing}
-use Rattle.meta_map.specs.Index.{cell, head, part_at, key_at, value_at, map_in, RowIn, Indexed, row_as, RowFound, ValueSet, KeyPushed, Inserted, Cleared}
+use Rattle.meta_map.specs.Index.{cell, head, part_at, key_at, value_at, map_in, RowIn, Indexed, RowFound, ValueSet, KeyPushed, Inserted, Cleared}
 use Rattle.chains.specs.Hashes.{hash_of, Hashed}
 use Rattle.chains.specs.Rows.{find_in, head_in}
 use Rattle.chains.proofs.Seeks.{find_below, find_same, head_same}
@@ -32,25 +30,25 @@ module _ (sheet m : List ℕ) where
   map_any k zero = refl
   map_any k (suc i) = go (eq_list k (key_at sheet m i)) (map_any k i)
     where
-      go : (t : Bool) → any (has_key k) (map_in sheet m i) ≡ is_some (find_in (key_at sheet m) k i) → (t || any (has_key k) (map_in sheet m i)) ≡ is_some (pick t (some i) (find_in (key_at sheet m) k i))
+      go : (t : Bool) → any (has_key k) (map_in sheet m i) ≡ is_some (find_in (key_at sheet m) k i) → (t || any (has_key k) (map_in sheet m i)) ≡ is_some (pick t (Some i) (find_in (key_at sheet m) k i))
       go true ih = refl
       go false ih = ih
 
-  map_none : (k v : List ℕ) (n : ℕ) → find_in (key_at sheet m) k n ≡ none → insert_meta k v (map_in sheet m n) ≡ record { key = k; value = v } ∷ map_in sheet m n
+  map_none : (k v : List ℕ) (n : ℕ) → find_in (key_at sheet m) k n ≡ None → insert_meta k v (map_in sheet m n) ≡ record { key = k; value = v } ∷ map_in sheet m n
   unfolding insert_meta is_some
   map_none k v n q = rw (map_any k n, q)
 
-  map_some : (k v : List ℕ) (n i : ℕ) → find_in (key_at sheet m) k n ≡ some i → insert_meta k v (map_in sheet m n) ≡ each (with_value k v) (map_in sheet m n)
+  map_some : (k v : List ℕ) (n i : ℕ) → find_in (key_at sheet m) k n ≡ Some i → insert_meta k v (map_in sheet m n) ≡ each (with_value k v) (map_in sheet m n)
   unfolding insert_meta is_some
   map_some k v n i q = rw (map_any k n, q)
 
   -- where a key is not, nothing is replaced
-  each_none : (k v : List ℕ) (n : ℕ) → find_in (key_at sheet m) k n ≡ none → each (with_value k v) (map_in sheet m n) ≡ map_in sheet m n
+  each_none : (k v : List ℕ) (n : ℕ) → find_in (key_at sheet m) k n ≡ None → each (with_value k v) (map_in sheet m n) ≡ map_in sheet m n
   unfolding map_in each with_value find_in
   each_none k v zero q = refl
   each_none k v (suc i) q = go (eq_list k (key_at sheet m i)) refl q (λ p. each_none k v i p)
     where
-      go : (t : Bool) → eq_list k (key_at sheet m i) ≡ t → pick t (some i) (find_in (key_at sheet m) k i) ≡ none → (find_in (key_at sheet m) k i ≡ none → each (with_value k v) (map_in sheet m i) ≡ map_in sheet m i)
+      go : (t : Bool) → eq_list k (key_at sheet m i) ≡ t → pick t (Some i) (find_in (key_at sheet m) k i) ≡ None → (find_in (key_at sheet m) k i ≡ None → each (with_value k v) (map_in sheet m i) ≡ map_in sheet m i)
           → ◌≡◌ {A = List MetaEntry} (record { key = key_at sheet m i; value = pick (eq_list k (key_at sheet m i)) v (value_at sheet m i) } ∷ each (with_value k v) (map_in sheet m i)) (record { key = key_at sheet m i; value = value_at sheet m i } ∷ map_in sheet m i)
       go true e p ih = no_some (sym p)
       go false e p ih = rw (e, ih p)
@@ -116,7 +114,7 @@ module _ (m : List ℕ) (i va ve : ℕ) where
   other_value sheet j n = cells_value sheet with_new m j (row_other j 2 (omega arith) n) (row_other j 3 (omega arith) n)
 
   -- the map with it
-  each_some : (sheet k : List ℕ) (n : ℕ) → i * 5 + 4 ≤ length m → ((j : ℕ) → j < n → find_in (key_at sheet m) (key_at sheet m j) j ≡ none) → find_in (key_at sheet m) k n ≡ some i
+  each_some : (sheet k : List ℕ) (n : ℕ) → i * 5 + 4 ≤ length m → ((j : ℕ) → j < n → find_in (key_at sheet m) (key_at sheet m j) j ≡ None) → find_in (key_at sheet m) k n ≡ Some i
       → map_in sheet with_new n ≡ each (with_value k (content_in (part_at sheet va ve))) (map_in sheet m n)
   unfolding map_in each with_value find_in
   each_some sheet k zero h o q = no_some q
@@ -125,13 +123,13 @@ module _ (m : List ℕ) (i va ve : ℕ) where
       v : List ℕ
       v = content_in (part_at sheet va ve)
 
-      go : (t : Bool) → eq_list k (key_at sheet m j) ≡ t → pick t (some j) (find_in (key_at sheet m) k j) ≡ some i
-          → (find_in (key_at sheet m) k j ≡ some i → map_in sheet with_new j ≡ each (with_value k (content_in (part_at sheet va ve))) (map_in sheet m j))
+      go : (t : Bool) → eq_list k (key_at sheet m j) ≡ t → pick t (Some j) (find_in (key_at sheet m) k j) ≡ Some i
+          → (find_in (key_at sheet m) k j ≡ Some i → map_in sheet with_new j ≡ each (with_value k (content_in (part_at sheet va ve))) (map_in sheet m j))
           → ◌≡◌ {A = List MetaEntry} (record { key = key_at sheet with_new j; value = value_at sheet with_new j } ∷ map_in sheet with_new j)
           (record { key = key_at sheet m j; value = pick (eq_list k (key_at sheet m j)) (content_in (part_at sheet va ve)) (value_at sheet m j) } ∷ each (with_value k (content_in (part_at sheet va ve))) (map_in sheet m j))
       go true e p ih =
           let z : j ≡ i = some_inj p in
-          let f : find_in (key_at sheet m) k j ≡ none = ap (λ (x : List ℕ). find_in (key_at sheet m) x j) (eq_true k (key_at sheet m j) e) ∙ o j (omega arith) in
+          let f : find_in (key_at sheet m) k j ≡ None = ap (λ (x : List ℕ). find_in (key_at sheet m) x j) (eq_true k (key_at sheet m j) e) ∙ o j (omega arith) in
           let a : value_at sheet with_new j ≡ content_in (part_at sheet va ve) = ap (value_at sheet with_new) z ∙ new_value sheet h in
           let b : map_in sheet with_new j ≡ map_in sheet m j = map_same sheet with_new m j (λ x l. same_key sheet x) (λ x l. other_value sheet x (λ y. omega arith)) in
           rw (same_key sheet j, a, b, e, each_none sheet m k (content_in (part_at sheet va ve)) j f)
@@ -140,7 +138,7 @@ module _ (m : List ℕ) (i va ve : ℕ) where
           rw (same_key sheet j, other_value sheet j (λ y. omega arith), e, ih p)
 
 module _ {sheet m : List ℕ} {n : ℕ} (x : Indexed sheet m n) {ka ke va ve : ℕ} (r : RowIn sheet ka ke va ve) where
-  module _ (i : ℕ) (q : find_in (key_at sheet m) (kept_in (part_at sheet ka ke)) n ≡ some i) where
+  module _ (i : ℕ) (q : find_in (key_at sheet m) (kept_in (part_at sheet ka ke)) n ≡ Some i) where
     below : i < n
     below = find_below (key_at sheet m) (kept_in (part_at sheet ka ke)) n i q
 
@@ -227,7 +225,7 @@ module _ (m : List ℕ) (n b ka ke va ve x : ℕ) (few : n < 4096) (long : lengt
   own_row sheet i e y = rw (e, new_cell 0 (omega arith), new_cell 1 (omega arith), new_cell 2 (omega arith), new_cell 3 (omega arith)) y
 
   module _ {sheet : List ℕ} (z : Indexed sheet m n) (row : RowIn sheet ka ke va ve) (small : b < 1024) (hash : b ≡ hash_of (kept_in (part_at sheet ka ke))) (e : x ≡ suc n)
-      (gone : find_in (key_at sheet m) (kept_in (part_at sheet ka ke)) n ≡ none) where
+      (gone : find_in (key_at sheet m) (kept_in (part_at sheet ka ke)) n ≡ None) where
     abbrev keys : ℕ → List ℕ
     keys = key_at sheet m
 
@@ -255,10 +253,10 @@ module _ (m : List ℕ) (n b ka ke va ve x : ℕ) (few : n < 4096) (long : lengt
         new_cell 4 (omega arith) ∙ z.heads b small ∙ head_same hash_of keys now b n (old_key sheet)
         ∙ ap (λ (d : ℕ). head_in hash_of now d n) (hash ∙ ap hash_of (sym (own_key sheet)))
 
-    once_old : (i : ℕ) → i < n → find_in now (now i) i ≡ none
+    once_old : (i : ℕ) → i < n → find_in now (now i) i ≡ None
     once_old i l = sym (find_same keys now (now i) i (λ j g. old_key sheet j (omega arith))) ∙ ap (λ (k : List ℕ). find_in keys k i) (sym (old_key sheet i l)) ∙ z.once i l
 
-    once_new : find_in now (now n) n ≡ none
+    once_new : find_in now (now n) n ≡ None
     once_new = sym (find_same keys now (now n) n (old_key sheet)) ∙ ap (λ (k : List ℕ). find_in keys k n) (own_key sheet) ∙ gone
 
     map_now : map_in sheet with_key (suc n) ≡ record { key = kept_in (part_at sheet ka ke); value = content_in (part_at sheet va ve) } ∷ map_in sheet m n
@@ -283,19 +281,16 @@ module _ (m : List ℕ) (n b ka ke va ve x : ℕ) (few : n < 4096) (long : lengt
 
 -- ---- what the functions leave
 
-module _ {sheet m₀ : List ℕ} {n ka ke va ve : ℕ} (z : Indexed sheet m₀ n) (row : RowIn sheet ka ke va ve) {f : KeyRow} (p : RowFound sheet m₀ n (part_at sheet ka ke) f) where
-  pub inserted_value : {m : List ℕ} {i : ℕ} → f ≡ At i → ValueSet m₀ i va ve m → Inserted sheet m₀ n ka ke va ve m n
-  unfolding row_as
-  inserted_value {m} {i} e s = rw s.is (value_inserted z row i (sym p.is ∙ ap row_as e))
+module _ {sheet m₀ : List ℕ} {n ka ke va ve : ℕ} (z : Indexed sheet m₀ n) (row : RowIn sheet ka ke va ve) {f : Option ℕ} (p : RowFound sheet m₀ n (part_at sheet ka ke) f) where
+  pub inserted_value : {m : List ℕ} {i : ℕ} → f ≡ Some i → ValueSet m₀ i va ve m → Inserted sheet m₀ n ka ke va ve m n
+  inserted_value {m} {i} e s = rw s.is (value_inserted z row i (sym p.is ∙ e))
 
-  pub found_below : {i : ℕ} → f ≡ At i → i < 4096
-  unfolding row_as
-  found_below {i} e = omega (arith, find_below (key_at sheet m₀) (kept_in (part_at sheet ka ke)) n i (sym p.is ∙ ap row_as e), z.few)
+  pub found_below : {i : ℕ} → f ≡ Some i → i < 4096
+  found_below {i} e = omega (arith, find_below (key_at sheet m₀) (kept_in (part_at sheet ka ke)) n i (sym p.is ∙ e), z.few)
 
-  pub inserted_key : {m : List ℕ} {b : ℕ} → n < 4096 → Hashed (kept_in (part_at sheet ka ke)) b → f ≡ Nothing → KeyPushed m₀ n b ka ke va ve m → Inserted sheet m₀ n ka ke va ve m (n + 1)
-  unfolding row_as
+  pub inserted_key : {m : List ℕ} {b : ℕ} → n < 4096 → Hashed (kept_in (part_at sheet ka ke)) b → f ≡ None → KeyPushed m₀ n b ka ke va ve m → Inserted sheet m₀ n ka ke va ve m (n + 1)
   inserted_key {m} {b} l h e s =
-      let k : Inserted sheet m₀ n ka ke va ve (with_key m₀ n b ka ke va ve (n + 1) l z.long) (suc n) = key_inserted m₀ n b ka ke va ve (n + 1) l z.long z row h.small h.is (add-one n) (sym p.is ∙ ap row_as e) in
+      let k : Inserted sheet m₀ n ka ke va ve (with_key m₀ n b ka ke va ve (n + 1) l z.long) (suc n) = key_inserted m₀ n b ka ke va ve (n + 1) l z.long z row h.small h.is (add-one n) (sym p.is ∙ e) in
       let q : n + 1 ≡ suc n = add-one n in
       at_count (n + 1) (sym q) (rw s.is k)
     where

@@ -3,7 +3,7 @@ use Prim.Native.Nat.{ℕ, suc, ◌+◌, ◌-◌, ◌≤◌, ◌<◌}
 use mathlib.Core.Path.{◌≡◌, refl, ap, sym, ◌∙◌}
 use mathlib.Core.Bool.{true}
 use mathlib.Core.List.{List, [], ◌∷◌}
-use mathlib.Core.Option.{Option, none, some}
+use Rattle.std.specs.Prelude.{Option, None, Some}
 use native.Mathlib.Omega.{arith}
 use native.Mathlib.Numerals.{add-one}
 use borrow.Author.Tests.{ltb-false}
@@ -25,8 +25,6 @@ use Rattle.rules.specs.Answer.{Reading, events, unread, events_or, with_event, i
 use Rattle.rules.proofs.Basics.{pick_either}
 use Rattle.rules.proofs.Fields.{Without}
 use Rattle.rules.proofs.FaultWalk.{Takes, takes, walk_on}
-use Rattle.sheet.specs.declared.LineEnd.{LineEnd}
-use Rattle.sheet.specs.declared.LineEnd.TheVariants.{At, Nothing}
 use Rattle.sheet.specs.Lines.{lines_from, LineAt}
 use Rattle.content.proofs.Lines.{line_without}
 use Rattle.reading.proofs.Passes.{Rest, rest_ends, rest_ended}
@@ -42,13 +40,13 @@ use Rattle.meta_map.proofs.Stored.{indexed_none}
 
 define_map : (k v : Text) (o : Option DefineMode) (st : State) → (on_define k v o st).metadata.map ≡ st.metadata.map
 unfolding on_define set_modes report
-define_map k v none st = refl
-define_map k v (some m) st = refl
+define_map k v None st = refl
+define_map k v (Some m) st = refl
 
 duplicate_map : (k v : Text) (o : Option DuplicateMode) (st : State) → (on_duplicate k v o st).metadata.map ≡ st.metadata.map
 unfolding on_duplicate set_modes report
-duplicate_map k v none st = refl
-duplicate_map k v (some m) st = refl
+duplicate_map k v None st = refl
+duplicate_map k v (Some m) st = refl
 
 key_map : (key : Key) (k v : Text) (st : State) → (on_key key k v st).metadata.map ≡ map_key key k v st.metadata.map
 unfolding on_key store_meta set_metadata report map_key
@@ -102,26 +100,26 @@ no_events e = absurd (let z : ◌≡◌ {A = ℕ} 0 1 = cc in omega arith)
 pub record Lined (text bytes line : List ℕ) (end number : ℕ) (es : List Event) : Type 0 where
   pub event : Event
   pub others : List Event
-  pub parses : parse_line line ≡ some event
+  pub parses : parse_line line ≡ Some event
   pub is : es ≡ event ∷ others
   pub rest : Rest text bytes (end + 1) (number + 1) others
   pub few : number ≤ 4096
 
 module _ {text bytes line : List ℕ} {end number : ℕ} {es : List Event} where
-  with_first : (e : Event) → parse_line line ≡ some e → number ≤ 4096 → (r : Reading) → read_from text (length text) (suc number) (lines (drop (end + 1) bytes)) ≡ r → with_event e r ≡ events es → Lined text bytes line end number es
+  with_first : (e : Event) → parse_line line ≡ Some e → number ≤ 4096 → (r : Reading) → read_from text (length text) (suc number) (lines (drop (end + 1) bytes)) ≡ r → with_event e r ≡ events es → Lined text bytes line end number es
   unfolding with_event
   with_first e p f (unread n l) k q = no_events q
   with_first e p f (events fs) k q = record { event = e; others = fs; parses = p; is = sym (cc); rest = record { is = rw (add-one number) k }; few = f }
 
   lined_by : (o : Option Event) → parse_line line ≡ o → read_line text (length text) number o (read_from text (length text) (suc number) (lines (drop (end + 1) bytes))) ≡ events es → Lined text bytes line end number es
   unfolding read_line
-  lined_by none p q = no_events q
-  lined_by (some e) p q =
+  lined_by None p q = no_events q
+  lined_by (Some e) p q =
       pick_either (λ (r : Reading). r ≡ events es → Lined text bytes line end number es) (ltb 4096 number) _ _ (λ _ k. no_events k)
       (λ f. pick_either (λ (r : Reading). r ≡ events es → Lined text bytes line end number es) (all (is_good_span text (length text)) (spans_of e)) _ _
       (λ _ k. with_first e p (ltb-false 4096 number f) (read_from text (length text) (suc number) (lines (drop (end + 1) bytes))) refl k) (λ _ k. no_events k)) q
 
-module _ {text bytes : List ℕ} {from number : ℕ} {es : List Event} (w : Rest text bytes from number es) {r : LineEnd} (l : LineAt bytes from r) {end : ℕ} (q : r ≡ At end) where
+module _ {text bytes : List ℕ} {from number : ℕ} {es : List Event} (w : Rest text bytes from number es) {r : Option ℕ} (l : LineAt bytes from r) {end : ℕ} (q : r ≡ Some end) where
   pub lined : Lined text bytes (take (end - from) (drop from bytes)) end number es
   unfolding read_from lines_from
   lined = lined_by (parse_line (take (end - from) (drop from bytes))) refl (sym (ap (λ (ls : Lines). read_from text (length text) number ls) (sym l.is ∙ ap (lines_from bytes from) q)) ∙ w.is)
@@ -157,11 +155,11 @@ module _ {flags : ℕ} {text bytes m : List ℕ} {n from : ℕ} (v : Indexing fl
   unfolding map_over
   index_ends h = record { indexed = v.indexed; map = ap (λ (es : List Event). map_over flags es (map_in bytes m n)) (sym (rest_ends v.rest h)) ∙ v.is }
 
-  module _ {r : LineEnd} (l : LineAt bytes from r) where
-    pub index_cut : {P : Type 0} → from < length bytes → r ≡ Nothing → P
+  module _ {r : Option ℕ} (l : LineAt bytes from r) where
+    pub index_cut : {P : Type 0} → from < length bytes → r ≡ None → P
     index_cut h q = rest_ended v.rest l h q
 
-    module _ {end : ℕ} (q : r ≡ At end) where
+    module _ {end : ℕ} (q : r ≡ Some end) where
       pub index_known : (is_some (parse_line (take (end - from) (drop from bytes))) ≡ true) × Without lf (take (end - from) (drop from bytes))
       index_known = lined_known v.rest l q
 

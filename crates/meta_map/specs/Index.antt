@@ -1,6 +1,5 @@
 -- The index of metadata in work memory: a row for each key, chained by the hash of the key, and what the rows stand for.
-use Rattle.std.specs.Prelude.{ℕ, zero, suc, ◌+◌, ◌-◌, ◌*◌, ◌≤◌, ◌<◌, ◌≡◌, List, [], ◌∷◌, length, get_or, take, drop, set}
-use Rattle.std.proofs.Math.Option.{Option, none, some}
+use Rattle.std.specs.Prelude.{ℕ, zero, suc, ◌+◌, ◌-◌, ◌*◌, ◌≤◌, ◌<◌, ◌≡◌, List, [], ◌∷◌, length, get_or, take, drop, set, Option, None}
 use Rattle.std.proofs.lemmas.List.Edits.{sets}
 use Rattle.rules.specs.Model.{MetaEntry}
 use Rattle.rules.specs.Metadata.{insert_meta}
@@ -10,8 +9,6 @@ use Rattle.content.specs.Contents.{content_in, kept_in}
 use Rattle.content.specs.Parts.{Field}
 use Rattle.chains.specs.Hashes.{hash_of}
 use Rattle.chains.specs.Rows.{find_in, head_in}
-use Rattle.meta_map.specs.declared.KeyRow.{KeyRow}
-use Rattle.meta_map.specs.declared.KeyRow.TheVariants.{At, Nothing}
 
 -- ---- rows of five words: where the key begins and ends in the sheet, where its last value does, and the next of the chain
 
@@ -56,16 +53,12 @@ pub record Indexed (sheet m : List ℕ) (n : ℕ) : Type 0 where
   pub row : (i : ℕ) → i < n → RowIn sheet (cell m i 0) (cell m i 1) (cell m i 2) (cell m i 3)
   pub heads : (b : ℕ) → b < 1024 → head m b ≡ head_in hash_of (key_at sheet m) b n
   pub nexts : (i : ℕ) → i < n → cell m i 4 ≡ head_in hash_of (key_at sheet m) (hash_of (key_at sheet m i)) i
-  pub once : (i : ℕ) → i < n → find_in (key_at sheet m) (key_at sheet m i) i ≡ none
+  pub once : (i : ℕ) → i < n → find_in (key_at sheet m) (key_at sheet m i) i ≡ None
 
 -- ---- what the functions leave
 
-unfoldable pub row_as : KeyRow → Option ℕ
-row_as (At i) = some i
-row_as Nothing = none
-
-pub record RowFound (sheet m : List ℕ) (n : ℕ) (key : List ℕ) (r : KeyRow) : Type 0 where
-  pub is : row_as r ≡ find_in (key_at sheet m) (kept_in key) n
+pub record RowFound (sheet m : List ℕ) (n : ℕ) (key : List ℕ) (r : Option ℕ) : Type 0 where
+  pub is : r ≡ find_in (key_at sheet m) (kept_in key) n
 
 pub record ValueSet (m₀ : List ℕ) (i va ve : ℕ) (m : List ℕ) : Type 0 where
   pub is : m ≡ sets m₀ (i * 5 + 2) (va ∷ ve ∷ [])

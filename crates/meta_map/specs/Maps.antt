@@ -1,6 +1,5 @@
 -- The map of metadata that the `meta` lines of a sheet make.
-use Rattle.std.specs.Prelude.{ℕ, ◌+◌, ◌≤◌, ◌≡◌, List, [], ◌∷◌, length, take, drop}
-use Rattle.std.proofs.Math.Option.{some}
+use Rattle.std.specs.Prelude.{ℕ, ◌+◌, ◌≤◌, ◌≡◌, List, [], ◌∷◌, length, take, drop, Some}
 use Rattle.rules.specs.Basic.{pick}
 use Rattle.rules.specs.Read.{parse_line}
 use Rattle.rules.specs.Answer.{events_or, read_sheet}
@@ -60,7 +59,7 @@ pub record EventIndexed (flags : ℕ) (sheet line m₀ : List ℕ) (n : ℕ) (v 
 
 -- any line, whatever its event is
 pub record LineIndexed (flags : ℕ) (sheet line m₀ : List ℕ) (n : ℕ) (m : List ℕ) (r : ℕ) : Type 0 where
-  pub map : (e : Event) → parse_line line ≡ some e → map_in sheet m r ≡ map_on flags e (map_in sheet m₀ n)
+  pub map : (e : Event) → parse_line line ≡ Some e → map_in sheet m r ≡ map_on flags e (map_in sheet m₀ n)
   pub indexed : Indexed sheet m r
   pub count : r ≤ n + 1
 

@@ -21,13 +21,6 @@ use events::{Between, EventView};
 use parts::{Part, TextView};
 use text::Dropped;
 
-// The row of a key.
-#[derive(Clone, Copy)]
-pub enum KeyRow {
-    At(usize),
-    Nothing,
-}
-
 fn wide(x: u32) -> usize
     ensures { result ≡ x }
 {
@@ -52,7 +45,7 @@ fn head_at(m: &[u32], b: usize) -> usize
 }
 
 // The row of a key with the hash b among the first n rows: the chain of b from its head on.
-fn find_row(sheet: &[u8], m: &[u32], n: usize, key: &[u8], b: usize) -> KeyRow
+fn find_row(sheet: &[u8], m: &[u32], n: usize, key: &[u8], b: usize) -> Option<usize>
     requires { Indexed sheet.now m.now n × Hashed (kept_in key.now) b }
     ensures { RowFound sheet.now m.now n key.now result }
 {
@@ -62,11 +55,11 @@ fn find_row(sheet: &[u8], m: &[u32], n: usize, key: &[u8], b: usize) -> KeyRow
         let from = cell_at(m, i, 0);
         let to = cell_at(m, i, 1);
         if content::same_parts(key, &sheet[from..to]) {
-            return KeyRow::At(i);
+            return Some(i);
         }
         p = cell_at(m, i, 4);
     }
-    KeyRow::Nothing
+    None
 }
 
 // Another value for the key of a row.
@@ -107,11 +100,11 @@ fn insert_meta(
     let k = &sheet[ka..ke];
     let b = chains::hash_kept(k);
     match find_row(sheet, m, n, k, b) {
-        KeyRow::At(i) => {
+        Some(i) => {
             set_value(m, i, va as u32, ve as u32);
             n
         }
-        KeyRow::Nothing => {
+        None => {
             push_key(m, n, b, ka as u32, ke as u32, va as u32, ve as u32);
             n + 1
         }
@@ -238,7 +231,7 @@ fn fill_index(t: &[u32], flags: u32, sheet: &[u8], text: &[u8], m: &mut [u32]) -
     let mut n = 0;
     let mut from = 0;
     while from < sheet.len() {
-        let sheet::LineEnd::At(end) = sheet::line_end(sheet, from) else {
+        let Some(end) = sheet::line_end(sheet, from) else {
             return n;
         };
         n = index_line(t, flags, sheet, from, end, m, n);

@@ -2,26 +2,27 @@
 use Prim.Native.Nat.{ℕ, ◌%◌}
 use mathlib.Core.Path.{◌≡◌, refl, sym, ap, ◌∙◌}
 use mathlib.Core.List.{List}
+use Rattle.std.specs.Prelude.{Option}
 use borrow.Author.Tests.{eq-eqb, ne_eqb}
-use Rattle.rules.specs.Basic.{pick, word_in}
-use Rattle.rules.specs.Words.{define_key, duplicate_key, define_words, duplicate_words}
+use Rattle.rules.specs.Basic.{pick, on_some, word_in}
+use Rattle.rules.specs.Words.{DefineMode, DuplicateMode, define_key, duplicate_key, define_words, duplicate_words}
 use Rattle.rules.specs.Event as rules
 use Rattle.rules.specs.Text.{text_trimmed, text_outer_trimmed}
 use Rattle.rules.specs.Utf8.{chars}
 use Rattle.rules.specs.Modes as modes
 use Rattle.rules.specs.Modes.{has_modes, key_of, key_text, value_text}
 use Rattle.rules.specs.State.{State}
-use Rattle.rules.specs.Metadata.{on_key, on_metadata}
-use Rattle.sheet.specs.Words.{define_as, duplicate_as}
-use Rattle.sheet.specs.declared.DefineWord.{DefineWord}
-use Rattle.sheet.specs.declared.DuplicateWord.{DuplicateWord}
+use Rattle.rules.specs.Metadata.{on_define, on_duplicate, on_key, on_metadata}
+use Rattle.sheet.specs.Words.{define_of, duplicate_of}
+use Rattle.sheet.specs.declared.Define.{Define}
+use Rattle.sheet.specs.declared.Duplicate.{Duplicate}
 use Rattle.content.specs.Contents as contents
 use Rattle.content.proofs.Plains.{plain_unescape}
 use Rattle.parts.specs.Views.{part_of, content_in, span_in, text_in, TextWithin}
 use Rattle.parts.specs.declared.TextView.{TextView}
 use Rattle.config_keys.specs.Keys.{key_in}
 use Rattle.config_keys.specs.declared.Key.{Key}
-use Rattle.config_keys.specs.declared.Key.TheVariants.{Define, Duplicate, Unknown, Ordinary}
+use Rattle.config_keys.specs.declared.Key.TheVariants as keys
 use Rattle.model.specs.Blank.{blank}
 use Rattle.model.specs.Memory.{Sound}
 use Rattle.model.specs.declared.Held.{Held}
@@ -61,19 +62,27 @@ unfolding value_text
 value_at_lem line value vb vz vp = ap text_outer_trimmed (text_content line value vz vp)
 
 module _ {flags : ℕ} {line w₀ w : List ℕ} {h r : Held} {key value : TextView} (on : flags % 2 ≡ 1) (kz : TextWithin line key) (kb : List ℕ) (kp : kb ≡ part_of line key.content) (x : Key) (g : key_in x ≡ key_of (text_trimmed (contents.content_in kb))) where
-  pub meta_define : TextWithin line value → (vb : List ℕ) → vb ≡ part_of line value.content → {m : DefineWord} → x ≡ Define → m ≡ define_as (word_in (text_outer_trimmed (contents.content_in vb)) define_words) → DefineSet key.span value.span m w₀ h w r → MetaDone flags line key value w₀ h w r
+  pub meta_define : TextWithin line value → (vb : List ℕ) → vb ≡ part_of line value.content → {m : Option Define} → x ≡ keys.Define → on_some define_of m ≡ word_in (text_outer_trimmed (contents.content_in vb)) define_words → DefineSet key.span value.span m w₀ h w r → MetaDone flags line key value w₀ h w r
   unfolding key_in on_key
-  meta_define vz vb vp e q p = record { went = went_as (p.by (text_in line key) (text_in line value) (word_in (value_text (text_in line value)) define_words) (text_span line key) (text_span line value) (q ∙ ap (λ (cs : List ℕ). define_as (word_in cs define_words)) (value_at_lem line value vb vz vp))) (meta_is flags (text_in line key) (text_in line value) (modes.config define_key) (key_at_lem flags line key x Define kb on kz kp g e)) }
+  meta_define vz vb vp e q p =
+      let k = text_in line key in
+      let v = text_in line value in
+      let o = q ∙ ap (λ (cs : List ℕ). word_in cs define_words) (value_at_lem line value vb vz vp) in
+      record { went = went_as (p.by k v (text_span line key) (text_span line value)) (λ st. ap (λ (x : Option DefineMode). on_define k v x st) o ∙ meta_is flags k v (modes.config define_key) (key_at_lem flags line key x keys.Define kb on kz kp g e) st) }
 
-  pub meta_duplicate : TextWithin line value → (vb : List ℕ) → vb ≡ part_of line value.content → {m : DuplicateWord} → x ≡ Duplicate → m ≡ duplicate_as (word_in (text_outer_trimmed (contents.content_in vb)) duplicate_words) → DuplicateSet key.span value.span m w₀ h w r → MetaDone flags line key value w₀ h w r
+  pub meta_duplicate : TextWithin line value → (vb : List ℕ) → vb ≡ part_of line value.content → {m : Option Duplicate} → x ≡ keys.Duplicate → on_some duplicate_of m ≡ word_in (text_outer_trimmed (contents.content_in vb)) duplicate_words → DuplicateSet key.span value.span m w₀ h w r → MetaDone flags line key value w₀ h w r
   unfolding key_in on_key
-  meta_duplicate vz vb vp e q p = record { went = went_as (p.by (text_in line key) (text_in line value) (word_in (value_text (text_in line value)) duplicate_words) (text_span line key) (text_span line value) (q ∙ ap (λ (cs : List ℕ). duplicate_as (word_in cs duplicate_words)) (value_at_lem line value vb vz vp))) (meta_is flags (text_in line key) (text_in line value) (modes.config duplicate_key) (key_at_lem flags line key x Duplicate kb on kz kp g e)) }
+  meta_duplicate vz vb vp e q p =
+      let k = text_in line key in
+      let v = text_in line value in
+      let o = q ∙ ap (λ (cs : List ℕ). word_in cs duplicate_words) (value_at_lem line value vb vz vp) in
+      record { went = went_as (p.by k v (text_span line key) (text_span line value)) (λ st. ap (λ (x : Option DuplicateMode). on_duplicate k v x st) o ∙ meta_is flags k v (modes.config duplicate_key) (key_at_lem flags line key x keys.Duplicate kb on kz kp g e) st) }
 
-  pub meta_unknown : x ≡ Unknown → UnknownNoted key.span w₀ h w r → MetaDone flags line key value w₀ h w r
+  pub meta_unknown : x ≡ keys.Unknown → UnknownNoted key.span w₀ h w r → MetaDone flags line key value w₀ h w r
   unfolding key_in
-  meta_unknown e p = record { went = went_as (p.by (text_in line key) (text_in line value) (text_span line key)) (meta_is flags (text_in line key) (text_in line value) modes.unknown_config (key_at_lem flags line key x Unknown kb on kz kp g e)) }
+  meta_unknown e p = record { went = went_as (p.by (text_in line key) (text_in line value) (text_span line key)) (meta_is flags (text_in line key) (text_in line value) modes.unknown_config (key_at_lem flags line key x keys.Unknown kb on kz kp g e)) }
 
 module _ {flags : ℕ} {line w : List ℕ} {h r : Held} {key value : TextView} (on : flags % 2 ≡ 1) (kz : TextWithin line key) (kb : List ℕ) (kp : kb ≡ part_of line key.content) (x : Key) (g : key_in x ≡ key_of (text_trimmed (contents.content_in kb))) where
-  pub meta_ordinary : x ≡ Ordinary → Sound w h → OrdinaryCounted h r → MetaDone flags line key value w h w r
+  pub meta_ordinary : x ≡ keys.Ordinary → Sound w h → OrdinaryCounted h r → MetaDone flags line key value w h w r
   unfolding key_in
-  meta_ordinary e z p = record { went = went_as (went_told (p.by (text_in line key) (text_in line value)) z (λ sheet a. p.fit sheet _ a)) (meta_is flags (text_in line key) (text_in line value) modes.ordinary (key_at_lem flags line key x Ordinary kb on kz kp g e)) }
+  meta_ordinary e z p = record { went = went_as (went_told (p.by (text_in line key) (text_in line value)) z (λ sheet a. p.fit sheet _ a)) (meta_is flags (text_in line key) (text_in line value) modes.ordinary (key_at_lem flags line key x keys.Ordinary kb on kz kp g e)) }

@@ -1,13 +1,12 @@
 -- What `meta` lines leave in work memory. Only the modes, the findings and the number of ordinary lines are kept.
-use Rattle.std.specs.Prelude.{ℕ, ◌≡◌, List}
-use Rattle.std.proofs.Math.Option.{Option}
-use Rattle.rules.specs.Words.{DefineMode, DuplicateMode}
+use Rattle.std.specs.Prelude.{ℕ, ◌≡◌, List, Option}
+use Rattle.rules.specs.Basic.{on_some}
 use Rattle.rules.specs.Event as rules
 use Rattle.rules.specs.Modes.{unknown_config, ordinary}
 use Rattle.rules.specs.Metadata.{on_define, on_duplicate, on_key, on_metadata}
-use Rattle.sheet.specs.Words.{define_as, duplicate_as}
-use Rattle.sheet.specs.declared.DefineWord.{DefineWord}
-use Rattle.sheet.specs.declared.DuplicateWord.{DuplicateWord}
+use Rattle.sheet.specs.Words.{define_of, duplicate_of}
+use Rattle.sheet.specs.declared.Define.{Define}
+use Rattle.sheet.specs.declared.Duplicate.{Duplicate}
 use Rattle.parts.specs.Views.{span_in, text_in}
 use Rattle.parts.specs.declared.Span.{Span}
 use Rattle.parts.specs.declared.TextView.{TextView}
@@ -16,12 +15,12 @@ use Rattle.model.specs.declared.Held.{Held}
 use Rattle.blocks.specs.Lined.{Told, Went}
 
 -- `[mode]`, `[define]`: m is what the value chooses
-pub record DefineSet (key value : Span) (m : DefineWord) (w₀ : List ℕ) (h₀ : Held) (w : List ℕ) (h : Held) : Type 0 where
-  pub by : (k v : rules.Text) (o : Option DefineMode) → k.span ≡ span_in key → v.span ≡ span_in value → m ≡ define_as o → Went (on_define k v o) w₀ h₀ w h
+pub record DefineSet (key value : Span) (m : Option Define) (w₀ : List ℕ) (h₀ : Held) (w : List ℕ) (h : Held) : Type 0 where
+  pub by : (k v : rules.Text) → k.span ≡ span_in key → v.span ≡ span_in value → Went (on_define k v (on_some define_of m)) w₀ h₀ w h
 
 -- `[duplicate]`
-pub record DuplicateSet (key value : Span) (m : DuplicateWord) (w₀ : List ℕ) (h₀ : Held) (w : List ℕ) (h : Held) : Type 0 where
-  pub by : (k v : rules.Text) (o : Option DuplicateMode) → k.span ≡ span_in key → v.span ≡ span_in value → m ≡ duplicate_as o → Went (on_duplicate k v o) w₀ h₀ w h
+pub record DuplicateSet (key value : Span) (m : Option Duplicate) (w₀ : List ℕ) (h₀ : Held) (w : List ℕ) (h : Held) : Type 0 where
+  pub by : (k v : rules.Text) → k.span ≡ span_in key → v.span ≡ span_in value → Went (on_duplicate k v (on_some duplicate_of m)) w₀ h₀ w h
 
 -- another key in brackets
 pub record UnknownNoted (key : Span) (w₀ : List ℕ) (h₀ : Held) (w : List ℕ) (h : Held) : Type 0 where

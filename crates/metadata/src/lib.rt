@@ -8,9 +8,9 @@ ghost use Rattle.model.specs.Memory.{Sound};
 ghost use Rattle.model.specs.Small.{with_define, with_duplicate};
 ghost use Rattle.metadata.specs.Metas.{DefineSet, DuplicateSet, UnknownNoted, OrdinaryCounted, MetaDone};
 
-use model::{Define, Duplicate, Held};
+use model::Held;
 use parts::{Part, Span, TextView};
-use sheet::{DefineWord, DuplicateWord};
+use sheet::{Define, Duplicate};
 
 fn with_define(h: Held, define: Define) -> Held
     ensures { result ≡ with_define define h }
@@ -43,16 +43,13 @@ fn with_duplicate(h: Held, duplicate: Duplicate) -> Held
 }
 
 // `[mode]` and `[define]`, with what the value chooses; 1, config value.
-fn set_define(words: &mut [u32], h: Held, key: Span, value: Span, m: DefineWord) -> Held
+fn set_define(words: &mut [u32], h: Held, key: Span, value: Span, m: Option<Define>) -> Held
     requires { Sound words.old h × (h.counts.findings < 1544) }
     ensures { DefineSet key value m words.old h words.new result }
 {
     match m {
-        DefineWord::All => with_define(h, Define::All),
-        DefineWord::Components => with_define(h, Define::Components),
-        DefineWord::Steps => with_define(h, Define::Steps),
-        DefineWord::Text => with_define(h, Define::Text),
-        DefineWord::Unknown => {
+        Some(define) => with_define(h, define),
+        None => {
             let x = model::two_spans(1, value.start, value.end, key.start, key.end, false);
             memory::push_finding(words, h, x)
         }
@@ -60,14 +57,13 @@ fn set_define(words: &mut [u32], h: Held, key: Span, value: Span, m: DefineWord)
 }
 
 // `[duplicate]`, with what the value chooses; 1, config value.
-fn set_duplicate(words: &mut [u32], h: Held, key: Span, value: Span, m: DuplicateWord) -> Held
+fn set_duplicate(words: &mut [u32], h: Held, key: Span, value: Span, m: Option<Duplicate>) -> Held
     requires { Sound words.old h × (h.counts.findings < 1544) }
     ensures { DuplicateSet key value m words.old h words.new result }
 {
     match m {
-        DuplicateWord::New => with_duplicate(h, Duplicate::New),
-        DuplicateWord::Reference => with_duplicate(h, Duplicate::Reference),
-        DuplicateWord::Unknown => {
+        Some(duplicate) => with_duplicate(h, duplicate),
+        None => {
             let x = model::two_spans(1, value.start, value.end, key.start, key.end, false);
             memory::push_finding(words, h, x)
         }

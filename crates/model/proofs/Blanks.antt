@@ -3,7 +3,7 @@ use Prim.Native.Nat.{ℕ, suc, ◌+◌}
 use mathlib.Core.Path.{◌≡◌, refl, sym, ap, ◌∙◌}
 use mathlib.Core.List.{List, [], ◌∷◌, ◌++◌}
 use mathlib.Core.Bool.{Bool, true, false}
-use mathlib.Core.Option.{Option, none, some}
+use Rattle.std.specs.Prelude.{Option, None, Some}
 use lib.ListN.{length, length-replicate, length-reverse_aux}
 use Rattle.rules.specs.Basic.{pick, each, is_empty, is_some, any, when}
 use Rattle.rules.specs.Unicode.{is_alphanumeric}
@@ -35,8 +35,8 @@ blocks_twice (b ∷ bs) = rw (block_twice b, blocks_twice bs)
 
 name_twice_lem : (n : Option (List ℕ)) → blank_name (blank_name n) ≡ blank_name n
 unfolding blank_name
-name_twice_lem none = refl
-name_twice_lem (some n) = refl
+name_twice_lem None = refl
+name_twice_lem (Some n) = refl
 
 pub open_twice : (o : Open) → blank_open (blank_open o) ≡ blank_open o
 unfolding blank_open
@@ -84,8 +84,8 @@ empty_blocks (b ∷ bs) = refl
 
 some_name : (n : Option (List ℕ)) → is_some (blank_name n) ≡ is_some n
 unfolding is_some blank_name
-some_name none = refl
-some_name (some n) = refl
+some_name None = refl
+some_name (Some n) = refl
 
 empty_section : (p : Place) → is_empty_section (blank_place p).section ≡ is_empty_section p.section
 unfolding is_empty_section blank_place
@@ -211,8 +211,8 @@ settle_like line a b e = settle_blank line a ∙ ap (λ (s : Step). blank_walk (
 module _ (units : List NamedUnit) (flags : ℕ) where
   pub make_ingredient_lem : (c : Component) (i : Option Intermediate) (st : State) → make_ingredient units flags c i (blank st) ≡ make_ingredient units flags c i st
   unfolding make_ingredient made_by_name new_entry table_of blank blank_place blank_kept blank_tables
-  make_ingredient_lem c none st = refl
-  make_ingredient_lem c (some i) st = simp (length-replicate, resolve_blank)
+  make_ingredient_lem c None st = refl
+  make_ingredient_lem c (Some i) st = simp (length-replicate, resolve_blank)
 
   pub make_cookware_lem : (c : Component) (st : State) → make_cookware units flags c (blank st) ≡ make_cookware units flags c st
   unfolding make_cookware made_by_name new_entry table_of blank blank_tables
@@ -228,8 +228,8 @@ module _ (units : List NamedUnit) (flags : ℕ) where
 
   fault_step : (f : Option ℕ) (a b : Step) → blank_step a ≡ blank_step b → blank_step (unless_fault f a) ≡ blank_step (unless_fault f b)
   unfolding unless_fault
-  fault_step none a b e = e
-  fault_step (some n) a b e = refl
+  fault_step None a b e = e
+  fault_step (Some n) a b e = refl
 
   push_timer_lem : (n : Option Text) (q : Option Quantity) (is js : List Item) (st : State) → blank (push_timer units flags n q is st) ≡ blank (push_timer units flags n q js (blank st))
   unfolding push_timer report push_items set_timers set_tables set_block set_kept set_place blank blank_place blank_metadata blank_kept blank_tables blank_open
@@ -285,13 +285,13 @@ set_modes_lem m st = simp (length-replicate, blocks_twice, name_twice_lem, open_
 
 on_define_lem : (k v : Text) (m : Option DefineMode) (st : State) → blank (on_define k v m st) ≡ blank (on_define k v m (blank st))
 unfolding on_define blank
-on_define_lem k v none st = report_blank _ st
-on_define_lem k v (some m) st = set_modes_lem _ st
+on_define_lem k v None st = report_blank _ st
+on_define_lem k v (Some m) st = set_modes_lem _ st
 
 on_duplicate_lem : (k v : Text) (m : Option DuplicateMode) (st : State) → blank (on_duplicate k v m st) ≡ blank (on_duplicate k v m (blank st))
 unfolding on_duplicate blank
-on_duplicate_lem k v none st = report_blank _ st
-on_duplicate_lem k v (some m) st = set_modes_lem _ st
+on_duplicate_lem k v None st = report_blank _ st
+on_duplicate_lem k v (Some m) st = set_modes_lem _ st
 
 on_key_lem : (key : Key) (k v : Text) (st : State) → blank (on_key key k v st) ≡ blank (on_key key k v (blank st))
 unfolding on_key

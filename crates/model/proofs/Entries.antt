@@ -3,7 +3,7 @@ use Prim.Native.Nat.{ℕ, ◌<◌}
 use mathlib.Core.Path.{◌≡◌, refl}
 use mathlib.Core.List.{List, [], ◌∷◌}
 use mathlib.Core.Bool.{Bool, true}
-use mathlib.Core.Option.{Option, some}
+use Rattle.std.specs.Prelude.{Option, Some}
 use native.Mathlib.Omega.{arith}
 use lib.ListN.{length}
 use lib.Seq.{slice}
@@ -47,19 +47,19 @@ module _ (k : Kind) (sheet : List ℕ) (r : Row) (by : List ℕ) where
 
 -- ---- the component of a line
 
-pub line_ingredient : (line : List ℕ) (c : Component) (i : Option Intermediate) → parse_line line ≡ some (inside (component_event (ingredient_event c i))) → component_of_line ingredient line ≡ c
+pub line_ingredient : (line : List ℕ) (c : Component) (i : Option Intermediate) → parse_line line ≡ Some (inside (component_event (ingredient_event c i))) → component_of_line ingredient line ≡ c
 unfolding component_of_line component_in component_inside component_as
 line_ingredient line c i e = rw e
 
-pub line_cookware : (line : List ℕ) (c : Component) → parse_line line ≡ some (inside (component_event (cookware_event c))) → component_of_line cookware line ≡ c
+pub line_cookware : (line : List ℕ) (c : Component) → parse_line line ≡ Some (inside (component_event (cookware_event c))) → component_of_line cookware line ≡ c
 unfolding component_of_line component_in component_inside component_as
 line_cookware line c e = rw e
 
-pub kind_ingredient : (line : List ℕ) (c : Component) (i : Option Intermediate) → parse_line line ≡ some (inside (component_event (ingredient_event c i))) → is_of_kind ingredient (parse_line line) ≡ true
+pub kind_ingredient : (line : List ℕ) (c : Component) (i : Option Intermediate) → parse_line line ≡ Some (inside (component_event (ingredient_event c i))) → is_of_kind ingredient (parse_line line) ≡ true
 unfolding is_of_kind is_inside_of is_component_of
 kind_ingredient line c i e = rw e
 
-pub kind_cookware : (line : List ℕ) (c : Component) → parse_line line ≡ some (inside (component_event (cookware_event c))) → is_of_kind cookware (parse_line line) ≡ true
+pub kind_cookware : (line : List ℕ) (c : Component) → parse_line line ≡ Some (inside (component_event (cookware_event c))) → is_of_kind cookware (parse_line line) ≡ true
 unfolding is_of_kind is_inside_of is_component_of
 kind_cookware line c e = rw e
 

@@ -3,7 +3,7 @@ use Prim.Native.Nat.{ℕ, zero, suc, ◌+◌, ◌-◌, ◌*◌, ◌≤◌, ◌<�
 use mathlib.Core.Path.{◌≡◌, refl, sym, ap, ◌∙◌}
 use mathlib.Core.List.{List, [], ◌∷◌, ◌++◌, reverse, reverse-cons}
 use mathlib.Core.Bool.{Bool, true, false}
-use mathlib.Core.Option.{none, some}
+use Rattle.std.specs.Prelude.{None, Some, Option}
 use native.Mathlib.Omega.{arith}
 use native.Mathlib.Numerals.{add-one}
 use native.Mathlib.Nat.{add-zero, zero-add, add-suc, suc-add}
@@ -17,11 +17,8 @@ use Rattle.rules.specs.Words.{target_step, target_section}
 use Rattle.rules.specs.Event.{Intermediate}
 use Rattle.rules.specs.Checks.{step_indices, section_indices, candidates, nth, resolve_intermediate_ref}
 use Rattle.model.specs.Rows.{referrers_in, referrers_from, block_of, blocks_in, steps_from}
-use Rattle.model.specs.Searches.{NextReferrer, found_of, TargetFound}
-use Rattle.model.specs.declared.Found.{Found}
-use Rattle.model.specs.declared.Found.TheVariants.{At, Nothing}
+use Rattle.model.specs.Searches.{NextReferrer, TargetFound}
 use Rattle.rules.proofs.Basics.{by_order}
-use Rattle.model.specs.declared.Next.TheVariants.{Referrer, NoMore}
 
 -- ---- referrers
 
@@ -33,7 +30,7 @@ less : (n i : ℕ) → i < n → n - i ≡ suc (n - suc i)
 less n i h = omega arith
 
 module _ {pairs : List ℕ} {n d from i : ℕ} (z : Seeking pairs n d from i) where
-  pub seek_hit : i < n → get_or pairs (i * 2) 0 ≡ d → NextReferrer pairs n d from (Referrer (get_or pairs (i * 2 + 1) 0) (i + 1))
+  pub seek_hit : i < n → get_or pairs (i * 2) 0 ≡ d → NextReferrer pairs n d from (Some ((get_or pairs (i * 2 + 1) 0), (i + 1)))
   unfolding referrers_from
   seek_hit h q = record { is = (omega arith, omega arith, sym z.is ∙ rw (less n i h, eq-eqb (get_or pairs (i * 2) 0) d q, add-one i)) }
 
@@ -41,7 +38,7 @@ module _ {pairs : List ℕ} {n d from i : ℕ} (z : Seeking pairs n d from i) wh
   unfolding referrers_from
   seek_miss h q = record { low = omega arith; is = rw (add-one i) (rw (less n i h, ne_eqb (get_or pairs (i * 2) 0) d q) at z.is) }
 
-  pub seek_end : n ≤ i → NextReferrer pairs n d from NoMore
+  pub seek_end : n ≤ i → NextReferrer pairs n d from None
   unfolding referrers_from
   seek_end h = let e : n - i ≡ 0 = omega arith in record { is = sym z.is ∙ rw e }
 
@@ -118,16 +115,16 @@ module _ (kinds : List ℕ) where
   unfolding blocks_in step_indices block_of
   steps_same n q = rw (ne_eqb (get_or kinds n 0) 1 q)
 
-pub nth_zero : (l : List ℕ) → nth 0 l ≡ none
+pub nth_zero : (l : List ℕ) → nth 0 l ≡ None
 unfolding nth
 nth_zero [] = refl
 nth_zero (x ∷ xs) = refl
 
-pub nth_none : (v : ℕ) → nth v [] ≡ none
+pub nth_none : (v : ℕ) → nth v [] ≡ None
 unfolding nth
 nth_none v = refl
 
-nth_one : (x : ℕ) (xs : List ℕ) → nth 1 (x ∷ xs) ≡ some x
+nth_one : (x : ℕ) (xs : List ℕ) → nth 1 (x ∷ xs) ≡ Some x
 unfolding nth
 nth_one x xs = refl
 
@@ -137,7 +134,7 @@ nth_next zero x xs h q = absurd (omega arith)
 nth_next (suc zero) x xs h q = absurd (q refl)
 nth_next (suc (suc v)) x xs h q = let e : suc (suc v) - 1 ≡ suc v = omega arith in rw e
 
-pub none_of_zero : (v : ℕ) (l : List ℕ) → v ≡ 0 → none ≡ nth v l
+pub none_of_zero : (v : ℕ) (l : List ℕ) → v ≡ 0 → None ≡ nth v l
 none_of_zero v l q = rw q (sym (nth_zero l))
 
 -- the walk back: what is left among the first i blocks
@@ -151,7 +148,7 @@ pub back_start : (kinds : List ℕ) (n value : ℕ) → (value ≡ 0 → ⊥) �
 back_start kinds n value q = record { high = omega arith; some = omega arith; few = omega arith; is = refl }
 
 module _ {kinds : List ℕ} {n value i v : ℕ} (z : Backing kinds n value i v) where
-  pub back_hit : 0 < i → get_or kinds (i - 1) 0 ≡ 1 → v ≡ 1 → some (i - 1) ≡ nth value (step_indices (blocks_in kinds n))
+  pub back_hit : 0 < i → get_or kinds (i - 1) 0 ≡ 1 → v ≡ 1 → Some (i - 1) ≡ nth value (step_indices (blocks_in kinds n))
   back_hit h q e =
       let k : i ≡ suc (i - 1) = omega arith in
       sym (sym z.is ∙ ap (λ (j : ℕ). nth v (step_indices (blocks_in kinds j))) k ∙ ap (nth v) (steps_more kinds (i - 1) q) ∙ ap (λ (u : ℕ). nth u ((i - 1) ∷ step_indices (blocks_in kinds (i - 1)))) e ∙ nth_one (i - 1) (step_indices (blocks_in kinds (i - 1))))
@@ -176,7 +173,7 @@ module _ {kinds : List ℕ} {n value i v : ℕ} (z : Backing kinds n value i v) 
         is = sym (ap (λ (j : ℕ). nth v (step_indices (blocks_in kinds j))) k ∙ ap (nth v) (steps_same kinds (i - 1) q)) ∙ z.is;
       }
 
-  pub back_end : i ≤ 0 → none ≡ nth value (step_indices (blocks_in kinds n))
+  pub back_end : i ≤ 0 → None ≡ nth value (step_indices (blocks_in kinds n))
   unfolding blocks_in step_indices nth
   back_end h = let k : i ≡ 0 = omega arith in ap (λ (j : ℕ). nth v (step_indices (blocks_in kinds j))) (sym k) ∙ z.is
 
@@ -211,7 +208,7 @@ pub ahead_start : (kinds : List ℕ) (n value : ℕ) → (value ≡ 0 → ⊥) �
 ahead_start kinds n value q = record { some = omega arith; few = omega arith; is = let e : n - 0 ≡ n = omega arith in rw e (ap (nth value) (sym (steps_oldest kinds n))) }
 
 module _ {kinds : List ℕ} {n value i v : ℕ} (z : Ahead kinds n value i v) where
-  pub ahead_hit : i < n → get_or kinds i 0 ≡ 1 → v ≡ 1 → some i ≡ nth value (reverse (step_indices (blocks_in kinds n)))
+  pub ahead_hit : i < n → get_or kinds i 0 ≡ 1 → v ≡ 1 → Some i ≡ nth value (reverse (step_indices (blocks_in kinds n)))
   unfolding steps_from
   ahead_hit h q e = sym (nth_one i (steps_from kinds (suc i) (n - suc i))) ∙ (rw (e, less n i h, eq-eqb (get_or kinds i 0) 1 q) at z.is)
 
@@ -228,25 +225,25 @@ module _ {kinds : List ℕ} {n value i v : ℕ} (z : Ahead kinds n value i v) wh
   unfolding steps_from
   ahead_text h q = record { some = z.some; few = z.few; is = rw (add-one i) (rw (less n i h, ne_eqb (get_or kinds i 0) 1 q) at z.is) }
 
-  pub ahead_end : n ≤ i → none ≡ nth value (reverse (step_indices (blocks_in kinds n)))
+  pub ahead_end : n ≤ i → None ≡ nth value (reverse (step_indices (blocks_in kinds n)))
   unfolding steps_from
   ahead_end h = let k : n - i ≡ 0 = omega arith in sym (nth_none v) ∙ (rw k at z.is)
 
 -- ---- sections
 
 -- counted back
-pub sections_back : (n v : ℕ) → 1 ≤ v → v ≤ n → nth v (section_indices n) ≡ some (n - v)
+pub sections_back : (n v : ℕ) → 1 ≤ v → v ≤ n → nth v (section_indices n) ≡ Some (n - v)
 unfolding section_indices
 sections_back zero v l h = absurd (omega arith)
 sections_back (suc n) v l h = by_order v 1 (λ q. one q) (λ q. more q (λ a b. sections_back n (v - 1) a b))
   where
-    one : v ≤ 1 → nth v (n ∷ section_indices n) ≡ some (suc n - v)
+    one : v ≤ 1 → nth v (n ∷ section_indices n) ≡ Some (suc n - v)
     one q = let e : v ≡ 1 = omega arith in let f : suc n - 1 ≡ n = omega arith in rw (e, f) (nth_one n (section_indices n))
 
-    more : 1 < v → (1 ≤ v - 1 → v - 1 ≤ n → nth (v - 1) (section_indices n) ≡ some (n - (v - 1))) → nth v (n ∷ section_indices n) ≡ some (suc n - v)
-    more q ih = let f : suc n - v ≡ n - (v - 1) = omega arith in nth_next v n (section_indices n) l (λ e. omega arith) ∙ ih (omega arith) (omega arith) ∙ ap some (sym f)
+    more : 1 < v → (1 ≤ v - 1 → v - 1 ≤ n → nth (v - 1) (section_indices n) ≡ Some (n - (v - 1))) → nth v (n ∷ section_indices n) ≡ Some (suc n - v)
+    more q ih = let f : suc n - v ≡ n - (v - 1) = omega arith in nth_next v n (section_indices n) l (λ e. omega arith) ∙ ih (omega arith) (omega arith) ∙ ap Some (sym f)
 
-nth_past : (l : List ℕ) (v : ℕ) → length l < v → nth v l ≡ none
+nth_past : (l : List ℕ) (v : ℕ) → length l < v → nth v l ≡ None
 nth_past [] v h = nth_none v
 nth_past (x ∷ xs) v h = nth_next v x xs (omega arith) (λ e. omega arith) ∙ nth_past xs (v - 1) (omega arith)
 
@@ -255,18 +252,18 @@ unfolding section_indices
 sections_length zero = refl
 sections_length (suc n) = ap suc (sections_length n)
 
-nth_up : (k at v : ℕ) → 1 ≤ v → v ≤ k → nth v (ups (λ (j : ℕ). true) (λ (j : ℕ). j) at k) ≡ some (at + v - 1)
+nth_up : (k at v : ℕ) → 1 ≤ v → v ≤ k → nth v (ups (λ (j : ℕ). true) (λ (j : ℕ). j) at k) ≡ Some (at + v - 1)
 unfolding ups
 nth_up zero at v l h = absurd (omega arith)
 nth_up (suc k) at v l h = by_order v 1 (λ q. one q) (λ q. more q (λ a b. nth_up k (suc at) (v - 1) a b))
   where
-    one : v ≤ 1 → nth v (at ∷ ups (λ (j : ℕ). true) (λ (j : ℕ). j) (suc at) k) ≡ some (at + v - 1)
+    one : v ≤ 1 → nth v (at ∷ ups (λ (j : ℕ). true) (λ (j : ℕ). j) (suc at) k) ≡ Some (at + v - 1)
     one q = let e : v ≡ 1 = omega arith in let f : at + 1 - 1 ≡ at = omega arith in rw (e, f) (nth_one at (ups (λ (j : ℕ). true) (λ (j : ℕ). j) (suc at) k))
 
-    more : 1 < v → (1 ≤ v - 1 → v - 1 ≤ k → nth (v - 1) (ups (λ (j : ℕ). true) (λ (j : ℕ). j) (suc at) k) ≡ some (suc at + (v - 1) - 1)) → nth v (at ∷ ups (λ (j : ℕ). true) (λ (j : ℕ). j) (suc at) k) ≡ some (at + v - 1)
+    more : 1 < v → (1 ≤ v - 1 → v - 1 ≤ k → nth (v - 1) (ups (λ (j : ℕ). true) (λ (j : ℕ). j) (suc at) k) ≡ Some (suc at + (v - 1) - 1)) → nth v (at ∷ ups (λ (j : ℕ). true) (λ (j : ℕ). j) (suc at) k) ≡ Some (at + v - 1)
     more q ih =
         let f : suc at + (v - 1) - 1 ≡ at + v - 1 = omega arith in
-        nth_next v at (ups (λ (j : ℕ). true) (λ (j : ℕ). j) (suc at) k) l (λ e. omega arith) ∙ ih (omega arith) (omega arith) ∙ ap some f
+        nth_next v at (ups (λ (j : ℕ). true) (λ (j : ℕ). j) (suc at) k) l (λ e. omega arith) ∙ ih (omega arith) (omega arith) ∙ ap Some f
 
 sections_down : (n : ℕ) → section_indices n ≡ downs (λ (j : ℕ). true) (λ (j : ℕ). j) n
 unfolding section_indices downs
@@ -274,44 +271,44 @@ sections_down zero = refl
 sections_down (suc n) = rw (sections_down n)
 
 -- counted from the first
-pub sections_ahead : (n v : ℕ) → 1 ≤ v → v ≤ n → nth v (reverse (section_indices n)) ≡ some (v - 1)
+pub sections_ahead : (n v : ℕ) → 1 ≤ v → v ≤ n → nth v (reverse (section_indices n)) ≡ Some (v - 1)
 sections_ahead n v l h =
     let f : 0 + v - 1 ≡ v - 1 = omega arith in
-    ap (λ (x : List ℕ). nth v (reverse x)) (sections_down n) ∙ ap (nth v) (oldest_first _ _ n) ∙ nth_up n 0 v l h ∙ ap some f
+    ap (λ (x : List ℕ). nth v (reverse x)) (sections_down n) ∙ ap (nth v) (oldest_first _ _ n) ∙ nth_up n 0 v l h ∙ ap Some f
 
 -- ---- what `section_target` answers
 
 module _ (n v : ℕ) (relative : Bool) where
-  pub section_zero : v ≡ 0 → TargetFound relative v (section_indices n) Nothing
+  pub section_zero : v ≡ 0 → TargetFound relative v (section_indices n) None
   section_zero q = record { is = rw q (sym (nth_zero (pick relative (section_indices n) (reverse (section_indices n))))) }
 
-  pub section_past : n < v → TargetFound relative v (section_indices n) Nothing
+  pub section_past : n < v → TargetFound relative v (section_indices n) None
   section_past h = record { is = sym (go relative) }
     where
-      go : (b : Bool) → nth v (pick b (section_indices n) (reverse (section_indices n))) ≡ none
+      go : (b : Bool) → nth v (pick b (section_indices n) (reverse (section_indices n))) ≡ None
       go true = nth_past (section_indices n) v (omega (arith, sections_length n))
       go false = nth_past (reverse (section_indices n)) v (omega (arith, sections_length n, length-reverse (section_indices n)))
 
-  pub section_back : (v ≡ 0 → ⊥) → v ≤ n → relative ≡ true → TargetFound relative v (section_indices n) (At (n - v))
+  pub section_back : (v ≡ 0 → ⊥) → v ≤ n → relative ≡ true → TargetFound relative v (section_indices n) (Some (n - v))
   section_back q h t = record { is = rw t (sym (sections_back n v (omega arith) h)) }
 
-  pub section_ahead : (v ≡ 0 → ⊥) → v ≤ n → relative ≡ false → TargetFound relative v (section_indices n) (At (v - 1))
+  pub section_ahead : (v ≡ 0 → ⊥) → v ≤ n → relative ≡ false → TargetFound relative v (section_indices n) (Some (v - 1))
   section_ahead q h t = record { is = rw t (sym (sections_ahead n v (omega arith) h)) }
 
 -- ---- what `step_target` answers, and what it is of the rules
 
-module _ {r : Found} (l : List ℕ) (v : ℕ) (relative : Bool) where
-  pub target_back : found_of r ≡ nth v l → relative ≡ true → TargetFound relative v l r
+module _ {r : Option ℕ} (l : List ℕ) (v : ℕ) (relative : Bool) where
+  pub target_back : r ≡ nth v l → relative ≡ true → TargetFound relative v l r
   target_back e t = record { is = rw t e }
 
-  pub target_ahead : found_of r ≡ nth v (reverse l) → relative ≡ false → TargetFound relative v l r
+  pub target_ahead : r ≡ nth v (reverse l) → relative ≡ false → TargetFound relative v l r
   target_ahead e t = record { is = rw t e }
 
-module _ (i : Intermediate) (blocks : List Block) (sections : ℕ) {r : Found} where
-  pub step_resolved : i.target ≡ target_step → TargetFound i.relative i.value.size (step_indices blocks) r → found_of r ≡ resolve_intermediate_ref i blocks sections
+module _ (i : Intermediate) (blocks : List Block) (sections : ℕ) {r : Option ℕ} where
+  pub step_resolved : i.target ≡ target_step → TargetFound i.relative i.value.size (step_indices blocks) r → r ≡ resolve_intermediate_ref i blocks sections
   unfolding resolve_intermediate_ref candidates
   step_resolved t z = rw t z.is
 
-  pub section_resolved : i.target ≡ target_section → TargetFound i.relative i.value.size (section_indices sections) r → found_of r ≡ resolve_intermediate_ref i blocks sections
+  pub section_resolved : i.target ≡ target_section → TargetFound i.relative i.value.size (section_indices sections) r → r ≡ resolve_intermediate_ref i blocks sections
   unfolding resolve_intermediate_ref candidates
   section_resolved t z = rw t z.is

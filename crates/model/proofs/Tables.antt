@@ -3,7 +3,7 @@ use Prim.Native.Nat.{ℕ, zero, suc, ◌+◌, ◌*◌, ◌≤◌, ◌<◌}
 use mathlib.Core.Path.{◌≡◌, refl, sym, ap, ◌∙◌}
 use mathlib.Core.List.{List, [], ◌∷◌}
 use mathlib.Core.Bool.{Bool, true, false}
-use mathlib.Core.Option.{some}
+use Rattle.std.specs.Prelude.{Some}
 use native.Mathlib.Omega.{arith}
 use native.Mathlib.Numerals.{add-one}
 use lib.Dec.{eqb}
@@ -91,14 +91,14 @@ module _ (k : Kind) (sheet rows pairs : List ℕ) (m : ℕ) where
   entries_more n r h = rw (row_stored rows n r h, entries_below n n r (omega arith))
 
   -- the entry of an index
-  pub entries_at : (i n : ℕ) → i < n → entry_at i (entries_in k sheet rows pairs m n) ≡ some (entry_in k sheet rows pairs m i)
+  pub entries_at : (i n : ℕ) → i < n → entry_at i (entries_in k sheet rows pairs m n) ≡ Some (entry_in k sheet rows pairs m i)
   unfolding entries_in entry_at
   entries_at i zero h = absurd (omega arith)
   entries_at i (suc n) h = rw (entries_length n) (by (eqb i n) refl (λ l. entries_at i n l))
     where
-      by : (t : Bool) → eqb i n ≡ t → (i < n → entry_at i (entries_in k sheet rows pairs m n) ≡ some (entry_in k sheet rows pairs m i))
-          → pick t (some (entry_in k sheet rows pairs m n)) (entry_at i (entries_in k sheet rows pairs m n)) ≡ some (entry_in k sheet rows pairs m i)
-      by true e ih = let q : i ≡ n = eqb-true i n e in ap (λ (j : ℕ). some (entry_in k sheet rows pairs m j)) (sym q)
+      by : (t : Bool) → eqb i n ≡ t → (i < n → entry_at i (entries_in k sheet rows pairs m n) ≡ Some (entry_in k sheet rows pairs m i))
+          → pick t (Some (entry_in k sheet rows pairs m n)) (entry_at i (entries_in k sheet rows pairs m n)) ≡ Some (entry_in k sheet rows pairs m i)
+      by true e ih = let q : i ≡ n = eqb-true i n e in ap (λ (j : ℕ). Some (entry_in k sheet rows pairs m j)) (sym q)
       by false e ih = let q : (i ≡ n → ⊥) = eqb-false i n e in let l : i < n = omega arith in ih l
 
 -- what holds of all rows, and of one more

@@ -1,7 +1,6 @@
 -- A state of the pass without what work memory does not keep: contents of metadata, of sections and blocks, of timers and inline
 -- quantities. Only their numbers, the kinds of the current section's blocks, and what components and findings hold are left.
-use Rattle.std.specs.Prelude.{ℕ, List, [], length, replicate}
-use Rattle.std.proofs.Math.Option.{Option, none, some}
+use Rattle.std.specs.Prelude.{ℕ, List, [], length, replicate, Option, None, Some}
 use Rattle.rules.specs.Basic.{each}
 use Rattle.rules.specs.Event.{Span}
 use Rattle.rules.specs.Model.{Timer, InlineQuantity, Block, step_block, text_block, Section}
@@ -11,10 +10,10 @@ unfoldable pub blank_span : Span
 blank_span = record { start = 0; end = 0 }
 
 unfoldable pub blank_section : Section
-blank_section = record { name = none; content = [] }
+blank_section = record { name = None; content = [] }
 
 unfoldable pub blank_timer : Timer
-blank_timer = record { name = none; quantity = none }
+blank_timer = record { name = None; quantity = None }
 
 unfoldable pub blank_inline : InlineQuantity
 blank_inline = record { number = []; unit = [] }
@@ -30,8 +29,8 @@ blank_open (text_open ts) = text_open []
 blank_open (text_mode_open ts) = text_mode_open []
 
 unfoldable pub blank_name : Option (List ℕ) → Option (List ℕ)
-blank_name none = none
-blank_name (some n) = some []
+blank_name None = None
+blank_name (Some n) = Some []
 
 unfoldable pub blank_place : Place → Place
 blank_place p =
@@ -78,6 +77,6 @@ blank_walk (refused n l) = refused n l
 
 -- the refusal of an outcome, its number and line
 unfoldable pub refusal_of : Outcome → Option (ℕ × ℕ)
-refusal_of (recipe st) = none
-refusal_of (no_recipe fs) = none
-refusal_of (refusal n l) = some (n, l)
+refusal_of (recipe st) = None
+refusal_of (no_recipe fs) = None
+refusal_of (refusal n l) = Some (n, l)

@@ -1,6 +1,5 @@
 -- What the rows of work memory point at in the sheet.
-use Rattle.std.specs.Prelude.{ℕ, ◌≤◌, ◌<◌, ◌≡◌, List, [], ◌∷◌, Bool, true, false, length, get_or}
-use Rattle.std.proofs.Math.Option.{Option, none, some}
+use Rattle.std.specs.Prelude.{ℕ, ◌≤◌, ◌<◌, ◌≡◌, List, [], ◌∷◌, Bool, true, false, length, get_or, Option, None, Some}
 use Rattle.std.proofs.Math.Seq.{slice}
 use Rattle.rules.specs.Basic.{on_some, lf}
 use Rattle.rules.specs.Text.{retain}
@@ -29,10 +28,10 @@ is_inside_of k (text_event t) = false
 is_inside_of k (end_event b) = false
 
 unfoldable pub is_of_kind : Kind → Option Event → Bool
-is_of_kind k none = false
-is_of_kind k (some (inside i)) = is_inside_of k i
-is_of_kind k (some (between b)) = false
-is_of_kind k (some (parser_event s n)) = false
+is_of_kind k None = false
+is_of_kind k (Some (inside i)) = is_inside_of k i
+is_of_kind k (Some (between b)) = false
+is_of_kind k (Some (parser_event s n)) = false
 
 -- ---- a line of the sheet
 
@@ -54,7 +53,7 @@ pub record Fits (k : Kind) (sheet : List ℕ) (r : Row) : Type 0 where
   pub name_at : r.line_at ≤ r.name_at
   pub name : r.name_at ≤ r.name_end
   pub name_end : r.name_end ≤ r.line_end
-  pub is_name : on_some (retain 0) (content_of (slice r.name_at r.name_end sheet)) ≡ some (entry_as k sheet r []).name
+  pub is_name : on_some (retain 0) (content_of (slice r.name_at r.name_end sheet)) ≡ Some (entry_as k sheet r []).name
 
 -- all of the first n rows
 pub record EachRow (P : Row → Type 0) (rows : List ℕ) (n : ℕ) : Type 0 where

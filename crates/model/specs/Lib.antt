@@ -4,3 +4,4 @@ pub mod Memory
 pub mod Small
 pub mod Searches
 pub mod Fits
+pub mod Kinds

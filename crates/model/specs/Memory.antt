@@ -1,20 +1,19 @@
 -- The state of the pass that work memory and the small state stand for. What memory does not keep is blank.
-use Rattle.std.specs.Prelude.{ℕ, ◌*◌, ◌≤◌, ◌<◌, List, [], false, length, get_or, take, drop, replicate}
-use Rattle.std.proofs.Math.Option.{none, some}
+use Rattle.std.specs.Prelude.{ℕ, ◌*◌, ◌≤◌, ◌<◌, List, [], false, length, get_or, take, drop, replicate, None, Some}
 use Rattle.rules.specs.Basic.{pick}
-use Rattle.rules.specs.Words.{DefineMode, mode_all, mode_components, mode_steps, mode_text, DuplicateMode, duplicate_new, duplicate_reference}
 use Rattle.rules.specs.Model.{ingredient, cookware}
 use Rattle.rules.specs.State as state
 use Rattle.rules.specs.State.{State, no_block, step_open, text_open, text_mode_open}
 use Rattle.model.specs.Blank.{blank_span, blank_section, blank_timer, blank_inline}
 use Rattle.model.specs.Rows.{entries_in, findings_in, blocks_in}
-use Rattle.model.specs.declared.Define.{Define}
-use Rattle.model.specs.declared.Define.TheVariants.{All, Components, Steps, Text}
-use Rattle.model.specs.declared.Duplicate.{Duplicate}
-use Rattle.model.specs.declared.Duplicate.TheVariants.{New, Reference}
+use Rattle.sheet.specs.declared.Define.{Define}
+use Rattle.sheet.specs.declared.Define.TheVariants.{All}
+use Rattle.sheet.specs.declared.Duplicate.{Duplicate}
+use Rattle.sheet.specs.declared.Duplicate.TheVariants.{New}
 use Rattle.model.specs.declared.Open.{Open}
 use Rattle.model.specs.declared.Open.TheVariants.{Nothing, Step as StepBlock, Text as TextBlock, TextMode}
 use Rattle.model.specs.declared.Held.{Held}
+use Rattle.sheet.specs.Words.{define_of, duplicate_of}
 
 -- ---- the windows of work memory (docs/MEMORY.md)
 
@@ -39,16 +38,6 @@ windows_of w =
 
 -- ---- the small state
 
-unfoldable pub define_of : Define → DefineMode
-define_of All = mode_all
-define_of Components = mode_components
-define_of Steps = mode_steps
-define_of Text = mode_text
-
-unfoldable pub duplicate_of : Duplicate → DuplicateMode
-duplicate_of New = duplicate_new
-duplicate_of Reference = duplicate_reference
-
 unfoldable pub open_of : Open → state.Open
 open_of Nothing = no_block
 open_of StepBlock = step_open []
@@ -62,7 +51,7 @@ state_of sheet x h =
       metadata = record { map = []; old = replicate h.counts.old blank_span };
       place =
           record {
-            section = record { name = pick h.named (some []) none; content = blocks_in x.kinds h.counts.here };
+            section = record { name = pick h.named (Some []) None; content = blocks_in x.kinds h.counts.here };
             step_counter = h.counts.counter;
             block = open_of h.block;
           };

@@ -1,6 +1,5 @@
 -- What the rows of work memory stand for: components, the pairs that name their referrers, findings, kinds of blocks.
-use Rattle.std.specs.Prelude.{ℕ, zero, suc, ◌+◌, ◌*◌, List, [], ◌∷◌, Bool, true, false, eqb, get_or, take, drop}
-use Rattle.std.proofs.Math.Option.{Option, none, some}
+use Rattle.std.specs.Prelude.{ℕ, zero, suc, ◌+◌, ◌*◌, List, [], ◌∷◌, Bool, true, false, eqb, get_or, take, drop, Option, None, Some}
 use Rattle.std.proofs.Math.Seq.{slice}
 use Rattle.rules.specs.Basic.{pick}
 use Rattle.rules.specs.Words.{severe, mild}
@@ -64,9 +63,9 @@ blank_component =
     record {
       span = blank_span;
       name = record { span = blank_span; content = [] };
-      alias = none;
-      quantity = none;
-      note = none;
+      alias = None;
+      quantity = None;
+      note = None;
       modifiers = no_modifiers;
       modifiers_span = blank_span;
     }
@@ -85,10 +84,10 @@ component_inside k (text_event t) = blank_component
 component_inside k (end_event b) = blank_component
 
 unfoldable pub component_in : Kind → Option Event → Component
-component_in k none = blank_component
-component_in k (some (inside i)) = component_inside k i
-component_in k (some (between b)) = blank_component
-component_in k (some (parser_event s n)) = blank_component
+component_in k None = blank_component
+component_in k (Some (inside i)) = component_inside k i
+component_in k (Some (between b)) = blank_component
+component_in k (Some (parser_event s n)) = blank_component
 
 -- the component of a line; a blank one where the line is none of the kind
 unfoldable pub component_of_line : Kind → List ℕ → Component

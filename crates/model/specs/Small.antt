@@ -1,8 +1,8 @@
 -- The small state with another part.
 use Rattle.std.specs.Prelude.{ℕ, Bool, eqb}
 use Rattle.rules.specs.Basic.{pick}
-use Rattle.model.specs.declared.Define.{Define}
-use Rattle.model.specs.declared.Duplicate.{Duplicate}
+use Rattle.sheet.specs.declared.Define.{Define}
+use Rattle.sheet.specs.declared.Duplicate.{Duplicate}
 use Rattle.model.specs.declared.Open.{Open}
 use Rattle.model.specs.declared.Counts.{Counts}
 use Rattle.model.specs.declared.Held.{Held}

@@ -9,20 +9,15 @@ ghost use Rattle.rules.specs.Checks.{step_indices, section_indices, nth};
 ghost use Rattle.rules.specs.Words.{severe, mild};
 ghost use Rattle.rules.specs.Finding.{diag, parsed};
 ghost use Rattle.model.specs.Rows.{finding_of, row_at, bit_of, relation_word, relation_of, row_words, row_of, noted_words, noted_of, blocks_in};
-ghost use Rattle.model.specs.Searches.{found_of, TargetFound, NextReferrer};
+ghost use Rattle.model.specs.Searches.{TargetFound, NextReferrer};
 
-#[derive(Clone, Copy)]
-pub enum Define {
-    All,
-    Components,
-    Steps,
-    Text,
-}
+use sheet::{Define, Duplicate};
 
+// The two kinds of components.
 #[derive(Clone, Copy)]
-pub enum Duplicate {
-    New,
-    Reference,
+pub enum Kind {
+    Ingredient,
+    Cookware,
 }
 
 // The open block.
@@ -105,19 +100,6 @@ pub struct Noted {
     pub start2: u32,
     pub end2: u32,
     pub flag: bool,
-}
-
-#[derive(Clone, Copy)]
-pub enum Found {
-    At(u32),
-    Nothing,
-}
-
-// The next referrer of a definition, and the pair after it.
-#[derive(Clone, Copy)]
-pub enum Next {
-    Referrer(u32, usize),
-    NoMore,
 }
 
 // ---- rows
@@ -234,7 +216,7 @@ pub fn put_pair(pairs: &mut [u32], n: usize, definition: u32, referrer: u32)
 }
 
 // The first of the pairs from `from` on, of n, that names the definition.
-pub fn next_referrer(pairs: &[u32], n: usize, definition: u32, from: usize) -> Next
+pub fn next_referrer(pairs: &[u32], n: usize, definition: u32, from: usize) -> Option<(u32, usize)>
     requires { (n ≤ 513) × (n * 2 ≤ length pairs.now) }
     ensures { NextReferrer pairs.now n definition from result }
 {
@@ -242,11 +224,11 @@ pub fn next_referrer(pairs: &[u32], n: usize, definition: u32, from: usize) -> N
     while i < n {
         let at = i * 2;
         if pairs[at] == definition {
-            return Next::Referrer(pairs[at + 1], i + 1);
+            return Some((pairs[at + 1], i + 1));
         }
         i += 1;
     }
-    Next::NoMore
+    None
 }
 
 // ---- findings
@@ -352,12 +334,12 @@ pub fn put_kind(kinds: &mut [u32], n: usize, step: bool)
 }
 
 // The step that is the value-th, counted back from the newest of n blocks.
-fn step_back(kinds: &[u32], n: usize, value: u32) -> Found
+fn step_back(kinds: &[u32], n: usize, value: u32) -> Option<u32>
     requires { (n ≤ 1025) × (n ≤ length kinds.now) }
-    ensures { found_of result ≡ nth value (step_indices (blocks_in kinds.now n)) }
+    ensures { result ≡ nth value (step_indices (blocks_in kinds.now n)) }
 {
     if value == 0 {
-        return Found::Nothing;
+        return None;
     }
     let mut i = n;
     let mut v = value;
@@ -365,7 +347,7 @@ fn step_back(kinds: &[u32], n: usize, value: u32) -> Found
         let k = i - 1;
         if kinds[k] == 1 {
             if v == 1 {
-                return Found::At(k as u32);
+                return Some(k as u32);
             }
             v -= 1;
             i = k;
@@ -373,23 +355,23 @@ fn step_back(kinds: &[u32], n: usize, value: u32) -> Found
             i = k;
         }
     }
-    Found::Nothing
+    None
 }
 
 // The step that is the value-th, counted from the first.
-fn step_ahead(kinds: &[u32], n: usize, value: u32) -> Found
+fn step_ahead(kinds: &[u32], n: usize, value: u32) -> Option<u32>
     requires { (n ≤ 1025) × (n ≤ length kinds.now) }
-    ensures { found_of result ≡ nth value (reverse (step_indices (blocks_in kinds.now n))) }
+    ensures { result ≡ nth value (reverse (step_indices (blocks_in kinds.now n))) }
 {
     if value == 0 {
-        return Found::Nothing;
+        return None;
     }
     let mut i: usize = 0;
     let mut v = value;
     while i < n {
         if kinds[i] == 1 {
             if v == 1 {
-                return Found::At(i as u32);
+                return Some(i as u32);
             }
             v -= 1;
             i += 1;
@@ -397,10 +379,10 @@ fn step_ahead(kinds: &[u32], n: usize, value: u32) -> Found
             i += 1;
         }
     }
-    Found::Nothing
+    None
 }
 
-pub fn step_target(kinds: &[u32], n: usize, relative: bool, value: u32) -> Found
+pub fn step_target(kinds: &[u32], n: usize, relative: bool, value: u32) -> Option<u32>
     requires { (n ≤ 1025) × (n ≤ length kinds.now) }
     ensures { TargetFound relative value (step_indices (blocks_in kinds.now n)) result }
 {
@@ -411,21 +393,21 @@ pub fn step_target(kinds: &[u32], n: usize, relative: bool, value: u32) -> Found
     }
 }
 
-pub fn section_target(sections: usize, relative: bool, value: u32) -> Found
+pub fn section_target(sections: usize, relative: bool, value: u32) -> Option<u32>
     requires { sections ≤ 100000 }
     ensures { TargetFound relative value (section_indices sections) result }
 {
     let v = value as usize;
     if v == 0 {
-        return Found::Nothing;
+        return None;
     }
     if sections < v {
-        return Found::Nothing;
+        return None;
     }
     if relative {
         let i = sections - v;
-        return Found::At(i as u32);
+        return Some(i as u32);
     }
     let i = v - 1;
-    Found::At(i as u32)
+    Some(i as u32)
 }

@@ -3,7 +3,7 @@ use Prim.Native.Nat.{ℕ}
 use mathlib.Core.Path.{◌≡◌, refl, ◌∙◌}
 use mathlib.Core.Bool.{Bool, true, ◌||◌}
 use mathlib.Core.List.{List, []}
-use mathlib.Core.Option.{some}
+use Rattle.std.specs.Prelude.{Some}
 use lib.Seq.{slice}
 use Rattle.rules.specs.Event as rules
 use Rattle.rules.specs.Model.{Kind, Relation, entry_of, entry_with, set_relation, set_modifiers, either, both, with_ref, inherits}
@@ -52,10 +52,10 @@ module _ (k : Kind) (sheet : List ℕ) {a e n o : ℕ} {m : Modifiers} {relation
 
   -- a reference by name to d
   pub row_referring : (in_step : Bool) (d : Earlier) → modifiers_in m ≡ with_ref (either c.modifiers (both d.entry.modifiers (inherits k))) → relation.relation ≡ Reference Ingredient → relation.index ≡ d.index
-      → entry_as k sheet r [] ≡ as_referring k (some d) (entry_of k in_step c)
+      → entry_as k sheet r [] ≡ as_referring k (Some d) (entry_of k in_step c)
   row_referring in_step d em er ei = x.is k sheet ∙ same
     where
-      same : set_relation (relation_in k relation []) (set_modifiers (modifiers_in m) (entry_of k true (component_of_line k (slice a e sheet)))) ≡ as_referring k (some d) (entry_of k in_step c)
+      same : set_relation (relation_in k relation []) (set_modifiers (modifiers_in m) (entry_of k true (component_of_line k (slice a e sheet)))) ≡ as_referring k (Some d) (entry_of k in_step c)
       same = unfold set_relation set_modifiers relation_in relation_as entry_of entry_with as_referring in rw (ec, em, er, ei)
 
   -- any other relation

@@ -3,7 +3,7 @@ use Prim.Native.Nat.{ℕ}
 use mathlib.Core.Path.{◌≡◌, refl, ap, ◌∙◌}
 use mathlib.Core.Bool.{false}
 use mathlib.Core.List.{List, [], ◌∷◌}
-use mathlib.Core.Option.{Option, none, some}
+use Rattle.std.specs.Prelude.{Option, None, Some}
 use lib.ListN.{length}
 use Rattle.rules.specs.Basic.{on_some}
 use Rattle.rules.specs.Units.{NamedUnit}
@@ -14,11 +14,9 @@ use Rattle.rules.specs.State.{State, table_of, set_table, set_tables, set_block,
 use Rattle.rules.specs.Components.{Made, referred, pushed, refers_to_reference}
 use Rattle.rules.specs.Pass.{push_items, item_of, push_component, unless_chained, on_made}
 use Rattle.model.specs.Blank.{blank}
-use Rattle.model.specs.Searches.{found_of}
 use Rattle.model.specs.Memory.{state_in, Sound}
 use Rattle.model.specs.Rows.{entry_as}
 use Rattle.model.specs.declared.Row.{Row}
-use Rattle.model.specs.declared.Found.{Found}
 use Rattle.model.specs.declared.Held.{Held}
 use Rattle.memory.specs.Pushes.{ComponentAdded, referred_to}
 use Rattle.checks.specs.Reports.{Reported}
@@ -39,11 +37,11 @@ reported_first cookware fs new is es st = refl
 
 referred_to_lem : (o : Option Earlier) (es : List Entry) → referred_to (on_some (λ (d : Earlier). d.index) o) es ≡ referred o es
 unfolding on_some referred
-referred_to_lem none es = refl
-referred_to_lem (some d) es = refl
+referred_to_lem None es = refl
+referred_to_lem (Some d) es = refl
 
-pub component_pushed : (k : Kind) (sheet : List ℕ) (m : Made) {w₀ w₁ w₂ : List ℕ} {h₀ h₁ h₂ h₃ : Held} {row : Row} {to : Found} → Reported m.findings w₀ h₀ w₁ h₁ → ComponentAdded k w₁ h₁ row to w₂ h₂
-    → ItemsPushed 1 h₂ h₃ → entry_as k sheet row [] ≡ m.entry → found_of to ≡ on_some (λ (d : Earlier). d.index) m.refers_to → state_in sheet w₂ h₃ ≡ blank (push_component k m [] (state_in sheet w₀ h₀))
+pub component_pushed : (k : Kind) (sheet : List ℕ) (m : Made) {w₀ w₁ w₂ : List ℕ} {h₀ h₁ h₂ h₃ : Held} {row : Row} {to : Option ℕ} → Reported m.findings w₀ h₀ w₁ h₁ → ComponentAdded k w₁ h₁ row to w₂ h₂
+    → ItemsPushed 1 h₂ h₃ → entry_as k sheet row [] ≡ m.entry → to ≡ on_some (λ (d : Earlier). d.index) m.refers_to → state_in sheet w₂ h₃ ≡ blank (push_component k m [] (state_in sheet w₀ h₀))
 component_pushed k sheet m {w₀} {w₁} {w₂} {h₀} {h₁} {h₂} {h₃} {row} {to} r a i ee ef =
     (i.by (item ∷ []) refl).is sheet w₂ ∙ ap (λ (st : State). blank (push_items (item ∷ []) [] st)) table ∙ ap blank (reported_first k m.findings (item ∷ []) [] (pushed m (table_of k st₀)) st₀) ∙ whole
   where
@@ -59,7 +57,7 @@ component_pushed k sheet m {w₀} {w₁} {w₂} {h₀} {h₁} {h₂} {h₃} {row
     whole : blank (report m.findings (push_items (item ∷ []) [] (set_table k (pushed m (table_of k (state_in sheet w₀ h₀))) (state_in sheet w₀ h₀)))) ≡ blank (push_component k m [] (state_in sheet w₀ h₀))
     whole = unfold push_component in refl
 
-pub component_sound : {k : Kind} {w₁ w₂ : List ℕ} {h₁ h₂ h₃ : Held} {row : Row} {to : Found} → ComponentAdded k w₁ h₁ row to w₂ h₂ → ItemsPushed 1 h₂ h₃ → Sound w₂ h₃
+pub component_sound : {k : Kind} {w₁ w₂ : List ℕ} {h₁ h₂ h₃ : Held} {row : Row} {to : Option ℕ} → ComponentAdded k w₁ h₁ row to w₂ h₂ → ItemsPushed 1 h₂ h₃ → Sound w₂ h₃
 component_sound {w₂ = w₂} a i = (i.by (ingredient_item 0 ∷ []) refl).sound w₂ a.sound
 
 -- what refers to no reference goes on

@@ -4,26 +4,23 @@
 ghost use Rattle.std.specs.Prelude.{◌≡◌, ◌||◌};
 ghost use Rattle.rules.specs.Model.{either, both, with_ref, inherits};
 ghost use Rattle.components.specs.Views.{modifiers_in};
-ghost use Rattle.lookup.specs.Names.{kind_of};
 ghost use Rattle.new_rows.specs.Rows.{RowMade};
+ghost use Rattle.model.specs.Kinds.{kind_of};
 
 use components::Modifiers;
-use model::{RelationRecord, Row};
+use model::{Kind, RelationRecord, Row};
 
 fn joined(a: bool, b: bool) -> bool
     ensures { result ≡ (a || b) }
 {
-    if a {
-        return true;
-    }
-    b
+    a || b
 }
 
 // REF, its own modifiers `m`, and those that the definition's `d` hand down.
-pub fn referring_modifiers(is_ingredient: bool, m: Modifiers, d: Modifiers) -> Modifiers
-    ensures { modifiers_in result ≡ with_ref (either (modifiers_in m) (both (modifiers_in d) (inherits (kind_of is_ingredient)))) }
+pub fn referring_modifiers(kind: Kind, m: Modifiers, d: Modifiers) -> Modifiers
+    ensures { modifiers_in result ≡ with_ref (either (modifiers_in m) (both (modifiers_in d) (inherits (kind_of kind)))) }
 {
-    let b = reference_findings::handed_down(is_ingredient, d);
+    let b = reference_findings::handed_down(kind, d);
     let recipe = joined(m.recipe, b.recipe);
     let hidden = joined(m.hidden, b.hidden);
     let opt = joined(m.opt, b.opt);

@@ -3,7 +3,7 @@ use Prim.Native.Nat.{ℕ, ◌+◌, ◌/◌, ◌%◌, ◌^◌, ◌≤◌, ◌<◌
 use mathlib.Core.Path.{◌≡◌, refl, ◌∙◌}
 use mathlib.Core.List.{List, [], ◌∷◌, ◌++◌, append_assoc, append-nil}
 use native.Mathlib.Numerals.{add-one}
-use borrow.Author.Tests.{eq-eqb, ne_eqb}
+use borrow.Author.Tests.{ne_eqb}
 use lib.ListN.{length, get_or, drop, drop_of_length-le}
 use lib.Seq.{drop-cons}
 use Rattle.rules.specs.Basic.{codes, tab, lf, join_by, each, decimal}
@@ -33,15 +33,15 @@ decimal_next {n} f h p q = rw (decimal_more n f h) (put_seq p q)
 -- ---- escapes
 pub char_backslash : (c : ℕ) → c ≡ 92 → escape_char c ≡ 92 ∷ 92 ∷ []
 unfolding escape_char
-char_backslash c q = simp (eq-eqb c 92 q)
+char_backslash c q = rw q
 
-pub char_tab : (c : ℕ) → (c ≡ 92 → ⊥) → c ≡ 9 → escape_char c ≡ 92 ∷ 116 ∷ []
+pub char_tab : (c : ℕ) → c ≡ 9 → escape_char c ≡ 92 ∷ 116 ∷ []
 unfolding escape_char
-char_tab c n q = simp (ne_eqb c 92 n, eq-eqb c 9 q)
+char_tab c q = rw q
 
-pub char_lf : (c : ℕ) → (c ≡ 92 → ⊥) → (c ≡ 9 → ⊥) → c ≡ 10 → escape_char c ≡ 92 ∷ 110 ∷ []
+pub char_lf : (c : ℕ) → c ≡ 10 → escape_char c ≡ 92 ∷ 110 ∷ []
 unfolding escape_char
-char_lf c n m q = simp (ne_eqb c 92 n, ne_eqb c 9 m, eq-eqb c 10 q)
+char_lf c q = rw q
 
 pub char_plain : (c : ℕ) → (c ≡ 92 → ⊥) → (c ≡ 9 → ⊥) → (c ≡ 10 → ⊥) → escape_char c ≡ c ∷ []
 unfolding escape_char

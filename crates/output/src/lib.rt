@@ -23,10 +23,7 @@ pub fn put_byte(out: &mut [u8], at: usize, b: u8) -> usize
 fn has_room(n: usize, at: usize, k: usize) -> bool
     ensures { result ≡ leb (at + k) n }
 {
-    if n < at {
-        return false;
-    }
-    k <= n - at
+    at <= n && k <= n - at
 }
 
 // A text for which there is room.
@@ -88,16 +85,12 @@ fn put_pair(out: &mut [u8], at: usize, letter: u8) -> usize
 fn put_escaped_byte(out: &mut [u8], at: usize, c: u8) -> usize
     ensures { Put (escape_char c) out.old at out.new result }
 {
-    if c == b'\\' {
-        return put_pair(out, at, b'\\');
+    match c {
+        b'\\' => put_pair(out, at, b'\\'),
+        b'\t' => put_pair(out, at, b't'),
+        b'\n' => put_pair(out, at, b'n'),
+        _ => put_byte(out, at, c),
     }
-    if c == b'\t' {
-        return put_pair(out, at, b't');
-    }
-    if c == b'\n' {
-        return put_pair(out, at, b'n');
-    }
-    put_byte(out, at, c)
 }
 
 // A field, escaped byte by byte: for short fields.

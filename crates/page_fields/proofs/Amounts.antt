@@ -2,7 +2,7 @@
 use Prim.Native.Nat.{ℕ}
 use mathlib.Core.Path.{◌≡◌}
 use mathlib.Core.Bool.{Bool, true, false, not}
-use mathlib.Core.Option.{some}
+use Rattle.std.specs.Prelude.{Some, None, Option}
 use mathlib.Core.List.{List, [], ◌∷◌}
 use borrow.Author.Tests.{not-true, not-false}
 use Rattle.rules.specs.Basic.{pick, codes, on_some}
@@ -12,14 +12,13 @@ use Rattle.rules.specs.Page.{optional, amount_fields}
 use Rattle.rules.specs.Write.{kind_field}
 use Rattle.output.specs.Put.{Put, tabbed}
 use Rattle.output.proofs.Texts.{put_fields}
-use Rattle.parts.specs.declared.ValueKind.{ValueKind}
-use Rattle.parts.specs.declared.ValueKind.TheVariants as kind
+use Rattle.sheet.specs.declared.ValueKind.{ValueKind}
+use Rattle.sheet.specs.declared.ValueKind.TheVariants as kind
 use Rattle.parts.specs.declared.QuantityView.{QuantityView}
-use Rattle.parts.specs.declared.OptQuantity.{OptQuantity}
-use Rattle.parts.specs.declared.OptQuantity.TheVariants.{Absent, Present}
-use Rattle.parts.specs.Views.{content_in, opt_text_in, kind_in, quantity_in, opt_quantity_in}
+use Rattle.parts.specs.Views.{content_in, opt_text_in, quantity_in, opt_quantity_in}
 use Rattle.known_events.specs.Fields.{QuantityFields, OptQuantityFields}
 use Rattle.page_fields.specs.Letters.{scalable}
+use Rattle.sheet.specs.Words.{kind_in}
 
 -- ---- kinds
 
@@ -64,7 +63,7 @@ module _ {b : Bool} {o₀ o : List ℕ} {at r : ℕ} where
 
 -- ---- all its fields
 
-pub put_quantity : {o₀ o₁ o₂ o₃ o₄ : List ℕ} {at l m n r : ℕ} (line : List ℕ) (v : QuantityView) (b : Bool) {s : Bool} → Put (tabbed (kind_field (kind_in v.kind) ∷ [])) o₀ at o₁ l → Put (tabbed (encode (content_in line v.value) ∷ [])) o₁ l o₂ m → Put (tabbed (optional (on_some trimmed_text (opt_text_in line v.unit)) ∷ [])) o₂ m o₃ n → s ≡ scalable b (kind_in v.kind) v.lock → Put (tabbed (pick s (codes "s") (codes "f") ∷ [])) o₃ n o₄ r → Put (tabbed (amount_fields (some (amount_of b (quantity_in line v))))) o₀ at o₄ r
+pub put_quantity : {o₀ o₁ o₂ o₃ o₄ : List ℕ} {at l m n r : ℕ} (line : List ℕ) (v : QuantityView) (b : Bool) {s : Bool} → Put (tabbed (kind_field (kind_in v.kind) ∷ [])) o₀ at o₁ l → Put (tabbed (encode (content_in line v.value) ∷ [])) o₁ l o₂ m → Put (tabbed (optional (on_some trimmed_text (opt_text_in line v.unit)) ∷ [])) o₂ m o₃ n → s ≡ scalable b (kind_in v.kind) v.lock → Put (tabbed (pick s (codes "s") (codes "f") ∷ [])) o₃ n o₄ r → Put (tabbed (amount_fields (Some (amount_of b (quantity_in line v))))) o₀ at o₄ r
 unfolding amount_fields amount_of quantity_in scalable
 put_quantity line v b w x y e z =
     let k : List ℕ = kind_field (kind_in v.kind) in
@@ -72,16 +71,16 @@ put_quantity line v b w x y e z =
     let u : List ℕ = optional (on_some trimmed_text (opt_text_in line v.unit)) in
     put_fields (k ∷ c ∷ u ∷ []) _ (put_fields (k ∷ c ∷ []) (u ∷ []) (put_fields (k ∷ []) (c ∷ []) w x) y) (rw e at z)
 
-module _ (line : List ℕ) {q : OptQuantity} where
-  pub amount_fields_lem : {v : QuantityView} → q ≡ Present v → OptQuantityFields line q → QuantityFields line v
+module _ (line : List ℕ) {q : Option QuantityView} where
+  pub amount_fields_lem : {v : QuantityView} → q ≡ Some v → OptQuantityFields line q → QuantityFields line v
   unfolding OptQuantityFields
   amount_fields_lem e h = rw e at h
 
   module _ (b : Bool) {o₀ o : List ℕ} {at r : ℕ} where
-    pub amount_absent : q ≡ Absent → Put (tabbed (codes "-" ∷ [])) o₀ at o r → Put (tabbed (amount_fields (on_some (amount_of b) (opt_quantity_in line q)))) o₀ at o r
+    pub amount_absent : q ≡ None → Put (tabbed (codes "-" ∷ [])) o₀ at o r → Put (tabbed (amount_fields (on_some (amount_of b) (opt_quantity_in line q)))) o₀ at o r
     unfolding amount_fields on_some opt_quantity_in
     amount_absent e x = rw e x
 
-    pub amount_present : {v : QuantityView} → q ≡ Present v → Put (tabbed (amount_fields (some (amount_of b (quantity_in line v))))) o₀ at o r → Put (tabbed (amount_fields (on_some (amount_of b) (opt_quantity_in line q)))) o₀ at o r
+    pub amount_present : {v : QuantityView} → q ≡ Some v → Put (tabbed (amount_fields (Some (amount_of b (quantity_in line v))))) o₀ at o r → Put (tabbed (amount_fields (on_some (amount_of b) (opt_quantity_in line q)))) o₀ at o r
     unfolding on_some opt_quantity_in
     amount_present e x = rw e x

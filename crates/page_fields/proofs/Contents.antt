@@ -1,7 +1,7 @@
 -- Contents of a line on a page: the field of a content is spelled as it stands in the line.
 use Prim.Native.Nat.{ℕ}
 use mathlib.Core.Path.{◌≡◌, ap, ◌∙◌}
-use mathlib.Core.Option.{Option, none, some}
+use Rattle.std.specs.Prelude.{Option, None, Some}
 use mathlib.Core.List.{List, [], ◌∷◌, ◌++◌}
 use Rattle.rules.specs.Basic.{codes, tab, on_some}
 use Rattle.rules.specs.Sheet.{unescape, escape_char, escape}
@@ -23,15 +23,13 @@ use Rattle.text.specs.Trims.{PutTrimmed}
 use Rattle.text.proofs.Writes.{put_spelled}
 use Rattle.parts.specs.declared.Part.{Part}
 use Rattle.parts.specs.declared.TextView.{TextView}
-use Rattle.parts.specs.declared.OptText.{OptText}
-use Rattle.parts.specs.declared.OptText.TheVariants.{Absent, Present}
 use Rattle.parts.specs.Views.{part_of, or_empty, bytes_in, content_in, text_in, opt_text_in}
 use Rattle.known_events.specs.Fields.{TextField, OptTextField}
 
-content_is : (o : Option (List ℕ)) {x : List ℕ} → on_some chars o ≡ some x → chars (or_empty o) ≡ x
+content_is : (o : Option (List ℕ)) {x : List ℕ} → on_some chars o ≡ Some x → chars (or_empty o) ≡ x
 unfolding on_some or_empty
-content_is none e = no_some e
-content_is (some u) e = some_inj e
+content_is None e = no_some e
+content_is (Some u) e = some_inj e
 
 module _ (line : List ℕ) (p : Part) (h : Field (part_of line p)) where
   -- the content of a part that is a whole field
@@ -49,21 +47,21 @@ module _ (line : List ℕ) (p : Part) (h : Field (part_of line p)) where
 -- ---- optional texts
 
 -- a string after its `=`
-pub field_some : (s : List ℕ) → tabbed (optional (some s) ∷ []) ≡ (tab ∷ 61 ∷ []) ++ spell s
+pub field_some : (s : List ℕ) → tabbed (optional (Some s) ∷ []) ≡ (tab ∷ 61 ∷ []) ++ spell s
 unfolding optional escape escape_char
 field_some s = tabbed_one (61 ∷ encode s)
 
-module _ (line : List ℕ) {o : OptText} where
-  pub present_field : {v : TextView} → o ≡ Present v → OptTextField line o → Field (part_of line v.content)
+module _ (line : List ℕ) {o : Option TextView} where
+  pub present_field : {v : TextView} → o ≡ Some v → OptTextField line o → Field (part_of line v.content)
   unfolding OptTextField TextField
   present_field {v} e h = rw e at h
 
   module _ {o₀ : List ℕ} {at : ℕ} where
-    pub put_absent : {o₁ : List ℕ} {r : ℕ} → o ≡ Absent → Put (tabbed (codes "-" ∷ [])) o₀ at o₁ r → Put (tabbed (optional (on_some trimmed_text (opt_text_in line o)) ∷ [])) o₀ at o₁ r
+    pub put_absent : {o₁ : List ℕ} {r : ℕ} → o ≡ None → Put (tabbed (codes "-" ∷ [])) o₀ at o₁ r → Put (tabbed (optional (on_some trimmed_text (opt_text_in line o)) ∷ [])) o₀ at o₁ r
     unfolding optional on_some opt_text_in
     put_absent e x = rw e x
 
-    pub put_present : {v : TextView} {f o₁ o₂ : List ℕ} {n r : ℕ} → o ≡ Present v → OptTextField line o → Put (tab ∷ 61 ∷ []) o₀ at o₁ n → f ≡ part_of line v.content → PutTrimmed f o₁ n o₂ r → Put (tabbed (optional (on_some trimmed_text (opt_text_in line o)) ∷ [])) o₀ at o₂ r
+    pub put_present : {v : TextView} {f o₁ o₂ : List ℕ} {n r : ℕ} → o ≡ Some v → OptTextField line o → Put (tab ∷ 61 ∷ []) o₀ at o₁ n → f ≡ part_of line v.content → PutTrimmed f o₁ n o₂ r → Put (tabbed (optional (on_some trimmed_text (opt_text_in line o)) ∷ [])) o₀ at o₂ r
     unfolding on_some opt_text_in text_in trimmed_text
     put_present {v} {f} {o₁} {o₂} {n} {r} e h x q y =
         let g = present_field e h in

@@ -2,8 +2,7 @@
 // optional texts, quantities, modifiers.
 #![tactic(auto)]
 
-ghost use Rattle.std.specs.Prelude.{◌≡◌, [], ◌∷◌};
-ghost use Rattle.std.proofs.Math.Option.{some};
+ghost use Rattle.std.specs.Prelude.{◌≡◌, [], ◌∷◌, Some};
 ghost use Rattle.rules.specs.Basic.{pick, codes, when, is_empty, on_some};
 ghost use Rattle.rules.specs.Utf8.{encode};
 ghost use Rattle.rules.specs.Model.{trimmed_text, amount_of};
@@ -11,14 +10,16 @@ ghost use Rattle.rules.specs.Page.{optional, amount_fields};
 ghost use Rattle.rules.specs.Write.{kind_field, modifiers_field};
 ghost use Rattle.letters.specs.Tables.{unicode_tables};
 ghost use Rattle.output.specs.Put.{Put, tabbed};
+ghost use Rattle.sheet.specs.Words.{kind_in};
 ghost use Rattle.content.specs.Parts.{Field};
-ghost use Rattle.parts.specs.Views.{part_of, content_in, text_in, opt_text_in, kind_in, quantity_in, opt_quantity_in};
+ghost use Rattle.parts.specs.Views.{part_of, content_in, text_in, opt_text_in, quantity_in, opt_quantity_in};
 ghost use Rattle.components.specs.Views.{modifiers_in};
 ghost use Rattle.known_events.specs.Fields.{TextField, OptTextField, QuantityFields, OptQuantityFields};
 ghost use Rattle.page_fields.specs.Letters.{letters, scalable};
 
 use components::Modifiers;
-use parts::{OptQuantity, OptText, Part, QuantityView, TextView, ValueKind};
+use parts::{Part, QuantityView, TextView};
+use sheet::ValueKind;
 
 // ---- contents
 
@@ -40,13 +41,13 @@ pub fn put_text(out: &mut [u8], at: usize, line: &[u8], v: TextView) -> usize
 }
 
 // `-`, or `=` and the text trimmed.
-pub fn put_optional(t: &[u32], out: &mut [u8], at: usize, line: &[u8], o: OptText) -> usize
+pub fn put_optional(t: &[u32], out: &mut [u8], at: usize, line: &[u8], o: Option<TextView>) -> usize
     requires { (t.now ≡ unicode_tables) × OptTextField line.now o }
     ensures { Put (tabbed (optional (on_some trimmed_text (opt_text_in line.now o)) ∷ [])) out.old at out.new result }
 {
     match o {
-        OptText::Absent => output::put_field(out, at, b"-"),
-        OptText::Present(v) => {
+        None => output::put_field(out, at, b"-"),
+        Some(v) => {
             let n = output::put_bytes(out, at, b"\t=");
             let f = parts::part_of(line, v.content);
             text::put_text_trimmed(t, out, n, f)
@@ -99,7 +100,7 @@ fn put_quantity(
     of_ingredient: bool,
 ) -> usize
     requires { (t.now ≡ unicode_tables) × QuantityFields line.now v }
-    ensures { Put (tabbed (amount_fields (some (amount_of of_ingredient (quantity_in line.now v))))) out.old at out.new result }
+    ensures { Put (tabbed (amount_fields (Some (amount_of of_ingredient (quantity_in line.now v))))) out.old at out.new result }
 {
     let kind = v.kind;
     let unit = v.unit;
@@ -116,15 +117,15 @@ pub fn put_amount(
     out: &mut [u8],
     at: usize,
     line: &[u8],
-    q: OptQuantity,
+    q: Option<QuantityView>,
     of_ingredient: bool,
 ) -> usize
     requires { (t.now ≡ unicode_tables) × OptQuantityFields line.now q }
     ensures { Put (tabbed (amount_fields (on_some (amount_of of_ingredient) (opt_quantity_in line.now q)))) out.old at out.new result }
 {
     match q {
-        OptQuantity::Absent => output::put_field(out, at, b"-"),
-        OptQuantity::Present(v) => put_quantity(t, out, at, line, v, of_ingredient),
+        None => output::put_field(out, at, b"-"),
+        Some(v) => put_quantity(t, out, at, line, v, of_ingredient),
     }
 }
 

@@ -3,7 +3,7 @@ use Prim.Native.Nat.{ℕ}
 use mathlib.Core.Path.{◌≡◌, refl, sym, ap, ◌∙◌, subst}
 use mathlib.Core.List.{List, [], ◌∷◌, ◌++◌}
 use mathlib.Core.Bool.{Bool, true, false}
-use mathlib.Core.Option.{none}
+use Rattle.std.specs.Prelude.{None, Option, Some}
 use native.Mathlib.Omega.{arith}
 use borrow.Author.Tests.{le-leb}
 use lib.ListN.{length}
@@ -23,16 +23,11 @@ use Rattle.content.specs.Contents.{spell}
 use Rattle.parts.specs.Views.{span_in, text_in, opt_text_in}
 use Rattle.parts.specs.declared.Span.{Span}
 use Rattle.parts.specs.declared.TextView.{TextView}
-use Rattle.parts.specs.declared.OptText.{OptText}
-use Rattle.parts.specs.declared.OptText.TheVariants as text
-use Rattle.parts.specs.declared.OptQuantity.{OptQuantity}
 use Rattle.components.specs.declared.ComponentView.{ComponentView}
-use Rattle.components.specs.declared.OptIntermediate.{OptIntermediate}
 use Rattle.events.specs.Views.{component_event_in}
 use Rattle.events.specs.declared.ComponentEvent.{ComponentEvent}
 use Rattle.events.specs.declared.ComponentEvent.TheVariants as component
 use Rattle.known_events.specs.Fields.{OptTextField}
-use Rattle.model.specs.Memory.{define_of}
 use Rattle.model.specs.declared.Open.{Open}
 use Rattle.model.specs.declared.Open.TheVariants as block
 use Rattle.blocks.specs.Lined.{SpanOf}
@@ -42,6 +37,9 @@ use Rattle.step_lines.specs.declared.TextItems.{TextItems}
 use Rattle.following.specs.Drawn.{keeps, section_line, lead, start_adds, component_item, unless_components, inside_adds, quantities_in, quantities_added}
 use Rattle.following.specs.declared.Follow.{Follow}
 use Rattle.page_parts.specs.Drawing.{ItemDrawn, EndDrawn, ComponentDrawn, TextDrawn}
+use Rattle.parts.specs.declared.QuantityView.{QuantityView}
+use Rattle.components.specs.declared.Intermediate.{Intermediate}
+use Rattle.sheet.specs.Words.{define_of}
 
 -- what is written of a variant is written of a value that is the variant
 pub put_arm : {A : Type 0} (g : A → List ℕ) {x : A} (y : A) {o₀ o : List ℕ} {at r : ℕ} → x ≡ y → Put (g y) o₀ at o r → Put (g x) o₀ at o r
@@ -55,7 +53,7 @@ put_nothing {o} = record { bytes = refl; next = rw (le-leb 0 (length o) (omega a
 -- ---- `start`
 
 -- what a `start` adds where the block is kept
-start_is : (f : Follow) (b : Open) {k : Bool} → k ≡ keeps f.define b → (s : Bool) → k ≡ true → f.shown ≡ s → start_adds f b ≡ pick s [] (section_line none) ++ lead f.counter b
+start_is : (f : Follow) (b : Open) {k : Bool} → k ≡ keeps f.define b → (s : Bool) → k ≡ true → f.shown ≡ s → start_adds f b ≡ pick s [] (section_line None) ++ lead f.counter b
 unfolding start_adds
 start_is f b e s q z = rw (sym e ∙ q, z)
 
@@ -63,7 +61,7 @@ module _ (f : Follow) (b : Open) {o₀ o : List ℕ} {r : ℕ} {k : Bool} (e : k
   pub start_shown : k ≡ true → f.shown ≡ true → Put (lead f.counter b) o₀ 0 o r → Put (start_adds f b) o₀ 0 o r
   start_shown q z p = text_is (start_adds f b) (start_is f b e true q z) p
 
-  pub start_first : k ≡ true → f.shown ≡ false → {o₁ : List ℕ} {n : ℕ} → Put (line_of (codes "section" ∷ optional none ∷ [])) o₀ 0 o₁ n → Put (lead f.counter b) o₁ n o r → Put (start_adds f b) o₀ 0 o r
+  pub start_first : k ≡ true → f.shown ≡ false → {o₁ : List ℕ} {n : ℕ} → Put (line_of (codes "section" ∷ optional None ∷ [])) o₀ 0 o₁ n → Put (lead f.counter b) o₁ n o r → Put (start_adds f b) o₀ 0 o r
   unfolding section_line
   start_first q z p w = text_is (start_adds f b) (start_is f b e false q z) (put_seq p w)
 
@@ -73,21 +71,21 @@ start_dropped f b e q = text_is (start_adds f b) (rw (sym e ∙ q)) put_nothing
 
 -- ---- `section`
 
-abbrev pub named_adds : List ℕ → OptText → List ℕ
+abbrev pub named_adds : List ℕ → Option TextView → List ℕ
 named_adds line n = pick (is_some (opt_text_in line n)) (section_line (on_some trimmed_text (opt_text_in line n))) []
 
-pub named_none : (line : List ℕ) {n : OptText} {o : List ℕ} → n ≡ text.Absent → Put (named_adds line n) o 0 o 0
+pub named_none : (line : List ℕ) {n : Option TextView} {o : List ℕ} → n ≡ None → Put (named_adds line n) o 0 o 0
 unfolding opt_text_in is_some
-named_none line q = put_arm (named_adds line) text.Absent q put_nothing
+named_none line q = put_arm (named_adds line) None q put_nothing
 
-named_is : (line : List ℕ) (v : TextView) → named_adds line (text.Present v) ≡ section_line (on_some trimmed_text (opt_text_in line (text.Present v)))
+named_is : (line : List ℕ) (v : TextView) → named_adds line (Some v) ≡ section_line (on_some trimmed_text (opt_text_in line (Some v)))
 unfolding opt_text_in is_some
 named_is line v = refl
 
-pub named_some : (line : List ℕ) {n : OptText} (v : TextView) {o₀ o : List ℕ} {r : ℕ} → n ≡ text.Present v → Put (section_line (on_some trimmed_text (opt_text_in line (text.Present v)))) o₀ 0 o r → Put (named_adds line n) o₀ 0 o r
-named_some line v q p = put_arm (named_adds line) (text.Present v) q (text_is (named_adds line (text.Present v)) (named_is line v) p)
+pub named_some : (line : List ℕ) {n : Option TextView} (v : TextView) {o₀ o : List ℕ} {r : ℕ} → n ≡ Some v → Put (section_line (on_some trimmed_text (opt_text_in line (Some v)))) o₀ 0 o r → Put (named_adds line n) o₀ 0 o r
+named_some line v q p = put_arm (named_adds line) (Some v) q (text_is (named_adds line (Some v)) (named_is line v) p)
 
-pub named_field : (line : List ℕ) {n : OptText} (v : TextView) → n ≡ text.Present v → OptTextField line n → OptTextField line (text.Present v)
+pub named_field : (line : List ℕ) {n : Option TextView} (v : TextView) → n ≡ Some v → OptTextField line n → OptTextField line (Some v)
 named_field line v q z = subst (OptTextField line) q z
 
 -- ---- `end`
@@ -112,7 +110,7 @@ module _ {b : Open} where
 -- ---- components
 
 module _ {c : ComponentEvent} (f : Follow) {o₀ o : List ℕ} {r : ℕ} where
-  pub item_ingredient : (v : ComponentView) (i : OptIntermediate) → c ≡ component.Ingredient v i → PutItem (item_as item.Ingredient f.ingredients) o₀ o r → ItemDrawn c f o₀ o r
+  pub item_ingredient : (v : ComponentView) (i : Option Intermediate) → c ≡ component.Ingredient v i → PutItem (item_as item.Ingredient f.ingredients) o₀ o r → ItemDrawn c f o₀ o r
   unfolding component_item component_event_in item_as
   item_ingredient v i q p = record { at = λ line. put_arm (λ (x : ComponentEvent). item_line 0 (component_item (component_event_in line x) f)) (component.Ingredient v i) q (p.line 0) }
 
@@ -120,7 +118,7 @@ module _ {c : ComponentEvent} (f : Follow) {o₀ o : List ℕ} {r : ℕ} where
   unfolding component_item component_event_in item_as
   item_cookware v q p = record { at = λ line. put_arm (λ (x : ComponentEvent). item_line 0 (component_item (component_event_in line x) f)) (component.Cookware v) q (p.line 0) }
 
-  pub item_timer : (s : Span) (n : OptText) (a : OptQuantity) → c ≡ component.Timer s n a → PutItem (item_as item.Timer f.timers) o₀ o r → ItemDrawn c f o₀ o r
+  pub item_timer : (s : Span) (n : Option TextView) (a : Option QuantityView) → c ≡ component.Timer s n a → PutItem (item_as item.Timer f.timers) o₀ o r → ItemDrawn c f o₀ o r
   unfolding component_item component_event_in item_as
   item_timer s n a q p = record { at = λ line. put_arm (λ (x : ComponentEvent). item_line 0 (component_item (component_event_in line x) f)) (component.Timer s n a) q (p.line 0) }
 

@@ -1,4 +1,5 @@
 -- What a line adds to the sections, by its kind.
+use Rattle.std.specs.Prelude.{Option}
 use Prim.Native.Nat.{ℕ}
 use mathlib.Core.Path.{◌≡◌, refl, sym, ap, ◌∙◌, subst}
 use mathlib.Core.List.{List, []}
@@ -12,10 +13,9 @@ use Rattle.rules.specs.Answer.{is_good_span}
 use Rattle.rules.proofs.Basics.{and_left}
 use Rattle.output.specs.Put.{Put}
 use Rattle.parts.specs.declared.TextView.{TextView}
-use Rattle.parts.specs.declared.OptText.{OptText}
 use Rattle.components.specs.Views.{component_in}
-use Rattle.events.specs.Views.{block_in, between_in, component_event_in, inside_in, event_in}
-use Rattle.events.specs.declared.BlockKind.{BlockKind}
+use Rattle.events.specs.Views.{between_in, component_event_in, inside_in, event_in}
+use Rattle.sheet.specs.declared.BlockKind.{BlockKind}
 use Rattle.events.specs.declared.Between.{Between}
 use Rattle.events.specs.declared.Between.TheVariants as between
 use Rattle.events.specs.declared.ComponentEvent.{ComponentEvent}
@@ -32,6 +32,7 @@ use Rattle.following.specs.Drawn.{opens_as, start_adds, inside_adds, sections_ad
 use Rattle.following.specs.declared.Follow.{Follow}
 use Rattle.page_parts.specs.Drawing.{EndDrawn, ComponentDrawn, TextDrawn, BetweenDrawn, InsideDrawn, SectionsDrawn}
 use Rattle.page_parts.proofs.Arms.{put_arm, put_nothing, named_adds}
+use Rattle.sheet.specs.Words.{block_in}
 
 -- ---- between blocks
 
@@ -40,7 +41,7 @@ module _ (line : List ℕ) {b : Between} (f : Follow) where
   unfolding sections_add between_in
   between_meta k v q = record { at = λ text units flags. put_arm (λ (x : Between). sections_add text units flags (rules.between (between_in line x)) f) (between.Meta k v) q put_nothing }
 
-  pub between_section : (n : OptText) {o₀ o : List ℕ} {r : ℕ} → b ≡ between.Section n → Put (named_adds line n) o₀ 0 o r → BetweenDrawn line b f o₀ o r
+  pub between_section : (n : Option TextView) {o₀ o : List ℕ} {r : ℕ} → b ≡ between.Section n → Put (named_adds line n) o₀ 0 o r → BetweenDrawn line b f o₀ o r
   unfolding sections_add between_in
   between_section n q p = record { at = λ text units flags. put_arm (λ (x : Between). sections_add text units flags (rules.between (between_in line x)) f) (between.Section n) q p }
 
@@ -48,7 +49,7 @@ module _ (line : List ℕ) {b : Between} (f : Follow) where
   unfolding sections_add between_in
   between_start k {x} q e p = record { at = λ text units flags. put_arm (λ (y : Between). sections_add text units flags (rules.between (between_in line y)) f) (between.Start k) q (put_arm (start_adds f) x (sym e) p) }
 
-pub section_field : (line : List ℕ) {b : Between} (n : OptText) → b ≡ between.Section n → BetweenFields line b → OptTextField line n
+pub section_field : (line : List ℕ) {b : Between} (n : Option TextView) → b ≡ between.Section n → BetweenFields line b → OptTextField line n
 unfolding BetweenFields
 section_field line n q z = subst (BetweenFields line) q z
 

@@ -21,7 +21,7 @@ ghost use Rattle.page_parts.specs.Drawing.{ItemDrawn, EndDrawn, ComponentDrawn, 
 use events::{Between, ComponentEvent, EventView, Inside};
 use following::Follow;
 use model::Open;
-use parts::{OptText, TextView};
+use parts::TextView;
 use step_lines::{ItemKind, TextItems};
 
 // The first bytes of a block.
@@ -62,13 +62,13 @@ fn start_line(rest: &mut [u8], f: Follow, b: Open) -> usize
 }
 
 // A `section`: one without a name is drawn with its first block.
-fn named_line(t: &[u32], rest: &mut [u8], line: &[u8], name: OptText) -> usize
+fn named_line(t: &[u32], rest: &mut [u8], line: &[u8], name: Option<TextView>) -> usize
     requires { (t.now ≡ unicode_tables) × OptTextField line.now name }
     ensures { Put (pick (is_some (opt_text_in line.now name)) (section_line (on_some trimmed_text (opt_text_in line.now name))) []) rest.old 0 rest.new result }
 {
     match name {
-        OptText::Absent => 0,
-        OptText::Present(v) => step_lines::section_line(t, rest, line, name),
+        None => 0,
+        Some(v) => step_lines::section_line(t, rest, line, name),
     }
 }
 

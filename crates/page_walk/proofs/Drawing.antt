@@ -2,7 +2,7 @@
 use Prim.Native.Nat.{ℕ, ◌+◌, ◌-◌, ◌≤◌, ◌<◌, ◌^◌}
 use mathlib.Core.Path.{◌≡◌, refl, sym, ap, ◌∙◌, subst}
 use mathlib.Core.List.{List, [], ◌∷◌, ◌++◌, append-nil, append_assoc}
-use mathlib.Core.Option.{some}
+use Rattle.std.specs.Prelude.{Some, None, Option}
 use native.Mathlib.Omega.{arith}
 use native.Mathlib.Numerals.{add-one}
 use lib.ListN.{length, take, drop, length-take}
@@ -16,8 +16,6 @@ use Rattle.rules.specs.Answer.{events, events_or, units_or, read_from, read_shee
 use Rattle.output.specs.Put.{Put}
 use Rattle.output.proofs.Puts.{put_seq, put_past, put_most, put_rest, rest_fits, keeps}
 use Rattle.output.proofs.Texts.{text_is}
-use Rattle.sheet.specs.declared.LineEnd.{LineEnd}
-use Rattle.sheet.specs.declared.LineEnd.TheVariants.{At, Nothing}
 use Rattle.sheet.specs.Lines.{LineAt}
 use Rattle.reading.proofs.Passes.{Rest, rest_ends, rest_ended, First}
 use Rattle.following.specs.declared.Part.{Part}
@@ -118,7 +116,7 @@ module _ (text : List ℕ) (units : List NamedUnit) (flags : ℕ) (bytes : List 
         let e : length o + 1 ≡ n = omega (arith, put_most d.put, keeps d.put) in
         text_is (drawn p final) m.is (put_seq d.put (subst (λ (x : ℕ). Put m.more o n o x) e (put_past m.more o n h)))
 
-    module _ {r : LineEnd} (l : LineAt bytes at r) {end : ℕ} (q : r ≡ At end) {e : Event} (k : parse_line (take (end - at) (drop at bytes)) ≡ some e) where
+    module _ {r : Option ℕ} (l : LineAt bytes at r) {end : ℕ} (q : r ≡ Some end) {e : Event} (k : parse_line (take (end - at) (drop at bytes)) ≡ Some e) where
       first : First e (read_from text (length text) (d.number + 1) (lines (drop (end + 1) bytes))) d.es
       first = line_first d.rest l q e k
 
@@ -183,11 +181,11 @@ module _ {sheet text units index : List ℕ} {flags : ℕ} (i : PassInputs sheet
     now_at : Drawing text us flags sheet p i.final o₀ at₀ at f o n
     now_at = d.by i.final i.goes
 
-    module _ {r : LineEnd} (l : LineAt sheet at r) where
-      pub walked_cut : {P : Type 0} → at < length sheet → r ≡ Nothing → P
+    module _ {r : Option ℕ} (l : LineAt sheet at r) where
+      pub walked_cut : {P : Type 0} → at < length sheet → r ≡ None → P
       walked_cut h q = rest_ended now_at.rest l h q
 
-      module _ {end : ℕ} (q : r ≡ At end) where
+      module _ {end : ℕ} (q : r ≡ Some end) where
         abbrev line : List ℕ
         line = take (end - at) (drop at sheet)
 

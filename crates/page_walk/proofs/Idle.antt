@@ -3,7 +3,7 @@ use Prim.Native.Nat.{ℕ, suc, ◌+◌, ◌≤◌, ◌<◌}
 use mathlib.Core.Path.{◌≡◌, refl, sym, ap, ◌∙◌, subst}
 use mathlib.Core.Bool.{Bool, true, false, not}
 use mathlib.Core.List.{List, [], ◌∷◌}
-use mathlib.Core.Option.{some}
+use Rattle.std.specs.Prelude.{Some}
 use native.Mathlib.Omega.{arith}
 use borrow.Author.Tests.{eq-eqb, ne_eqb}
 use lib.Dec.{eqb}
@@ -156,7 +156,7 @@ unfolding with_inline
 counted x c = record { counter = c.counter; ingredients = c.ingredients; cookware = c.cookware; timers = c.timers }
 
 module _ {text : List ℕ} {units : List NamedUnit} {flags : ℕ} {p : Part} {line : List ℕ} {f : Follow} where
-  idle_line : Without lf line → true ≡ is_idle p line → (e : Event) → parse_line line ≡ some e → Idle text units flags p e f
+  idle_line : Without lf line → true ≡ is_idle p line → (e : Event) → parse_line line ≡ Some e → Idle text units flags p e f
   unfolding is_idle
   idle_line w h e q = idle_by text units flags p e f (sym (h ∙ ap (is_idle p) (line_begins w q).is))
 
@@ -173,7 +173,7 @@ module _ {text : List ℕ} {units : List NamedUnit} {flags : ℕ} {p : Part} {li
       more : (e : Event) → tracked p (length (quantities_added units flags e f)) ≡ 0 → f.inline ≡ f.inline + tracked p (length (quantities_added units flags e f))
       more e z = omega (arith, z)
 
-  pub turn_read : {o₀ o : List ℕ} {r : Turn} {e : Event} → parse_line line ≡ some e → LineTaken text units flags p line f o₀ o r → TurnTaken text units flags p line f o₀ o r
+  pub turn_read : {o₀ o : List ℕ} {r : Turn} {e : Event} → parse_line line ≡ Some e → LineTaken text units flags p line f o₀ o r → TurnTaken text units flags p line f o₀ o r
   turn_read {r = r} {e = e₀} k l =
       record {
         put = l.put;

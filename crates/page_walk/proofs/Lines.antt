@@ -3,7 +3,7 @@ use Prim.Native.Nat.{ℕ, suc, ◌+◌, ◌-◌}
 use mathlib.Core.Path.{◌≡◌, refl, sym, ap, ◌∙◌}
 use mathlib.Core.List.{List}
 use mathlib.Core.Bool.{Bool, true, false}
-use mathlib.Core.Option.{Option, none, some}
+use Rattle.std.specs.Prelude.{Option, None, Some}
 use native.Mathlib.Omega.{arith}
 use lib.Dec.{ltb}
 use lib.ListN.{length, take, drop}
@@ -12,8 +12,6 @@ use Rattle.rules.specs.Sheet.{Lines, lines}
 use Rattle.rules.specs.Event.{Event, spans_of}
 use Rattle.rules.specs.Read.{parse_line}
 use Rattle.rules.specs.Answer.{Reading, events, unread, with_event, is_good_span, read_line, read_from}
-use Rattle.sheet.specs.declared.LineEnd.{LineEnd}
-use Rattle.sheet.specs.declared.LineEnd.TheVariants.{At}
 use Rattle.sheet.specs.Lines.{lines_from, LineAt}
 use Rattle.rules.proofs.Fields.{Without}
 use Rattle.rules.proofs.Basics.{no_truth}
@@ -26,15 +24,15 @@ no_events e = absurd (let z : ◌≡◌ {A = ℕ} 0 1 = cc in omega arith)
 
 known_of : (text : List ℕ) (number : ℕ) (o : Option Event) (rest : Reading) {es : List Event} → read_line text (length text) number o rest ≡ events es → is_some o ≡ true
 unfolding read_line is_some
-known_of text number none rest q = no_events q
-known_of text number (some e) rest q = refl
+known_of text number None rest q = no_events q
+known_of text number (Some e) rest q = refl
 
 chosen : (s t : Bool) (e : Event) (number : ℕ) (rest : Reading) (es : List Event) → pick s (unread 9 number) (pick t (with_event e rest) (unread 10 number)) ≡ events es → t ≡ true
 chosen true t e number rest es q = no_events q
 chosen false true e number rest es q = refl
 chosen false false e number rest es q = no_events q
 
-spans_of_lem : (text : List ℕ) (number : ℕ) (e : Event) (rest : Reading) {es : List Event} → read_line text (length text) number (some e) rest ≡ events es → all (is_good_span text (length text)) (spans_of e) ≡ true
+spans_of_lem : (text : List ℕ) (number : ℕ) (e : Event) (rest : Reading) {es : List Event} → read_line text (length text) number (Some e) rest ≡ events es → all (is_good_span text (length text)) (spans_of e) ≡ true
 unfolding read_line
 spans_of_lem text number e rest q = chosen (ltb 4096 number) (all (is_good_span text (length text)) (spans_of e)) e number rest _ q
 
@@ -51,11 +49,11 @@ first_chosen true t e number rest es q = no_events q
 first_chosen false true e number rest es q = first_of e rest es q
 first_chosen false false e number rest es q = no_events q
 
-first_read : (text : List ℕ) (number : ℕ) (e : Event) (rest : Reading) {es : List Event} → read_line text (length text) number (some e) rest ≡ events es → First e rest es
+first_read : (text : List ℕ) (number : ℕ) (e : Event) (rest : Reading) {es : List Event} → read_line text (length text) number (Some e) rest ≡ events es → First e rest es
 unfolding read_line
 first_read text number e rest q = first_chosen (ltb 4096 number) (all (is_good_span text (length text)) (spans_of e)) e number rest _ q
 
-module _ {text bytes : List ℕ} {at number : ℕ} {es : List Event} (w : Rest text bytes at number es) {r : LineEnd} (l : LineAt bytes at r) {end : ℕ} (q : r ≡ At end) where
+module _ {text bytes : List ℕ} {at number : ℕ} {es : List Event} (w : Rest text bytes at number es) {r : Option ℕ} (l : LineAt bytes at r) {end : ℕ} (q : r ≡ Some end) where
   split : read_line text (length text) number (parse_line (take (end - at) (drop at bytes))) (read_from text (length text) (suc number) (lines (drop (end + 1) bytes))) ≡ events es
   unfolding read_from lines_from
   split = sym (ap (λ (ls : Lines). read_from text (length text) number ls) (sym l.is ∙ ap (lines_from bytes at) q)) ∙ w.is
@@ -63,11 +61,11 @@ module _ {text bytes : List ℕ} {at number : ℕ} {es : List Event} (w : Rest t
   pub line_known : is_some (parse_line (take (end - at) (drop at bytes))) ≡ true
   line_known = known_of text number (parse_line (take (end - at) (drop at bytes))) _ split
 
-  pub line_spans : (e : Event) → parse_line (take (end - at) (drop at bytes)) ≡ some e → all (is_good_span text (length text)) (spans_of e) ≡ true
+  pub line_spans : (e : Event) → parse_line (take (end - at) (drop at bytes)) ≡ Some e → all (is_good_span text (length text)) (spans_of e) ≡ true
   line_spans e k = spans_of_lem text number e _ (rw k at split)
 
   -- its event is the first
-  pub line_first : (e : Event) → parse_line (take (end - at) (drop at bytes)) ≡ some e → First e (read_from text (length text) (number + 1) (lines (drop (end + 1) bytes))) es
+  pub line_first : (e : Event) → parse_line (take (end - at) (drop at bytes)) ≡ Some e → First e (read_from text (length text) (number + 1) (lines (drop (end + 1) bytes))) es
   line_first e k = rw (add-one number) (first_read text number e _ (rw k at split))
 
   pub line_whole : Without lf (take (end - at) (drop at bytes))
@@ -77,9 +75,9 @@ module _ {text bytes : List ℕ} {at number : ℕ} {es : List Event} (w : Rest t
 -- the event of a line that has one
 pub record EventIs (o : Option Event) : Type 0 where
   pub event : Event
-  pub is : o ≡ some event
+  pub is : o ≡ Some event
 
 pub event_is : (o : Option Event) → is_some o ≡ true → EventIs o
 unfolding is_some
-event_is none h = no_truth h
-event_is (some e) h = record { event = e; is = refl }
+event_is None h = no_truth h
+event_is (Some e) h = record { event = e; is = refl }

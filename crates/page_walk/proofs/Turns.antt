@@ -3,7 +3,7 @@ use Prim.Native.Nat.{ℕ, ◌+◌, ◌≤◌}
 use mathlib.Core.Path.{◌≡◌, sym, ap, ◌∙◌, subst}
 use mathlib.Core.Bool.{true}
 use mathlib.Core.List.{List}
-use mathlib.Core.Option.{some}
+use Rattle.std.specs.Prelude.{Some}
 use lib.ListN.{length}
 use Rattle.rules.specs.Basic.{all}
 use Rattle.rules.specs.Event.{Event, spans_of}
@@ -21,7 +21,7 @@ use Rattle.following.specs.Follow.{next_follow, with_inline, Followed}
 use Rattle.part_lines.specs.Drawing.{tracked, LineDrawn}
 use Rattle.page_walk.specs.Walk.{LineReady, LineTaken}
 
-some_inj : {a b : Event} → some a ≡ some b → a ≡ b
+some_inj : {a b : Event} → Some a ≡ Some b → a ≡ b
 some_inj e = cc
 
 module _ {text : List ℕ} {units : List NamedUnit} {flags : ℕ} {p : Part} {line : List ℕ} {f : Follow} {v : EventView} (k : KnownEvent line v) where

@@ -1,6 +1,5 @@
 -- What the second walk over an accepted sheet leaves.
-use Rattle.std.specs.Prelude.{ℕ, suc, ◌+◌, ◌≤◌, ◌<◌, ◌^◌, ◌≡◌, Bool, true, false, not, List, [], ◌∷◌, eqb, length}
-use Rattle.std.proofs.Math.Option.{some}
+use Rattle.std.specs.Prelude.{ℕ, suc, ◌+◌, ◌≤◌, ◌<◌, ◌^◌, ◌≡◌, Bool, true, false, not, List, [], ◌∷◌, eqb, length, Some}
 use Rattle.rules.specs.Basic.{lf, pick, all, is_some}
 use Rattle.rules.specs.Utf8.{is_utf8}
 use Rattle.rules.specs.Event as rules
@@ -18,7 +17,7 @@ use Rattle.following.specs.declared.Follow.{Follow}
 use Rattle.following.specs.declared.Part.{Part}
 use Rattle.following.specs.declared.Part.TheVariants.{Sections, Timers, Inline, Old}
 use Rattle.following.proofs.Walking.{Counts}
-use Rattle.model.specs.declared.Define.TheVariants as define
+use Rattle.sheet.specs.declared.Define.TheVariants as define
 use Rattle.model.specs.declared.Open.TheVariants as block
 use Rattle.part_lines.specs.Drawing.{tracked}
 use Rattle.page_walk.specs.declared.Turn.{Turn}
@@ -27,15 +26,15 @@ use Rattle.page_walk.specs.declared.Turn.{Turn}
 pub record LineReady (text : List ℕ) (units : List NamedUnit) (flags : ℕ) (p : Part) (line : List ℕ) (f : Follow) : Type 0 where
   pub known : is_some (parse_line line) ≡ true
   pub whole : Without lf line
-  pub spans : (e : rules.Event) → parse_line line ≡ some e → all (is_good_span text (length text)) (rules.spans_of e) ≡ true
+  pub spans : (e : rules.Event) → parse_line line ≡ Some e → all (is_good_span text (length text)) (rules.spans_of e) ≡ true
   pub room : Room f
-  pub few : (e : rules.Event) → parse_line line ≡ some e → f.inline + tracked p (length (quantities_added units flags e f)) ≤ 100000
+  pub few : (e : rules.Event) → parse_line line ≡ Some e → f.inline + tracked p (length (quantities_added units flags e f)) ≤ 100000
   pub short : f.inline + length line < 2 ^ 32
 
 -- the line is drawn, and r has the state after it
 pub record LineTaken (text : List ℕ) (units : List NamedUnit) (flags : ℕ) (p : Part) (line : List ℕ) (f : Follow) (o₀ o : List ℕ) (r : Turn) : Type 0 where
-  pub put : (e : rules.Event) → parse_line line ≡ some e → Put (added text units flags p e f) o₀ 0 o r.count
-  pub follow : (e : rules.Event) → parse_line line ≡ some e → r.follow ≡ with_inline (f.inline + tracked p (length (quantities_added units flags e f))) (next_follow flags e f)
+  pub put : (e : rules.Event) → parse_line line ≡ Some e → Put (added text units flags p e f) o₀ 0 o r.count
+  pub follow : (e : rules.Event) → parse_line line ≡ Some e → r.follow ≡ with_inline (f.inline + tracked p (length (quantities_added units flags e f))) (next_follow flags e f)
 
 -- ---- lines that a part's walk need not read
 
@@ -65,9 +64,9 @@ is_idle p (a ∷ b ∷ s) = is_idle_by p a b
 
 -- the line is drawn or passed over: r has what of the state after it the part's walk follows, and counts at most one more
 pub record TurnTaken (text : List ℕ) (units : List NamedUnit) (flags : ℕ) (p : Part) (line : List ℕ) (f : Follow) (o₀ o : List ℕ) (r : Turn) : Type 0 where
-  pub put : (e : rules.Event) → parse_line line ≡ some e → Put (added text units flags p e f) o₀ 0 o r.count
-  pub seen : (e : rules.Event) → parse_line line ≡ some e → view p r.follow ≡ view p (with_inline (f.inline + tracked p (length (quantities_added units flags e f))) (next_follow flags e f))
-  pub inline : (e : rules.Event) → parse_line line ≡ some e → r.follow.inline ≡ f.inline + tracked p (length (quantities_added units flags e f))
+  pub put : (e : rules.Event) → parse_line line ≡ Some e → Put (added text units flags p e f) o₀ 0 o r.count
+  pub seen : (e : rules.Event) → parse_line line ≡ Some e → view p r.follow ≡ view p (with_inline (f.inline + tracked p (length (quantities_added units flags e f))) (next_follow flags e f))
+  pub inline : (e : rules.Event) → parse_line line ≡ Some e → r.follow.inline ≡ f.inline + tracked p (length (quantities_added units flags e f))
   pub counts : {n : ℕ} → Counts n f → Counts (suc n) r.follow
 
 -- ---- the whole part

@@ -133,7 +133,7 @@ pub fn draw_part(
         if out.len() < n {
             return n;
         }
-        let sheet::LineEnd::At(end) = sheet::line_end(sheet, from) else {
+        let Some(end) = sheet::line_end(sheet, from) else {
             return n;
         };
         let r = line_turn(

@@ -3,7 +3,7 @@ use Prim.Native.Nat.{ℕ}
 use mathlib.Core.Path.{◌≡◌, refl, sym, ap, ◌∙◌, subst}
 use mathlib.Core.List.{List, []}
 use mathlib.Core.Bool.{Bool, true, false}
-use mathlib.Core.Option.{Option, none, some}
+use Rattle.std.specs.Prelude.{Option, None, Some}
 use lib.ListN.{length}
 use Rattle.rules.specs.Basic.{pick, word_in}
 use Rattle.rules.specs.Words.{DefineMode, define_key, duplicate_key, define_words}
@@ -19,12 +19,9 @@ use Rattle.output.proofs.Texts.{text_is}
 use Rattle.parts.specs.Views.{span_in, text_in, opt_text_in, opt_quantity_in, TextWithin}
 use Rattle.parts.specs.declared.Span.{Span}
 use Rattle.parts.specs.declared.TextView.{TextView}
-use Rattle.parts.specs.declared.OptText.{OptText}
-use Rattle.parts.specs.declared.OptQuantity.{OptQuantity}
 use Rattle.components.specs.declared.ComponentView.{ComponentView}
-use Rattle.components.specs.declared.OptIntermediate.{OptIntermediate}
 use Rattle.events.specs.Views.{between_in, component_event_in, inside_in, event_in, BetweenWithin, EventWithin}
-use Rattle.events.specs.declared.BlockKind.{BlockKind}
+use Rattle.sheet.specs.declared.BlockKind.{BlockKind}
 use Rattle.events.specs.declared.Between.{Between}
 use Rattle.events.specs.declared.Between.TheVariants as between
 use Rattle.events.specs.declared.ComponentEvent.{ComponentEvent}
@@ -35,7 +32,6 @@ use Rattle.events.specs.declared.Severity.{Severity}
 use Rattle.events.specs.declared.EventView.{EventView}
 use Rattle.events.specs.declared.EventView.TheVariants as event
 use Rattle.known_events.specs.Fields.{TextField, OptTextField, OptQuantityFields, ComponentEventFields, InsideFields, EventFields}
-use Rattle.model.specs.Memory.{define_of}
 use Rattle.model.specs.declared.Open.{Open}
 use Rattle.model.specs.declared.Open.TheVariants as block
 use Rattle.finding_lines.specs.Lines.{span_piece}
@@ -48,6 +44,9 @@ use Rattle.following.specs.declared.Meta.{Meta}
 use Rattle.following.specs.declared.Meta.TheVariants.{Defines, Ordinary, Other}
 use Rattle.part_lines.specs.Drawing.{TimerDrawn, TimersDrawn, QuantitiesDrawn, InlineDrawn, MetaDrawn, OldDrawn}
 use Rattle.page_parts.proofs.Arms.{put_arm, put_nothing}
+use Rattle.components.specs.declared.Intermediate.{Intermediate}
+use Rattle.parts.specs.declared.QuantityView.{QuantityView}
+use Rattle.sheet.specs.Words.{define_of}
 
 -- ---- timers
 
@@ -59,7 +58,7 @@ module _ (line : List ℕ) {c : ComponentEvent} (f : Follow) where
         put = put_arm (λ (x : ComponentEvent). timer_adds (component_event_in line x) f.block f) y q (put_arm (λ (x : Open). timer_adds (component_event_in line y) x f) b z p);
       }
 
-  pub timer_ingredient : (v : ComponentView) (i : OptIntermediate) {o : List ℕ} → c ≡ component.Ingredient v i → TimerDrawn line c f o o 0
+  pub timer_ingredient : (v : ComponentView) (i : Option Intermediate) {o : List ℕ} → c ≡ component.Ingredient v i → TimerDrawn line c f o o 0
   unfolding timer_adds component_event_in
   timer_ingredient v i q = timer_as (component.Ingredient v i) f.block q refl put_nothing
 
@@ -67,7 +66,7 @@ module _ (line : List ℕ) {c : ComponentEvent} (f : Follow) where
   unfolding timer_adds component_event_in
   timer_cookware v q = timer_as (component.Cookware v) f.block q refl put_nothing
 
-  module _ (s : Span) (n : OptText) (a : OptQuantity) (q : c ≡ component.Timer s n a) where
+  module _ (s : Span) (n : Option TextView) (a : Option QuantityView) (q : c ≡ component.Timer s n a) where
     pub timer_nothing : {o : List ℕ} → f.block ≡ block.Nothing → TimerDrawn line c f o o 0
     unfolding timer_adds component_event_in
     timer_nothing z = timer_as (component.Timer s n a) block.Nothing q z put_nothing
@@ -84,7 +83,7 @@ module _ (line : List ℕ) {c : ComponentEvent} (f : Follow) where
     unfolding timer_adds component_event_in
     timer_step z p = timer_as (component.Timer s n a) block.Step q z p
 
-pub timer_fields : (line : List ℕ) {c : ComponentEvent} (s : Span) (n : OptText) (a : OptQuantity) → c ≡ component.Timer s n a → ComponentEventFields line c → OptTextField line n × OptQuantityFields line a
+pub timer_fields : (line : List ℕ) {c : ComponentEvent} (s : Span) (n : Option TextView) (a : Option QuantityView) → c ≡ component.Timer s n a → ComponentEventFields line c → OptTextField line n × OptQuantityFields line a
 unfolding ComponentEventFields
 timer_fields line s n a q z = subst (ComponentEventFields line) q z
 
@@ -192,8 +191,8 @@ meta_adds Other k v f = []
 
 key_adds_lem : (x : modes.Key) (o : Option DefineMode) (k v : rules.Text) (f : Follow) → key_adds x k v f ≡ meta_adds (key_meta x o) k v f
 unfolding key_adds meta_adds key_meta define_meta
-key_adds_lem (config define_key) none k v f = refl
-key_adds_lem (config define_key) (some m) k v f = refl
+key_adds_lem (config define_key) None k v f = refl
+key_adds_lem (config define_key) (Some m) k v f = refl
 key_adds_lem (config duplicate_key) o k v f = refl
 key_adds_lem unknown_config o k v f = refl
 key_adds_lem ordinary o k v f = refl
@@ -235,7 +234,7 @@ module _ {flags : ℕ} {line : List ℕ} {e : EventView} (f : Follow) where
   unfolding event_in between_in
   old_meta b k v q w p = old_as (event.Between (between.Meta k v)) (q ∙ ap event.Between w) p.put
 
-  pub old_section : (b : Between) (n : OptText) {o : List ℕ} → e ≡ event.Between b → b ≡ between.Section n → OldDrawn flags line e f o o 0
+  pub old_section : (b : Between) (n : Option TextView) {o : List ℕ} → e ≡ event.Between b → b ≡ between.Section n → OldDrawn flags line e f o o 0
   unfolding old_add event_in between_in
   old_section b n q w = old_as (event.Between (between.Section n)) (q ∙ ap event.Between w) put_nothing
 

@@ -1,5 +1,6 @@
 -- The field at a position, byte by byte.
-use Rattle.std.proofs.Common.{◌≡◌, ℕ, suc, ◌+◌, ◌<◌, ◌≤◌, Bool, true, false, leb, List, [], ◌∷◌, length, get_or, sym, refl, ◌∙◌, add-one, arith, drop_of_length-le, drop-cons, eq-eqb, ne_eqb, le-leb}
+use Rattle.std.proofs.Common.{◌≡◌, ℕ, suc, ◌+◌, ◌<◌, ◌≤◌, Bool, true, false, eqb, leb, List, [], ◌∷◌, length, get_or, sym, refl, ◌∙◌, add-one, arith, drop_of_length-le, drop-cons, eq-eqb, ne_eqb, eqb-true, le-leb}
+use borrow.Author.Tests.{eqb-false}
 use Rattle.rules.specs.Basic.{pick, tab, split_at, on_first, is_empty}
 use Rattle.rules.specs.Sheet.{fields_of}
 use Rattle.sheet.specs.Lines.{fields_from, field_at}
@@ -41,6 +42,13 @@ module _ (s : List ℕ) (i : ℕ) where
   pub ends_not : i < length s → (get_or s i 0 ≡ 9 → ⊥) → false ≡ is_empty (field_at s i)
   unfolding is_empty
   ends_not h q = rw (at_byte h q)
+
+  pub ends_byte : i < length s → eqb (get_or s i 0) 9 ≡ is_empty (field_at s i)
+  ends_byte h = by (eqb (get_or s i 0) 9) refl
+    where
+      by : (t : Bool) → eqb (get_or s i 0) 9 ≡ t → t ≡ is_empty (field_at s i)
+      by true e = ends_tab h (eqb-true _ _ e)
+      by false e = ends_not h (eqb-false _ _ e)
 
 pub empty_is : (f : List ℕ) {t : Bool} → t ≡ is_empty f → t ≡ true → f ≡ []
 unfolding is_empty

@@ -1,6 +1,6 @@
 -- The bytes of a part, and its content.
 use Rattle.std.proofs.Common.{◌≡◌, ℕ, zero, suc, ◌-◌, ◌<◌, ◌≤◌, List, [], length, take, drop, sym, refl, ap, arith, length-drop, drop_of_length-le, take_all}
-use mathlib.Core.Option.{some}
+use Rattle.std.specs.Prelude.{Some}
 use Rattle.rules.specs.Basic.{on_some}
 use Rattle.rules.specs.Utf8.{chars}
 use Rattle.rules.specs.Read.{content_of}
@@ -32,6 +32,6 @@ module _ (line : List ℕ) (p : Part) where
   part_all = refl
 
   -- the content of a part that was read is what the rules read in its bytes
-  pub content_of_lem : PartWithin line p → content_of (part_of line p) ≡ some (content_in line p)
+  pub content_of_lem : PartWithin line p → content_of (part_of line p) ≡ Some (content_in line p)
   unfolding content_of content_in on_some
   content_of_lem w = ap (on_some chars) w.well

@@ -1,13 +1,11 @@
 -- What one turn over a content's bytes does, in the field that starts at `at`.
 use Rattle.std.proofs.Common.{◌≡◌, ℕ, suc, ◌+◌, ◌<◌, ◌≤◌, Bool, true, false, eqb, List, [], ◌∷◌, length, get_or, sym, refl, ap, ◌∙◌, arith, eqb-true}
-use mathlib.Core.Option.{Option, none, some}
+use Rattle.std.specs.Prelude.{Option, None, Some}
 use borrow.Author.Tests.{eqb-false}
 use Rattle.rules.specs.Basic.{is_some}
 use Rattle.rules.specs.Sheet.{escaped, onto, unescape}
 use Rattle.sheet.specs.Lines.{field_at}
-use Rattle.sheet.specs.Escapes.{or_zero}
 use Rattle.sheet.proofs.Texts.{step_plain_lem, step_cut, step_wrong, step_escaped, letter_other}
-use Rattle.parts.specs.declared.GotContent.TheVariants as content
 use Rattle.parts.specs.Got.{ContentRead}
 use Rattle.parts.proofs.Bytes.{at_end_lem, at_tab, at_byte}
 use Rattle.parts.proofs.Leaves.{content_bad, content_got_lem}
@@ -22,13 +20,13 @@ pub record ContentFrom (line : List ℕ) (at i : ℕ) : Type 0 where
 pub content_starts : (line : List ℕ) (at : ℕ) → at ≤ length line → ContentFrom line at at
 content_starts line at h = record { starts = omega arith; inside = h; to = refl; is = refl }
 
-onto_some : (x : ℕ) (t : Option (List ℕ)) → is_some (onto (some x) t) ≡ is_some t
+onto_some : (x : ℕ) (t : Option (List ℕ)) → is_some (onto (Some x) t) ≡ is_some t
 unfolding onto is_some
-onto_some x none = refl
-onto_some x (some t) = refl
+onto_some x None = refl
+onto_some x (Some t) = refl
 
 module _ {line : List ℕ} {at i : ℕ} (d : ContentFrom line at i) where
-  pub content_ends : field_at line i ≡ [] → ContentRead line at (content.Got (record { from = at; to = i }) (i + 1))
+  pub content_ends : field_at line i ≡ [] → ContentRead line at (Some ((record { from = at; to = i }), (i + 1)))
   unfolding unescape is_some
   content_ends e =
       let z : length (field_at line i) ≡ 0 = rw e in
@@ -37,7 +35,7 @@ module _ {line : List ℕ} {at i : ℕ} (d : ContentFrom line at i) where
       let g = content_got_lem line at {f = field_at line at} (omega (arith, d.starts, d.inside)) refl w refl in
       rw (← k) at g
 
-  stops : unescape (field_at line i) ≡ none → ContentRead line at content.Ill
+  stops : unescape (field_at line i) ≡ None → ContentRead line at None
   unfolding is_some
   stops e = content_bad line at {f = field_at line at} (omega (arith, d.starts, d.inside)) refl (sym (d.is ∙ rw e)) refl
 
@@ -58,26 +56,26 @@ module _ {line : List ℕ} {at i : ℕ} (d : ContentFrom line at i) where
       here = at_byte line i h (λ t. omega arith)
 
       -- a backslash that ends the field
-      last : field_at line (i + 1) ≡ [] → unescape (field_at line i) ≡ none
+      last : field_at line (i + 1) ≡ [] → unescape (field_at line i) ≡ None
       last e = rw (here, e) (step_cut (get_or line i 0 ∷ []) 0 (omega arith) q (omega arith))
 
-      pub content_cut : length line ≤ i + 1 → ContentRead line at content.Ill
+      pub content_cut : length line ≤ i + 1 → ContentRead line at None
       content_cut l = stops (last (at_end_lem line (i + 1) l))
 
-      module _ (l : i + 1 < length line) {e : ℕ} (p : e ≡ or_zero (escaped (get_or line (i + 1) 0))) where
+      module _ (l : i + 1 < length line) {o : Option ℕ} (p : o ≡ escaped (get_or line (i + 1) 0)) where
         both : (get_or line (i + 1) 0 ≡ 9 → ⊥) → field_at line i ≡ get_or line i 0 ∷ get_or line (i + 1) 0 ∷ field_at line (i + 1 + 1)
         both t = here ∙ ap (λ (f : List ℕ). get_or line i 0 ∷ f) (at_byte line (i + 1) l t)
 
-        pub content_wrong : e ≡ 0 → ContentRead line at content.Ill
+        pub content_wrong : o ≡ None → ContentRead line at None
         content_wrong z = stops (by (eqb (get_or line (i + 1) 0) 9) refl)
           where
-            by : (t : Bool) → eqb (get_or line (i + 1) 0) 9 ≡ t → unescape (field_at line i) ≡ none
+            by : (t : Bool) → eqb (get_or line (i + 1) 0) 9 ≡ t → unescape (field_at line i) ≡ None
             by true u = last (at_tab line (i + 1) l (eqb-true _ _ u))
             by false u = rw (both (eqb-false _ _ u)) (step_wrong (get_or line i 0 ∷ get_or line (i + 1) 0 ∷ field_at line (i + 1 + 1)) 0 (omega arith) q (omega arith) p z)
 
-        pub content_escaped : (e ≡ 0 → ⊥) → ContentFrom line at (i + 1 + 1)
-        content_escaped z =
-            let t : get_or line (i + 1) 0 ≡ 9 → ⊥ = λ u. z (p ∙ ap (λ (c : ℕ). or_zero (escaped c)) u ∙ sym (letter_other 9 (λ v. omega arith) (λ v. omega arith) (λ v. omega arith))) in
+        pub content_escaped : {e : ℕ} → o ≡ Some e → ContentFrom line at (i + 1 + 1)
+        content_escaped {e} z =
+            let t : get_or line (i + 1) 0 ≡ 9 → ⊥ = λ u. let w : ◌≡◌ {A = Option ℕ} None (Some e) = letter_other 9 (λ v. omega arith) (λ v. omega arith) (λ v. omega arith) ∙ sym (ap escaped u) ∙ sym p ∙ z in cc in
             let b = both t in
             let k : length (field_at line i) ≡ suc (suc (length (field_at line (i + 1 + 1)))) = ap length b in
             record {

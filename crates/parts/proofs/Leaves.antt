@@ -1,6 +1,6 @@
 -- Readers of one field.
 use Rattle.std.proofs.Common.{◌≡◌, ℕ, ◌+◌, ◌-◌, ◌<◌, ◌≤◌, Bool, true, false, eqb, leb, List, [], ◌∷◌, length, get_or, take, drop, sym, refl, ap, ◌∙◌, arith, le-leb, leb-true}
-use mathlib.Core.Option.{Option, none, some}
+use Rattle.std.specs.Prelude.{Option, None, Some}
 use borrow.Author.Tests.{lt-leb}
 use Rattle.rules.specs.Basic.{pick, tab, minus, eq_list, is_some, on_some, on_first, split_at, word_in}
 use Rattle.rules.specs.Utf8.{chars}
@@ -9,19 +9,11 @@ use Rattle.rules.specs.Read.{Fields, go_on, ◌>>=◌, give, saying, got_one, op
 use Rattle.rules.proofs.Basics.{pick_either, no_some, no_truth, some_inj}
 use Rattle.sheet.specs.Lines.{fields_from, field_at}
 use Rattle.sheet.proofs.Scans.{field_within, fields_next}
-use Rattle.rules.specs.Words as words
-use Rattle.rules.specs.Words.{value_kinds}
-use Rattle.sheet.specs.declared.ValueWord.{ValueWord}
-use Rattle.sheet.specs.declared.ValueWord.TheVariants as value
-use Rattle.sheet.specs.Words.{value_as}
 use Rattle.sheet.proofs.Tests.{hit, miss}
-use Rattle.parts.specs.declared.ValueKind.TheVariants as view
-use Rattle.parts.specs.declared.GotContent.TheVariants as content
-use Rattle.parts.specs.declared.GotKind.TheVariants as kind
 use Rattle.parts.specs.declared.Dash.TheVariants as dash
 use Rattle.parts.specs.declared.Part.{Part}
-use Rattle.parts.specs.Views.{part_of, or_empty, bytes_in, content_in, kind_in}
-use Rattle.parts.specs.Got.{among_end, among_past, among_one, ReadAt, no_contents, ContentRead, KindRead, dash_as, DashAt}
+use Rattle.parts.specs.Views.{part_of, or_empty, bytes_in, content_in}
+use Rattle.parts.specs.Got.{among_end, among_past, among_one, ReadAt, no_contents, ContentRead, dash_as, DashAt}
 use Rattle.parts.proofs.Sequence.{reads, fails}
 
 -- ---- the fields that are left
@@ -56,123 +48,89 @@ field_part line at {f} h e =
     rw (k, q) (front (drop at line))
 
 -- ---- one field, and what it says
-leaf_is : {A : Type 0} (p : List ℕ → Option A) (line : List ℕ) (at : ℕ) {f : List ℕ} {a : A} → at ≤ length line → f ≡ field_at line at → p f ≡ some a → (field >>= (λ (f : List ℕ). saying (p f))) (fields_from line at) ≡ some (a, fields_from line (at + length f + 1))
+leaf_is : {A : Type 0} (p : List ℕ → Option A) (line : List ℕ) (at : ℕ) {f : List ℕ} {a : A} → at ≤ length line → f ≡ field_at line at → p f ≡ Some a → (field >>= (λ (f : List ℕ). saying (p f))) (fields_from line at) ≡ Some (a, fields_from line (at + length f + 1))
 unfolding ◌>>=◌ go_on field saying
 leaf_is p line at h e q = rw (field_here line at h e, q)
 
 module _ {View A : Type 0} {means : View → A} {Good : View → Type 0} {raw : View → Fields} (p : List ℕ → Option A) {line : List ℕ} {at : ℕ} where
-  pub leaf_past : length line < at → ReadAt means Good raw (field >>= (λ (f : List ℕ). saying (p f))) line at none
+  pub leaf_past : length line < at → ReadAt means Good raw (field >>= (λ (f : List ℕ). saying (p f))) line at None
   unfolding ◌>>=◌ go_on field
   leaf_past h = fails (rw (no_fields line at h))
 
   module _ {f : List ℕ} (h : at ≤ length line) (e : f ≡ field_at line at) where
-    pub leaf_bad : p f ≡ none → ReadAt means Good raw (field >>= (λ (f : List ℕ). saying (p f))) line at none
+    pub leaf_bad : p f ≡ None → ReadAt means Good raw (field >>= (λ (f : List ℕ). saying (p f))) line at None
     unfolding ◌>>=◌ go_on field saying
     leaf_bad q = fails (rw (field_here line at h e, q))
 
-    pub leaf_content : {v : View} → p f ≡ some (means v) → Good v → raw v ≡ f ∷ [] → ReadAt means Good raw (field >>= (λ (f : List ℕ). saying (p f))) line at (some (v, at + length f + 1))
+    pub leaf_content : {v : View} → p f ≡ Some (means v) → Good v → raw v ≡ f ∷ [] → ReadAt means Good raw (field >>= (λ (f : List ℕ). saying (p f))) line at (Some (v, at + length f + 1))
     leaf_content q g k = reads (record { is = leaf_is p line at h e q; among = rw (k, field_here line at h e) (among_one among_end) }) g
 
 -- which holds no content
 module _ {View A : Type 0} {means : View → A} {Good : View → Type 0} (p : List ℕ → Option A) {line : List ℕ} {at : ℕ} {f : List ℕ} (h : at ≤ length line) (e : f ≡ field_at line at) where
-  pub leaf_got : {v : View} → p f ≡ some (means v) → Good v → ReadAt means Good no_contents (field >>= (λ (f : List ℕ). saying (p f))) line at (some (v, at + length f + 1))
+  pub leaf_got : {v : View} → p f ≡ Some (means v) → Good v → ReadAt means Good no_contents (field >>= (λ (f : List ℕ). saying (p f))) line at (Some (v, at + length f + 1))
   leaf_got q g = reads (record { is = leaf_is p line at h e q; among = rw (field_here line at h e) (among_past among_end) }) g
 
 -- ---- numbers
-most_of : (m : ℕ) (o : Option ℕ) {n : ℕ} → at_most m o ≡ some n → n ≤ m
+most_of : (m : ℕ) (o : Option ℕ) {n : ℕ} → at_most m o ≡ Some n → n ≤ m
 unfolding at_most
-most_of m none e = no_some e
-most_of m (some k) {n} e = pick_either (λ (o : Option ℕ). o ≡ some n → n ≤ m) (leb k m) (some k) none (λ b q. rw (some_inj q) at (leb-true k m b)) (λ b q. no_some q) e
+most_of m None e = no_some e
+most_of m (Some k) {n} e = pick_either (λ (o : Option ℕ). o ≡ Some n → n ≤ m) (leb k m) (Some k) None (λ b q. rw (some_inj q) at (leb-true k m b)) (λ b q. no_some q) e
 
-zero_of : (s : List ℕ) {n : ℕ} → only_zero s ≡ some n → 0 ≡ n
+zero_of : (s : List ℕ) {n : ℕ} → only_zero s ≡ Some n → 0 ≡ n
 unfolding only_zero
 zero_of [] e = some_inj e
 zero_of (c ∷ s) e = no_some e
 
-pub number_most : (m : ℕ) (f : List ℕ) {n : ℕ} → number_up_to m f ≡ some n → n ≤ m
+pub number_most : (m : ℕ) (f : List ℕ) {n : ℕ} → number_up_to m f ≡ Some n → n ≤ m
 unfolding number_up_to
 number_most m [] e = no_some e
 number_most m (c ∷ s) {n} e =
-    pick_either (λ (o : Option ℕ). o ≡ some n → n ≤ m) (eqb c 48) (only_zero s) (at_most m (digits_from 0 (c ∷ s))) (λ b q. let z = zero_of s q in omega arith) (λ b q. most_of m _ q) e
+    pick_either (λ (o : Option ℕ). o ≡ Some n → n ≤ m) (eqb c 48) (only_zero s) (at_most m (digits_from 0 (c ∷ s))) (λ b q. let z = zero_of s q in omega arith) (λ b q. most_of m _ q) e
 
 -- ---- contents
-well_is : (o : Option (List ℕ)) → true ≡ is_some o → o ≡ some (or_empty o)
+well_is : (o : Option (List ℕ)) → true ≡ is_some o → o ≡ Some (or_empty o)
 unfolding is_some or_empty
-well_is none q = no_truth (sym q)
-well_is (some s) q = refl
+well_is None q = no_truth (sym q)
+well_is (Some s) q = refl
 
-not_well : (o : Option (List ℕ)) → false ≡ is_some o → on_some chars o ≡ none
+not_well : (o : Option (List ℕ)) → false ≡ is_some o → on_some chars o ≡ None
 unfolding is_some on_some
-not_well none q = refl
-not_well (some s) q = no_truth q
+not_well None q = refl
+not_well (Some s) q = no_truth q
 
 abbrev part_at : ℕ → List ℕ → Part
 part_at at f = record { from = at; to = at + length f }
 
 module _ (line : List ℕ) (at : ℕ) {f : List ℕ} (h : at ≤ length line) (e : f ≡ field_at line at) {w : Bool} (t : w ≡ is_some (unescape f)) where
-  pub content_bad : w ≡ false → ContentRead line at content.Ill
+  pub content_bad : w ≡ false → ContentRead line at None
   unfolding read_content content_of
   content_bad q = leaf_bad content_of h e (not_well _ (sym q ∙ t))
 
-  content_well : w ≡ true → unescape (part_of line (part_at at f)) ≡ some (bytes_in line (part_at at f))
+  content_well : w ≡ true → unescape (part_of line (part_at at f)) ≡ Some (bytes_in line (part_at at f))
   unfolding bytes_in
   content_well q = rw (field_part line at h e) (well_is _ (sym q ∙ t))
 
-  content_is : w ≡ true → content_of f ≡ some (content_in line (part_at at f))
+  content_is : w ≡ true → content_of f ≡ Some (content_in line (part_at at f))
   unfolding content_of content_in bytes_in on_some
   content_is q = rw (field_part line at h e) (ap (on_some chars) (well_is _ (sym q ∙ t)))
 
-  pub content_got_lem : w ≡ true → ContentRead line at (content.Got (record { from = at; to = at + length f }) (at + length f + 1))
+  pub content_got_lem : w ≡ true → ContentRead line at (Some ((record { from = at; to = at + length f }), (at + length f + 1)))
   unfolding read_content
   content_got_lem q = leaf_content content_of h e (content_is q) (record { ordered = omega arith; ends = rw (sym e) at (field_within line at h); well = content_well q }) (rw (field_part line at h e))
 
 -- ---- words
--- what a word that was told says of the option behind it
-unfoldable behind : ValueWord → Option words.ValueKind
-behind value.Number = some words.number
-behind value.Range = some words.range
-behind value.Text = some words.textual
-behind value.Unknown = none
-
-behind_is : (o : Option words.ValueKind) → behind (value_as o) ≡ o
-unfolding behind value_as
-behind_is none = refl
-behind_is (some words.number) = refl
-behind_is (some words.range) = refl
-behind_is (some words.textual) = refl
-
-said : (o : Option words.ValueKind) {r k : ValueWord} → r ≡ value_as o → r ≡ k → o ≡ behind k
-said o w q = sym (behind_is o) ∙ ap behind (sym w ∙ q)
-
-module _ {line : List ℕ} {at : ℕ} {f : List ℕ} (h : at ≤ length line) (e : f ≡ field_at line at) {r : ValueWord} (w : r ≡ value_as (word_in f value_kinds)) where
-  pub kind_bad : r ≡ value.Unknown → KindRead line at kind.Ill
-  unfolding word behind
-  kind_bad q = leaf_bad (λ (f : List ℕ). word_in f value_kinds) h e (said _ w q)
-
-  pub kind_number : r ≡ value.Number → KindRead line at (kind.Got view.Number (at + length f + 1))
-  unfolding word behind kind_in
-  kind_number q = leaf_got (λ (f : List ℕ). word_in f value_kinds) h e (said _ w q) tt
-
-  pub kind_range : r ≡ value.Range → KindRead line at (kind.Got view.Range (at + length f + 1))
-  unfolding word behind kind_in
-  kind_range q = leaf_got (λ (f : List ℕ). word_in f value_kinds) h e (said _ w q) tt
-
-  pub kind_text : r ≡ value.Text → KindRead line at (kind.Got view.Textual (at + length f + 1))
-  unfolding word behind kind_in
-  kind_text q = leaf_got (λ (f : List ℕ). word_in f value_kinds) h e (said _ w q) tt
-
 -- a table of two words
 module _ {View A : Type 0} {means : View → A} {Good : View → Type 0} (a b : List ℕ × A) {line : List ℕ} {at : ℕ} {f : List ℕ} (h : at ≤ length line) (e : f ≡ field_at line at) where
-  pub two_first : {t : Bool} {v : View} → t ≡ eq_list f a.0 → t ≡ true → a.1 ≡ means v → Good v → ReadAt means Good no_contents (word (a ∷ b ∷ [])) line at (some (v, at + length f + 1))
+  pub two_first : {t : Bool} {v : View} → t ≡ eq_list f a.0 → t ≡ true → a.1 ≡ means v → Good v → ReadAt means Good no_contents (word (a ∷ b ∷ [])) line at (Some (v, at + length f + 1))
   unfolding word
-  two_first p q m g = leaf_got (λ (f : List ℕ). word_in f (a ∷ b ∷ [])) h e (sym (hit f a (b ∷ []) refl p q) ∙ ap some m) g
+  two_first p q m g = leaf_got (λ (f : List ℕ). word_in f (a ∷ b ∷ [])) h e (sym (hit f a (b ∷ []) refl p q) ∙ ap Some m) g
 
   module _ {t : Bool} (p : t ≡ eq_list f a.0) (q : t ≡ false) {u : Bool} (l : u ≡ eq_list f b.0) where
-    pub two_second : {v : View} → u ≡ true → b.1 ≡ means v → Good v → ReadAt means Good no_contents (word (a ∷ b ∷ [])) line at (some (v, at + length f + 1))
+    pub two_second : {v : View} → u ≡ true → b.1 ≡ means v → Good v → ReadAt means Good no_contents (word (a ∷ b ∷ [])) line at (Some (v, at + length f + 1))
     unfolding word
-    two_second k m g = leaf_got (λ (f : List ℕ). word_in f (a ∷ b ∷ [])) h e (sym (hit f b [] (miss f a (b ∷ []) refl p q) l k) ∙ ap some m) g
+    two_second k m g = leaf_got (λ (f : List ℕ). word_in f (a ∷ b ∷ [])) h e (sym (hit f b [] (miss f a (b ∷ []) refl p q) l k) ∙ ap Some m) g
 
-    pub two_neither : u ≡ false → ReadAt means Good no_contents (word (a ∷ b ∷ [])) line at none
+    pub two_neither : u ≡ false → ReadAt means Good no_contents (word (a ∷ b ∷ [])) line at None
     unfolding word word_in
     two_neither k = leaf_bad (λ (f : List ℕ). word_in f (a ∷ b ∷ [])) h e (sym (miss f b [] (miss f a (b ∷ []) refl p q) l k))
 

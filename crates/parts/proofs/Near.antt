@@ -1,12 +1,11 @@
 -- What one digit of a number does that is read at once, and a content's start that is.
-use Rattle.std.proofs.Common.{◌≡◌, ℕ, zero, suc, ◌+◌, ◌-◌, ◌*◌, ◌%◌, ◌<◌, ◌≤◌, true, eqb, List, length, get_or, refl, ◌∙◌, arith, eq-eqb, ne_eqb, eqb-true, le-leb}
+use Rattle.std.specs.Prelude.{None, Option, Some}
+use Rattle.std.proofs.Common.{◌≡◌, ℕ, zero, suc, ◌+◌, ◌-◌, ◌*◌, ◌%◌, ◌<◌, ◌≤◌, true, eqb, List, length, get_or, refl, ap, ◌∙◌, arith, eq-eqb, ne_eqb, eqb-true, le-leb}
 use borrow.Author.Tests.{eqb-false, lt-leb}
 use Rattle.rules.specs.Basic.{tab, backslash}
-use Rattle.rules.proofs.Basics.{by_order, pick_either}
+use Rattle.rules.proofs.Basics.{by_order, pick_either, no_some, some_inj}
 use Rattle.sheet.specs.Runs.{lacks, Lacking}
 use Rattle.sheet.proofs.Runs.{last_of}
-use Rattle.parts.specs.declared.GotNumber.{GotNumber}
-use Rattle.parts.specs.declared.GotNumber.TheVariants as number
 use Rattle.parts.specs.Got.{NumberRead}
 use Rattle.parts.specs.Near.{figure_of, end_of, NearRead}
 use Rattle.parts.proofs.Bytes.{at_tab, ends_tab, ends_not}
@@ -33,28 +32,28 @@ figure_is c y a b e = by_order 48 c (λ h. simp (le-leb 48 c h) (omega arith)) (
 
 -- ---- the end of a number
 module _ (y n next : ℕ) where
-  pub ends_tab_is : y ≡ 4294967257 → number.Got n next ≡ end_of y n next
+  pub ends_tab_is : y ≡ 4294967257 → Some (n, next) ≡ end_of y n next
   unfolding end_of
   ends_tab_is e = simp (eq-eqb _ _ e)
 
-  pub ends_other_is : (y ≡ 4294967257 → ⊥) → number.Ill ≡ end_of y n next
+  pub ends_other_is : (y ≡ 4294967257 → ⊥) → None ≡ end_of y n next
   unfolding end_of
   ends_other_is e = simp (ne_eqb _ _ e)
 
-  ends_as : (P : GotNumber → Type 0) → (y ≡ 4294967257 → P (number.Got n next)) → ((y ≡ 4294967257 → ⊥) → P number.Ill) → P (end_of y n next)
+  ends_as : (P : Option (ℕ × ℕ) → Type 0) → (y ≡ 4294967257 → P (Some (n, next))) → ((y ≡ 4294967257 → ⊥) → P None) → P (end_of y n next)
   unfolding end_of
   ends_as P f g = pick_either P (eqb y 4294967257) _ _ (λ e. f (eqb-true _ _ e)) (λ e. g (eqb-false _ _ e))
 
   -- the next field starts near
-  ends_near : (k : ℕ) → next ≤ k → (m x : ℕ) → end_of y n next ≡ number.Got m x → x ≤ k
+  ends_near : (k : ℕ) → next ≤ k → (m x : ℕ) → end_of y n next ≡ Some (m, x) → x ≤ k
   ends_near k h m x =
-      ends_as (λ (r : GotNumber). r ≡ number.Got m x → x ≤ k) (λ u e. let z : next ≡ x = cc in omega arith) (λ u e. absurd (let z : ◌≡◌ {A = ℕ} 0 1 = cc in omega arith))
+      ends_as (λ (r : Option (ℕ × ℕ)). r ≡ Some (m, x) → x ≤ k) (λ u e. let z : next ≡ x = ap (λ (p : ℕ × ℕ). p.1) (some_inj e) in omega arith) (λ u e. no_some e)
 
-  near_by : (line : List ℕ) (at : ℕ) → next ≤ at + 6 → NumberRead line at (end_of y n next) → (r : GotNumber) → r ≡ end_of y n next → NearRead line at r
+  near_by : (line : List ℕ) (at : ℕ) → next ≤ at + 6 → NumberRead line at (end_of y n next) → (r : Option (ℕ × ℕ)) → r ≡ end_of y n next → NearRead line at r
   near_by line at h p r e = rw e record { reads = p; near = ends_near (at + 6) h }
 
-pub near_ill : {line : List ℕ} {at : ℕ} → NumberRead line at number.Ill → NearRead line at number.Ill
-near_ill p = record { reads = p; near = λ m x e. absurd (let z : ◌≡◌ {A = ℕ} 0 1 = cc in omega arith) }
+pub near_ill : {line : List ℕ} {at : ℕ} → NumberRead line at None → NearRead line at None
+near_ill p = record { reads = p; near = λ m x e. no_some e }
 
 -- ---- one digit
 module _ {line : List ℕ} {at n i : ℕ} (d : NumberFrom line at n i) (h : i < length line) (y : ℕ) (f : y ≡ figure_of (get_or line i 0)) where
@@ -65,7 +64,7 @@ module _ {line : List ℕ} {at n i : ℕ} (d : NumberFrom line at n i) (h : i < 
       (λ p. let k : y ≡ get_or line i 0 - 48 = omega (arith, g.low p) in rw k (number_on d h p (omega (arith, g.low p)) (omega (arith, g.low p))))
       (λ p. absurd (omega (arith, g.high p)))
 
-  pub digit_large : y ≤ 9 → 65535 < n * 10 + y → NearRead line at number.Ill
+  pub digit_large : y ≤ 9 → 65535 < n * 10 + y → NearRead line at None
   digit_large l m =
       let g = figures _ _ f in
       near_ill (by_order 48 (get_or line i 0)
@@ -74,12 +73,12 @@ module _ {line : List ℕ} {at n i : ℕ} (d : NumberFrom line at n i) (h : i < 
 
   -- where no digit follows that the number could have
   module _ (b : get_or line i 0 < 256) (o : y ≤ 9 → 65535 < n * 10 + y) where
-    at_a_tab : y ≡ 4294967257 → NumberRead line at (number.Got n (i + 1))
+    at_a_tab : y ≡ 4294967257 → NumberRead line at (Some (n, (i + 1)))
     at_a_tab u =
         let g = figures _ _ f in
         by_order 48 (get_or line i 0) (λ p. absurd (omega (arith, g.low p))) (λ p. number_ends d (at_tab line i h (omega (arith, g.high p))))
 
-    at_another : (y ≡ 4294967257 → ⊥) → NumberRead line at number.Ill
+    at_another : (y ≡ 4294967257 → ⊥) → NumberRead line at None
     at_another u =
         let g = figures _ _ f in
         by_order 48 (get_or line i 0)
@@ -90,7 +89,7 @@ module _ {line : List ℕ} {at n i : ℕ} (d : NumberFrom line at n i) (h : i < 
         (λ q. number_above d h q))
         (λ p. number_below d h p (λ t. u (omega (arith, g.high p))))
 
-    pub digit_ends : i + 1 ≤ at + 6 → (r : GotNumber) → r ≡ end_of y n (i + 1) → NearRead line at r
+    pub digit_ends : i + 1 ≤ at + 6 → (r : Option (ℕ × ℕ)) → r ≡ end_of y n (i + 1) → NearRead line at r
     digit_ends l = near_by y n (i + 1) line at l (ends_as y n (i + 1) (NumberRead line at) at_a_tab at_another)
 
 -- ---- the first digit
@@ -98,7 +97,7 @@ module _ (line : List ℕ) (at : ℕ) (h : at + 1 < length line) (x : ℕ) (f : 
   inside : at < length line
   inside = omega arith
 
-  pub first_other : 9 < x → NearRead line at number.Ill
+  pub first_other : 9 < x → NearRead line at None
   first_other l =
       let g = figures _ _ f in
       near_ill (by_order 48 (get_or line at 0) (λ p. first_above line at inside (omega (arith, g.low p))) (λ p. first_below line at inside p))
@@ -115,18 +114,18 @@ module _ (line : List ℕ) (at : ℕ) (h : at + 1 < length line) (x : ℕ) (f : 
     is_zero : get_or line at 0 ≡ 48
     is_zero = let g = figures _ _ f in by_order 48 (get_or line at 0) (λ p. omega (arith, g.low p)) (λ p. absurd (omega (arith, g.high p)))
 
-    zero_tab : y ≡ 4294967257 → NumberRead line at (number.Got 0 (at + 1 + 1))
+    zero_tab : y ≡ 4294967257 → NumberRead line at (Some (0, (at + 1 + 1)))
     zero_tab u =
         let g = figures _ _ e in
         by_order 48 (get_or line (at + 1) 0) (λ p. absurd (omega (arith, g.low p)))
         (λ p. zero_got line at inside is_zero (ends_tab line (at + 1) h (omega (arith, g.high p))) refl)
 
-    zero_other : (y ≡ 4294967257 → ⊥) → NumberRead line at number.Ill
+    zero_other : (y ≡ 4294967257 → ⊥) → NumberRead line at None
     zero_other u =
         let g = figures _ _ e in
         zero_bad line at inside is_zero (ends_not line (at + 1) h (λ t. u (omega (arith, g.high (omega arith))))) refl
 
-    pub zero_ends : (r : GotNumber) → r ≡ end_of y 0 (at + 1 + 1) → NearRead line at r
+    pub zero_ends : (r : Option (ℕ × ℕ)) → r ≡ end_of y 0 (at + 1 + 1) → NearRead line at r
     zero_ends = near_by y 0 (at + 1 + 1) line at (omega arith) (ends_as y 0 (at + 1 + 1) (NumberRead line at) zero_tab zero_other)
 
 -- ---- content

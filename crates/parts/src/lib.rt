@@ -1,5 +1,5 @@
 // The parts of a line as views: numbers, and where the contents stand in the line. All readers take any bytes and any position;
-// `Ill` says that the part is ill-formed.
+// `None` says that the part is ill-formed.
 #![tactic(auto)]
 
 ghost use Rattle.std.specs.Prelude.{◌≡◌, ◌+◌, ◌<◌, ◌≤◌, [], ◌∷◌, length};
@@ -9,6 +9,8 @@ ghost use Rattle.sheet.specs.Runs.{Lacking};
 ghost use Rattle.parts.specs.Views.{part_of};
 ghost use Rattle.parts.specs.Near.{figure_of, end_of, NearRead};
 ghost use Rattle.parts.specs.Got.{DashAt, NumberRead, SpanRead, ContentRead, TextRead, OptTextRead, KindRead, LockRead, QuantityRead, OptQuantityRead};
+
+use sheet::ValueKind;
 
 #[derive(Clone, Copy)]
 pub struct Span {
@@ -30,32 +32,13 @@ pub struct TextView {
 }
 
 #[derive(Clone, Copy)]
-pub enum OptText {
-    Absent,
-    Present(TextView),
-}
-
-#[derive(Clone, Copy)]
-pub enum ValueKind {
-    Number,
-    Range,
-    Textual,
-}
-
-#[derive(Clone, Copy)]
 pub struct QuantityView {
     pub span: Span,
     pub kind: ValueKind,
     pub value_span: Span,
     pub value: Part,
     pub lock: bool,
-    pub unit: OptText,
-}
-
-#[derive(Clone, Copy)]
-pub enum OptQuantity {
-    Absent,
-    Present(QuantityView),
+    pub unit: Option<TextView>,
 }
 
 // The bytes of a part; of one that a reader made, the line from `from` to `to`.
@@ -80,13 +63,7 @@ pub fn part_of<'a>(line: &'a [u8], p: Part) -> &'a [u8]
 fn ends_at(line: &[u8], at: usize) -> bool
     ensures { result ≡ is_empty (field_at line.now at) }
 {
-    if line.len() <= at {
-        return true;
-    }
-    if line[at] == b'\t' {
-        return true;
-    }
-    false
+    line.len() <= at || line[at] == b'\t'
 }
 
 // Whether the field at `at` is the byte c alone.
@@ -97,10 +74,7 @@ fn is_alone(line: &[u8], at: usize, c: u8) -> bool
     if line.len() <= at {
         return false;
     }
-    if line[at] == c {
-        return ends_at(line, at + 1);
-    }
-    false
+    line[at] == c && ends_at(line, at + 1)
 }
 
 // Whether an opt part is there.
@@ -124,52 +98,45 @@ pub fn opt_dash(line: &[u8], at: usize) -> Dash
     Dash::Present
 }
 
-// What a reader answers: what it read, and where the next field starts.
-#[derive(Clone, Copy)]
-pub enum GotNumber {
-    Got(u32, usize),
-    Ill,
-}
-
-pub fn read_number(line: &[u8], at: usize) -> GotNumber
+pub fn read_number(line: &[u8], at: usize) -> Option<(u32, usize)>
     ensures { NumberRead line.now at result }
 {
     if line.len() <= at {
-        return GotNumber::Ill;
+        return None;
     }
     let first = line[at];
     let mut i = at + 1;
     if first == b'0' {
         if ends_at(line, i) {
-            return GotNumber::Got(0, i + 1);
+            return Some((0, i + 1));
         }
-        return GotNumber::Ill;
+        return None;
     }
     if first < b'0' {
-        return GotNumber::Ill;
+        return None;
     }
     if b'9' < first {
-        return GotNumber::Ill;
+        return None;
     }
     let mut n = (first - b'0') as u32;
     while i < line.len() {
         let c = line[i];
         if c < b'0' {
             if c == b'\t' {
-                return GotNumber::Got(n, i + 1);
+                return Some((n, i + 1));
             }
-            return GotNumber::Ill;
+            return None;
         }
         if b'9' < c {
-            return GotNumber::Ill;
+            return None;
         }
         n = n * 10 + ((c - b'0') as u32);
         if 65535 < n {
-            return GotNumber::Ill;
+            return None;
         }
         i += 1;
     }
-    GotNumber::Got(n, i + 1)
+    Some((n, i + 1))
 }
 
 // The value of a digit; of any other byte a number above 9, and of a tab 4294967257.
@@ -180,17 +147,17 @@ fn figure(c: u8) -> u32
 }
 
 // The number n where its digits end, before a byte with the figure y; the next field would start at `next`.
-fn number_end(y: u32, n: u32, next: usize) -> GotNumber
+fn number_end(y: u32, n: u32, next: usize) -> Option<(u32, usize)>
     ensures { result ≡ end_of y n next }
 {
     if y == 4294967257 {
-        return GotNumber::Got(n, next);
+        return Some((n, next));
     }
-    GotNumber::Ill
+    None
 }
 
 // A number at which six bytes are left.
-fn near_number(line: &[u8], at: usize) -> GotNumber
+fn near_number(line: &[u8], at: usize) -> Option<(u32, usize)>
     requires { at + 5 < length line.now }
     ensures { NearRead line.now at result }
 {
@@ -201,7 +168,7 @@ fn near_number(line: &[u8], at: usize) -> GotNumber
         return number_end(b, 0, i + 1);
     }
     if 9 < n {
-        return GotNumber::Ill;
+        return None;
     }
     if 9 < b {
         return number_end(b, n, i + 1);
@@ -226,46 +193,26 @@ fn near_number(line: &[u8], at: usize) -> GotNumber
     }
     let q = p * 10 + e;
     if 65535 < q {
-        return GotNumber::Ill;
+        return None;
     }
     let x = l + 1;
     let y = figure(line[x]);
     number_end(y, q, x + 1)
 }
 
-#[derive(Clone, Copy)]
-pub enum GotSpan {
-    Got(Span, usize),
-    Ill,
-}
-
-pub fn read_span(line: &[u8], at: usize) -> GotSpan
+pub fn read_span(line: &[u8], at: usize) -> Option<(Span, usize)>
     ensures { SpanRead line.now at result }
 {
     if at < line.len() {
         if 11 < line.len() - at {
-            let GotNumber::Got(start, a1) = near_number(line, at) else {
-                return GotSpan::Ill;
-            };
-            let GotNumber::Got(end, a2) = near_number(line, a1) else {
-                return GotSpan::Ill;
-            };
-            return GotSpan::Got(Span { start, end }, a2);
+            let (start, a1) = near_number(line, at)?;
+            let (end, a2) = near_number(line, a1)?;
+            return Some((Span { start, end }, a2));
         }
     }
-    let GotNumber::Got(start, a1) = read_number(line, at) else {
-        return GotSpan::Ill;
-    };
-    let GotNumber::Got(end, a2) = read_number(line, a1) else {
-        return GotSpan::Ill;
-    };
-    GotSpan::Got(Span { start, end }, a2)
-}
-
-#[derive(Clone, Copy)]
-pub enum GotContent {
-    Got(Part, usize),
-    Ill,
+    let (start, a1) = read_number(line, at)?;
+    let (end, a2) = read_number(line, a1)?;
+    Some((Span { start, end }, a2))
 }
 
 // A place that no tab and no backslash stands before, from `at` on, by sixteen bytes a turn.
@@ -304,146 +251,92 @@ fn past_plain(line: &[u8], at: usize) -> usize
     i
 }
 
-fn read_content(line: &[u8], at: usize) -> GotContent
+fn read_content(line: &[u8], at: usize) -> Option<(Part, usize)>
     ensures { ContentRead line.now at result }
 {
     if line.len() < at {
-        return GotContent::Ill;
+        return None;
     }
     let mut i = past_plain(line, at);
     while i < line.len() {
         let c = line[i];
         if c == b'\t' {
-            return GotContent::Got(Part { from: at, to: i }, i + 1);
+            return Some((Part { from: at, to: i }, i + 1));
         }
         if c == b'\\' {
             let j = i + 1;
             if line.len() <= j {
-                return GotContent::Ill;
+                return None;
             }
-            if sheet::letter(line[j]) == 0 {
-                return GotContent::Ill;
-            }
+            sheet::letter(line[j])?;
             i = j + 1;
         } else {
             i += 1;
         }
     }
-    GotContent::Got(Part { from: at, to: i }, i + 1)
+    Some((Part { from: at, to: i }, i + 1))
 }
 
-#[derive(Clone, Copy)]
-pub enum GotText {
-    Got(TextView, usize),
-    Ill,
-}
-
-pub fn read_text(line: &[u8], at: usize) -> GotText
+pub fn read_text(line: &[u8], at: usize) -> Option<(TextView, usize)>
     ensures { TextRead line.now at result }
 {
-    let GotSpan::Got(span, a1) = read_span(line, at) else {
-        return GotText::Ill;
-    };
-    let GotContent::Got(content, a2) = read_content(line, a1) else {
-        return GotText::Ill;
-    };
-    GotText::Got(TextView { span, content }, a2)
+    let (span, a1) = read_span(line, at)?;
+    let (content, a2) = read_content(line, a1)?;
+    Some((TextView { span, content }, a2))
 }
 
-#[derive(Clone, Copy)]
-pub enum GotOptText {
-    Got(OptText, usize),
-    Ill,
-}
-
-pub fn read_opt_text(line: &[u8], at: usize) -> GotOptText
+pub fn read_opt_text(line: &[u8], at: usize) -> Option<(Option<TextView>, usize)>
     ensures { OptTextRead line.now at result }
 {
     match opt_dash(line, at) {
-        Dash::Absent(n) => GotOptText::Got(OptText::Absent, n),
-        Dash::Ill => GotOptText::Ill,
+        Dash::Absent(n) => Some((None, n)),
+        Dash::Ill => None,
         Dash::Present => {
-            let GotText::Got(v, m) = read_text(line, at) else {
-                return GotOptText::Ill;
-            };
-            GotOptText::Got(OptText::Present(v), m)
+            let (text, m) = read_text(line, at)?;
+            Some((Some(text), m))
         }
     }
 }
 
-#[derive(Clone, Copy)]
-pub enum GotKind {
-    Got(ValueKind, usize),
-    Ill,
-}
-
-fn read_kind(line: &[u8], at: usize) -> GotKind
+fn read_kind(line: &[u8], at: usize) -> Option<(ValueKind, usize)>
     ensures { KindRead line.now at result }
 {
     if line.len() < at {
-        return GotKind::Ill;
+        return None;
     }
     let f = sheet::field(line, at);
     let n = at + f.len() + 1;
-    match sheet::value_kind(f) {
-        sheet::ValueWord::Number => GotKind::Got(ValueKind::Number, n),
-        sheet::ValueWord::Range => GotKind::Got(ValueKind::Range, n),
-        sheet::ValueWord::Text => GotKind::Got(ValueKind::Textual, n),
-        sheet::ValueWord::Unknown => GotKind::Ill,
-    }
-}
-
-#[derive(Clone, Copy)]
-pub enum GotFlag {
-    Got(bool, usize),
-    Ill,
+    let kind = sheet::value_kind(f)?;
+    Some((kind, n))
 }
 
 // The lock of a quantity: `l` or `-`.
-fn read_lock(line: &[u8], at: usize) -> GotFlag
+fn read_lock(line: &[u8], at: usize) -> Option<(bool, usize)>
     ensures { LockRead line.now at result }
 {
     if line.len() < at {
-        return GotFlag::Ill;
+        return None;
     }
     let f = sheet::field(line, at);
     if sheet::same_bytes(f, b"l") {
-        return GotFlag::Got(true, at + f.len() + 1);
+        return Some((true, at + f.len() + 1));
     }
     if sheet::same_bytes(f, b"-") {
-        return GotFlag::Got(false, at + f.len() + 1);
+        return Some((false, at + f.len() + 1));
     }
-    GotFlag::Ill
+    None
 }
 
-#[derive(Clone, Copy)]
-pub enum GotQuantity {
-    Got(QuantityView, usize),
-    Ill,
-}
-
-fn read_quantity(line: &[u8], at: usize) -> GotQuantity
+fn read_quantity(line: &[u8], at: usize) -> Option<(QuantityView, usize)>
     ensures { QuantityRead line.now at result }
 {
-    let GotSpan::Got(span, a1) = read_span(line, at) else {
-        return GotQuantity::Ill;
-    };
-    let GotKind::Got(kind, a2) = read_kind(line, a1) else {
-        return GotQuantity::Ill;
-    };
-    let GotSpan::Got(value_span, a3) = read_span(line, a2) else {
-        return GotQuantity::Ill;
-    };
-    let GotContent::Got(value, a4) = read_content(line, a3) else {
-        return GotQuantity::Ill;
-    };
-    let GotFlag::Got(lock, a5) = read_lock(line, a4) else {
-        return GotQuantity::Ill;
-    };
-    let GotOptText::Got(unit, a6) = read_opt_text(line, a5) else {
-        return GotQuantity::Ill;
-    };
-    GotQuantity::Got(
+    let (span, a1) = read_span(line, at)?;
+    let (kind, a2) = read_kind(line, a1)?;
+    let (value_span, a3) = read_span(line, a2)?;
+    let (value, a4) = read_content(line, a3)?;
+    let (lock, a5) = read_lock(line, a4)?;
+    let (unit, a6) = read_opt_text(line, a5)?;
+    Some((
         QuantityView {
             span,
             kind,
@@ -453,26 +346,18 @@ fn read_quantity(line: &[u8], at: usize) -> GotQuantity
             unit,
         },
         a6,
-    )
+    ))
 }
 
-#[derive(Clone, Copy)]
-pub enum GotOptQuantity {
-    Got(OptQuantity, usize),
-    Ill,
-}
-
-pub fn read_opt_quantity(line: &[u8], at: usize) -> GotOptQuantity
+pub fn read_opt_quantity(line: &[u8], at: usize) -> Option<(Option<QuantityView>, usize)>
     ensures { OptQuantityRead line.now at result }
 {
     match opt_dash(line, at) {
-        Dash::Absent(n) => GotOptQuantity::Got(OptQuantity::Absent, n),
-        Dash::Ill => GotOptQuantity::Ill,
+        Dash::Absent(n) => Some((None, n)),
+        Dash::Ill => None,
         Dash::Present => {
-            let GotQuantity::Got(v, m) = read_quantity(line, at) else {
-                return GotOptQuantity::Ill;
-            };
-            GotOptQuantity::Got(OptQuantity::Present(v), m)
+            let (quantity, m) = read_quantity(line, at)?;
+            Some((Some(quantity), m))
         }
     }
 }

@@ -2,7 +2,7 @@
 use Prim.Native.Nat.{ℕ, suc, ◌+◌, ◌≤◌}
 use mathlib.Core.Path.{◌≡◌, refl, ap}
 use mathlib.Core.List.{List, [], ◌∷◌}
-use mathlib.Core.Option.{Option, none, some}
+use Rattle.std.specs.Prelude.{Option, None, Some}
 use native.Mathlib.Omega.{arith}
 use lib.ListN.{length, length-replicate}
 use Rattle.rules.specs.Basic.{each, on_some}
@@ -30,13 +30,13 @@ later st s = (s.0, s.1, omega (arith, s.2))
 
 define_counted : {n : ℕ} (k v : Text) (o : Option DefineMode) (st : State) → Counted n st → Counted n (on_define k v o st)
 unfolding on_define report set_modes
-define_counted k v none st s = s
-define_counted k v (some m) st s = s
+define_counted k v None st s = s
+define_counted k v (Some m) st s = s
 
 duplicate_counted : {n : ℕ} (k v : Text) (o : Option DuplicateMode) (st : State) → Counted n st → Counted n (on_duplicate k v o st)
 unfolding on_duplicate report set_modes
-duplicate_counted k v none st s = s
-duplicate_counted k v (some m) st s = s
+duplicate_counted k v None st s = s
+duplicate_counted k v (Some m) st s = s
 
 key_counted : {n : ℕ} (key : Key) (k v : Text) (st : State) → Counted n st → Counted (suc n) (on_key key k v st)
 unfolding on_key store_meta set_metadata report
@@ -74,8 +74,8 @@ chained_counted {n} m st s =
 
 fault_counted : (n : ℕ) (o : Option ℕ) (s : Step) → CountedStep n s → CountedStep n (unless_fault o s)
 unfolding unless_fault
-fault_counted n none s c = c
-fault_counted n (some k) s c = tt
+fault_counted n None s c = c
+fault_counted n (Some k) s c = tt
 
 module _ (text : List ℕ) (units : List NamedUnit) (flags : ℕ) where
   made_counted : {n : ℕ} (k : Kind) (m : Made) (is : List Item) (st : State) → Counted n st → CountedStep n (on_made units flags k m is st)

@@ -3,7 +3,7 @@ use Prim.Native.Nat.{ℕ, ◌+◌, ◌<◌}
 use mathlib.Core.Path.{◌≡◌, refl, sym, ap, ◌∙◌, subst}
 use mathlib.Core.List.{List, [], ◌∷◌}
 use mathlib.Core.Bool.{Bool, true, false}
-use mathlib.Core.Option.{Option}
+use Rattle.std.specs.Prelude.{Option, Result, Ok, Err}
 use native.Mathlib.Omega.{arith}
 use lib.ListN.{length}
 use lib.Seq.{slice}
@@ -15,14 +15,14 @@ use Rattle.rules.specs.State as state
 use Rattle.rules.specs.State.{State, set_place, set_block, set_kept, report, Step, next}
 use Rattle.rules.specs.Pass.{is_empty_section, close_section, on_section, on_component, in_step_block, is_error_event, on_inside, on_between, on_event}
 use Rattle.letters.specs.Tables.{unicode_tables}
+use Rattle.refusals.specs.declared.Reason.{Reason}
+use Rattle.refusals.specs.declared.Reason.TheVariants.{InOpenBlock, InNoBlock}
 use Rattle.content.specs.Parts.{Field}
 use Rattle.parts.specs.Views.{part_of, TextWithin, OptQuantityWithin}
 use Rattle.parts.specs.declared.Span.{Span}
 use Rattle.parts.specs.declared.TextView.{TextView}
-use Rattle.parts.specs.declared.OptText.{OptText}
-use Rattle.parts.specs.declared.OptQuantity.{OptQuantity}
 use Rattle.events.specs.Views.{severity_in, between_in, component_event_in, inside_in, event_in, BetweenWithin, ComponentEventWithin, InsideWithin, EventWithin}
-use Rattle.events.specs.declared.BlockKind.{BlockKind}
+use Rattle.sheet.specs.declared.BlockKind.{BlockKind}
 use Rattle.events.specs.declared.Severity.{Severity}
 use Rattle.events.specs.declared.Severity.TheVariants as severity
 use Rattle.events.specs.declared.ComponentEvent.{ComponentEvent}
@@ -41,8 +41,6 @@ use Rattle.model.specs.declared.Open.{Open}
 use Rattle.model.specs.declared.Open.TheVariants.{Nothing, Step as StepBlock, Text as TextBlock, TextMode}
 use Rattle.model.specs.declared.Held.{Held}
 use Rattle.blocks.specs.Lined.{Told, Went, step_in, SoundStep, FitStep, Stepped, start_block, OpenNow, SectionDone, StepEnded, InTextBlock, InTextMode}
-use Rattle.blocks.specs.declared.Passed.{Passed}
-use Rattle.blocks.specs.declared.Passed.TheVariants.{Next, Stop}
 use Rattle.blocks.proofs.Lines.{went_told, stepped, stopped}
 use Rattle.blocks.proofs.Fitting.{told_fit}
 use Rattle.timers.specs.Timed.{TimerDone}
@@ -52,8 +50,9 @@ use Rattle.component_lines.specs.Lines.{LineHere, Kept, ComponentDone}
 use Rattle.unit_index.specs.Index.{Indexed}
 use Rattle.pass.specs.Walks.{Lent, EventHere, Running, LineDone, InStep, inside_now, InsideDone, BetweenDone, EventDone, ErrorView}
 use Rattle.pass.proofs.Rooms.{line_short, room}
+use Rattle.parts.specs.declared.QuantityView.{QuantityView}
 
-pub line_done : {f : State → Step} {sheet w₀ w : List ℕ} {h₀ : Held} {r : Passed} → Stepped f w₀ h₀ w r → AllFit sheet w₀ h₀ → LineDone f sheet w₀ h₀ w r
+pub line_done : {f : State → Step} {sheet w₀ w : List ℕ} {h₀ : Held} {r : Result Held Reason} → Stepped f w₀ h₀ w r → AllFit sheet w₀ h₀ → LineDone f sheet w₀ h₀ w r
 line_done {sheet = sheet} p a = record { is = p.is sheet; sound = p.sound; fit = p.fit sheet a }
 
 -- the view by another name
@@ -75,7 +74,7 @@ module _ {t list index sheet line w : List ℕ} {at end : ℕ} {h : Held} {c : C
     r.kept,
   )
 
-  pub timer_ready : (s : Span) (n : OptText) (q : OptQuantity) → c ≡ component.Timer s n q
+  pub timer_ready : (s : Span) (n : Option TextView) (q : Option QuantityView) → c ≡ component.Timer s n q
       → (t ≡ unicode_tables) × Indexed list index × OptQuantityWithin line q × Sound w h × (h.counts.findings + 2 < 1544) × (h.counts.timers < 100000) × (h.counts.items < 100000)
   unfolding EventWithin InsideWithin ComponentEventWithin
   timer_ready s n q e =
@@ -83,25 +82,25 @@ module _ {t list index sheet line w : List ℕ} {at end : ℕ} {h : Held} {c : C
       let y = rw e at z.within in
       (l.tables, l.units, y.2, r.kept.sound, omega (arith, b.findings), omega (arith, b.timers), omega (arith, b.items))
 
-pub component_done : {us : List NamedUnit} {flags : ℕ} {sheet line part w₀ w : List ℕ} {c d : ComponentEvent} {h₀ : Held} {r : Passed} → line ≡ part → c ≡ d → ComponentDone us flags sheet part d w₀ h₀ w r → ComponentDone us flags sheet line c w₀ h₀ w r
+pub component_done : {us : List NamedUnit} {flags : ℕ} {sheet line part w₀ w : List ℕ} {c d : ComponentEvent} {h₀ : Held} {r : Result Held Reason} → line ≡ part → c ≡ d → ComponentDone us flags sheet part d w₀ h₀ w r → ComponentDone us flags sheet line c w₀ h₀ w r
 component_done p e k = rw (p, e) k
 
-pub timer_done : {us : List NamedUnit} {flags : ℕ} {sheet line w₀ w : List ℕ} {c : ComponentEvent} {h₀ k : Held} (s : Span) (n : OptText) (q : OptQuantity) → c ≡ component.Timer s n q → AllFit sheet w₀ h₀ → TimerDone us flags line n q w₀ h₀ w k → ComponentDone us flags sheet line c w₀ h₀ w (Next k)
+pub timer_done : {us : List NamedUnit} {flags : ℕ} {sheet line w₀ w : List ℕ} {c : ComponentEvent} {h₀ k : Held} (s : Span) (n : Option TextView) (q : Option QuantityView) → c ≡ component.Timer s n q → AllFit sheet w₀ h₀ → TimerDone us flags line n q w₀ h₀ w k → ComponentDone us flags sheet line c w₀ h₀ w (Ok k)
 unfolding step_in SoundStep FitStep blank_step on_component component_event_in
 timer_done {sheet = sheet} s n q e a p = rw e record { is = ap next (p.went.is sheet); sound = p.went.sound; fit = p.went.fit sheet a }
 
 -- ---- lines in a step
 
 module _ {us : List NamedUnit} {flags : ℕ} {sheet line w₀ w : List ℕ} {e : Inside} {h₀ : Held} where
-  pub step_end : {r : Passed} (k : BlockKind) → e ≡ inside.End k → AllFit sheet w₀ h₀ → StepEnded k w₀ h₀ w r → InStep us flags sheet line e w₀ h₀ w r
+  pub step_end : {r : Result Held Reason} (k : BlockKind) → e ≡ inside.End k → AllFit sheet w₀ h₀ → StepEnded k w₀ h₀ w r → InStep us flags sheet line e w₀ h₀ w r
   unfolding inside_in
   step_end k q a p = rw q record { done = line_done (p.at us flags) a }
 
-  pub step_text : {k : Held} (v : TextView) → e ≡ inside.Text v → AllFit sheet w₀ h₀ → TextDone us flags line v w₀ h₀ w k → InStep us flags sheet line e w₀ h₀ w (Next k)
+  pub step_text : {k : Held} (v : TextView) → e ≡ inside.Text v → AllFit sheet w₀ h₀ → TextDone us flags line v w₀ h₀ w k → InStep us flags sheet line e w₀ h₀ w (Ok k)
   unfolding inside_in in_step_block
   step_text v q a p = rw q record { done = line_done (stepped p.went) a }
 
-  pub step_component : {r : Passed} (c : ComponentEvent) → e ≡ inside.Component c → ComponentDone us flags sheet line c w₀ h₀ w r → InStep us flags sheet line e w₀ h₀ w r
+  pub step_component : {r : Result Held Reason} (c : ComponentEvent) → e ≡ inside.Component c → ComponentDone us flags sheet line c w₀ h₀ w r → InStep us flags sheet line e w₀ h₀ w r
   unfolding inside_in in_step_block
   step_component c q p = rw q record { done = record { is = p.is; sound = p.sound; fit = p.fit } }
 
@@ -124,7 +123,7 @@ unfolding state_in state_of
 block_now sheet w h = refl
 
 module _ {us : List NamedUnit} {flags : ℕ} {sheet line w₀ w : List ℕ} {e : Inside} {h₀ : Held} where
-  inside_as : {r : Passed} (o : Open) → h₀.block ≡ o → ((text : List ℕ) → LineDone (λ (st : State). on_inside text us flags (inside_in line e) (open_of o) st) sheet w₀ h₀ w r) → InsideDone us flags sheet line e w₀ h₀ w r
+  inside_as : {r : Result Held Reason} (o : Open) → h₀.block ≡ o → ((text : List ℕ) → LineDone (λ (st : State). on_inside text us flags (inside_in line e) (open_of o) st) sheet w₀ h₀ w r) → InsideDone us flags sheet line e w₀ h₀ w r
   unfolding inside_now
   inside_as o q p =
       record {
@@ -135,22 +134,22 @@ module _ {us : List NamedUnit} {flags : ℕ} {sheet line w₀ w : List ℕ} {e :
         };
       }
 
-  pub inside_step : {r : Passed} → h₀.block ≡ StepBlock → InStep us flags sheet line e w₀ h₀ w r → InsideDone us flags sheet line e w₀ h₀ w r
+  pub inside_step : {r : Result Held Reason} → h₀.block ≡ StepBlock → InStep us flags sheet line e w₀ h₀ w r → InsideDone us flags sheet line e w₀ h₀ w r
   unfolding on_inside open_of
   inside_step q p = inside_as StepBlock q (λ text. p.done)
 
-  pub inside_text : {r : Passed} → h₀.block ≡ TextBlock → AllFit sheet w₀ h₀ → InTextBlock e w₀ h₀ w r → InsideDone us flags sheet line e w₀ h₀ w r
+  pub inside_text : {r : Result Held Reason} → h₀.block ≡ TextBlock → AllFit sheet w₀ h₀ → InTextBlock e w₀ h₀ w r → InsideDone us flags sheet line e w₀ h₀ w r
   unfolding on_inside open_of
   inside_text q a p = inside_as TextBlock q (λ text. line_done (p.at line) a)
 
-  pub inside_mode : {r : Passed} → h₀.block ≡ TextMode → AllFit sheet w₀ h₀ → InTextMode e w₀ h₀ w r → InsideDone us flags sheet line e w₀ h₀ w r
+  pub inside_mode : {r : Result Held Reason} → h₀.block ≡ TextMode → AllFit sheet w₀ h₀ → InTextMode e w₀ h₀ w r → InsideDone us flags sheet line e w₀ h₀ w r
   unfolding on_inside open_of
   inside_mode q a p = inside_as TextMode q (λ text. line_done (p.at text line) a)
 
   -- 12
-  pub inside_none : h₀.block ≡ Nothing → AllFit sheet w₀ h₀ → InsideDone us flags sheet line e w₀ h₀ w (Stop 12)
+  pub inside_none : h₀.block ≡ Nothing → AllFit sheet w₀ h₀ → InsideDone us flags sheet line e w₀ h₀ w (Err InNoBlock)
   unfolding on_inside open_of
-  inside_none q a = inside_as Nothing q (λ text. line_done (stopped 12) a)
+  inside_none q a = inside_as Nothing q (λ text. line_done (stopped InNoBlock) a)
 
 -- ---- lines between blocks
 
@@ -171,7 +170,7 @@ module _ {flags : ℕ} {line : List ℕ} {b : Between} {h₀ h : Held} where
   unfolding on_between between_in
   between_meta k v q p = rw q record { at = λ text us. p.went }
 
-  pub between_section : {w : List ℕ} (n : OptText) → b ≡ between.Section n → Sound w h₀ → SectionDone n h₀ h → BetweenDone flags line b w h₀ w h
+  pub between_section : {w : List ℕ} (n : Option TextView) → b ≡ between.Section n → Sound w h₀ → SectionDone n h₀ h → BetweenDone flags line b w h₀ w h
   unfolding on_between between_in
   between_section {w} n q z p =
       rw q
@@ -204,19 +203,19 @@ between_ready b q l z r =
 
 module _ {us : List NamedUnit} {flags : ℕ} {sheet line w₀ w : List ℕ} {v : EventView} {h₀ : Held} where
   -- 11
-  pub event_open : {o : Bool} (b : Between) → v ≡ event.Between b → OpenNow h₀ o → o ≡ true → EventDone us flags sheet line v w₀ h₀ w (Stop 11)
+  pub event_open : {o : Bool} (b : Between) → v ≡ event.Between b → OpenNow h₀ o → o ≡ true → EventDone us flags sheet line v w₀ h₀ w (Err InOpenBlock)
   unfolding on_event event_in step_in blank_step SoundStep FitStep
   event_open b q p t = rw q record { at = λ text. record { is = rw (sym (p.is sheet w₀) ∙ t); sound = tt; fit = tt } }
 
-  pub event_between : {o : Bool} {k : Held} (b : Between) → v ≡ event.Between b → OpenNow h₀ o → o ≡ false → AllFit sheet w₀ h₀ → BetweenDone flags line b w₀ h₀ w k → EventDone us flags sheet line v w₀ h₀ w (Next k)
+  pub event_between : {o : Bool} {k : Held} (b : Between) → v ≡ event.Between b → OpenNow h₀ o → o ≡ false → AllFit sheet w₀ h₀ → BetweenDone flags line b w₀ h₀ w k → EventDone us flags sheet line v w₀ h₀ w (Ok k)
   unfolding on_event event_in step_in blank_step SoundStep FitStep
   event_between b q p t a d = rw q record { at = λ text. record { is = rw (sym (p.is sheet w₀) ∙ t) (ap next ((d.at text us).is sheet)); sound = (d.at text us).sound; fit = (d.at text us).fit sheet a } }
 
-  pub event_inside : {r : Passed} (e : Inside) → v ≡ event.Inside e → InsideDone us flags sheet line e w₀ h₀ w r → EventDone us flags sheet line v w₀ h₀ w r
+  pub event_inside : {r : Result Held Reason} (e : Inside) → v ≡ event.Inside e → InsideDone us flags sheet line e w₀ h₀ w r → EventDone us flags sheet line v w₀ h₀ w r
   unfolding on_event event_in inside_now
   event_inside e q p = rw q record { at = λ text. record { is = (p.at text).is; sound = (p.at text).sound; fit = (p.at text).fit } }
 
-  pub event_finding : {k : Held} (s : Severity) (n : ℕ) → v ≡ event.Finding s n → AllFit sheet w₀ h₀ → Went (report (parsed (severity_in s) n ∷ [])) w₀ h₀ w k → EventDone us flags sheet line v w₀ h₀ w (Next k)
+  pub event_finding : {k : Held} (s : Severity) (n : ℕ) → v ≡ event.Finding s n → AllFit sheet w₀ h₀ → Went (report (parsed (severity_in s) n ∷ [])) w₀ h₀ w k → EventDone us flags sheet line v w₀ h₀ w (Ok k)
   unfolding on_event event_in
   event_finding s n q a p = rw q record { at = λ text. line_done (stepped p) a }
 

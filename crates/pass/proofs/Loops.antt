@@ -3,7 +3,7 @@ use Prim.Native.Nat.{ℕ, suc, ◌+◌, ◌-◌, ◌≤◌, ◌<◌}
 use mathlib.Core.Path.{◌≡◌, refl, sym, ap, ◌∙◌, subst}
 use mathlib.Core.List.{List, [], ◌∷◌, ◌++◌}
 use mathlib.Core.Bool.{true, false}
-use mathlib.Core.Option.{some}
+use Rattle.std.specs.Prelude.{Some, None, Option, Result, Ok, Err}
 use native.Mathlib.Omega.{arith}
 use native.Mathlib.Numerals.{add-one}
 use lib.ListN.{length, get_or, take, drop, length-drop}
@@ -19,8 +19,9 @@ use Rattle.rules.specs.State.{State, first_state, over_limits, Walk, going, fail
 use Rattle.rules.specs.Pass.{parser_findings, is_error_event, step, walk, finish, parse_events}
 use Rattle.rules.proofs.Chained as chained
 use Rattle.rules.proofs.Fields.{Without}
-use Rattle.sheet.specs.declared.LineEnd.{LineEnd}
-use Rattle.sheet.specs.declared.LineEnd.TheVariants.{At, Nothing}
+use Rattle.refusals.specs.Told.{number_of}
+use Rattle.refusals.specs.declared.Reason.{Reason}
+use Rattle.refusals.specs.declared.Refusal.{Refusal}
 use Rattle.sheet.specs.Lines.{lines_from, LineAt}
 use Rattle.content.proofs.Lines.{line_without, line_ends}
 use Rattle.events.specs.Views.{event_in}
@@ -36,10 +37,6 @@ use Rattle.memory.proofs.Bounds.{first_sound, first_fit}
 use Rattle.lookup.proofs.Names.{part_slice}
 use Rattle.component_lines.specs.Lines.{Kept}
 use Rattle.pass.specs.Walks.{EventHere, Counted, Running, WentOn, WalkedAs, StepDone, EndedAs, Finished, RanBy, RanAs}
-use Rattle.pass.specs.declared.Walked.{Walked}
-use Rattle.pass.specs.declared.Walked.TheVariants as walked
-use Rattle.pass.specs.declared.Ran.{Ran}
-use Rattle.pass.specs.declared.Ran.TheVariants as ran
 use Rattle.pass.proofs.Counts.{first_counted, counted_blank, counted_more}
 use Rattle.pass.proofs.Rooms.{bounded}
 use Rattle.pass.proofs.Steps.{sound_blank}
@@ -140,7 +137,7 @@ passing_starts {sheet = sheet} {text = text} {w = w} e s l q =
 
 -- ---- a line
 
-module _ {sheet : List ℕ} {at end : ℕ} {text : List ℕ} {number : ℕ} {es : List Event} (w : Rest text sheet at number es) {r : LineEnd} (l : LineAt sheet at r) (q : r ≡ At end) where
+module _ {sheet : List ℕ} {at end : ℕ} {text : List ℕ} {number : ℕ} {es : List Event} (w : Rest text sheet at number es) {r : Option ℕ} (l : LineAt sheet at r) (q : r ≡ Some end) where
   first_line_lem : lines (drop at sheet) ≡ more (take (end - at) (drop at sheet)) (lines (drop (end + 1) sheet))
   unfolding lines_from
   first_line_lem = sym (sym (ap (lines_from sheet at) q) ∙ l.is)
@@ -160,12 +157,12 @@ module _ {us : List NamedUnit} {flags : ℕ} {sheet text w₀ w : List ℕ} {h :
   pub passing_room : (h.counts.sections ≤ 128) × (h.counts.findings ≤ 1024)
   passing_room = let b = bounded p.running (omega (arith, p.from, p.short)) in (b.sections, b.findings)
 
-  module _ {r : LineEnd} (l : LineAt sheet at r) where
+  module _ {r : Option ℕ} (l : LineAt sheet at r) where
     -- every line is ended
-    pub passing_cut : {P : Type 0} → at < length sheet → r ≡ Nothing → P
+    pub passing_cut : {P : Type 0} → at < length sheet → r ≡ None → P
     passing_cut t q = rest_ended p.rest l t q
 
-    module _ {end : ℕ} (q : r ≡ At end) where
+    module _ {end : ℕ} (q : r ≡ Some end) where
       pub line_ready : (is_some (parse_line (take (end - at) (drop at sheet))) ≡ true) × Without lf (take (end - at) (drop at sheet))
       line_ready = (rest_some p.rest l q, no_lf_lem p.rest l q)
 
@@ -185,7 +182,7 @@ module _ {us : List NamedUnit} {flags : ℕ} {sheet text w₀ w : List ℕ} {h :
                   ends = lf_after p.rest l q;
                 };
                 short = p.short;
-                is = subst (λ (x : List ℕ). parse_line x ≡ some (event_in (take (end - at) (drop at sheet)) v)) e k.is;
+                is = subst (λ (x : List ℕ). parse_line x ≡ Some (event_in (take (end - at) (drop at sheet)) v)) e k.is;
               };
               within = k.within;
               fields = k.fields;
@@ -210,16 +207,16 @@ module _ {us : List NamedUnit} {flags : ℕ} {sheet text w₀ w : List ℕ} {h :
             blank_step_lem text us flags number (event_in (take (end - at) (drop at sheet)) v) (going p.state)
             ∙ ap (λ (x : State). blank_walk (stepped x)) (sym p.memory)
 
-        module _ {w₁ : List ℕ} (n : length w₁ ≡ length w) {s : Walked} (d : StepDone us flags sheet (take (end - at) (drop at sheet)) end v w h w₁ s) where
-          failed_at : s ≡ walked.Failed → is_error_event (event_in (take (end - at) (drop at sheet)) v) ≡ true
+        module _ {w₁ : List ℕ} (n : length w₁ ≡ length w) {s : Result (Option Held) Reason} (d : StepDone us flags sheet (take (end - at) (drop at sheet)) end v w h w₁ s) where
+          failed_at : s ≡ Ok None → is_error_event (event_in (take (end - at) (drop at sheet)) v) ≡ true
           unfolding WalkedAs
           failed_at e = rw e at d.is
 
-          step_fails : s ≡ walked.Failed → stepped p.state ≡ failed (parser_findings (event_in (take (end - at) (drop at sheet)) v) ++ only_parsed p.state.findings)
+          step_fails : s ≡ Ok None → stepped p.state ≡ failed (parser_findings (event_in (take (end - at) (drop at sheet)) v) ++ only_parsed p.state.findings)
           unfolding step
           step_fails e = rw (failed_at e)
 
-          pub passing_failed : s ≡ walked.Failed → RanAs us flags sheet text (events_or (read_sheet text sheet)) w₀ w₁ ran.Failed
+          pub passing_failed : s ≡ Ok None → RanAs us flags sheet text (events_or (read_sheet text sheet)) w₀ w₁ (Ok None)
           unfolding RanBy parse_events finish
           passing_failed e =
               let f = walk_failed text us flags first.others (number + 1) _ in
@@ -231,23 +228,23 @@ module _ {us : List NamedUnit} {flags : ℕ} {sheet text w₀ w : List ℕ} {h :
                 long = n ∙ p.long;
               }
 
-          refused_at : (m : ℕ) → s ≡ walked.Refused m → blank_walk (stepped (state_in sheet w h)) ≡ refused m number
+          refused_at : (m : Reason) → s ≡ Err m → blank_walk (stepped (state_in sheet w h)) ≡ refused (number_of m) number
           unfolding WalkedAs
           refused_at m e = (rw e at d.is) text number
 
-          pub passing_refused : (m : ℕ) → s ≡ walked.Refused m → RanAs us flags sheet text (events_or (read_sheet text sheet)) w₀ w₁ (ran.Refused m number)
+          pub passing_refused : (m : Reason) → s ≡ Err m → RanAs us flags sheet text (events_or (read_sheet text sheet)) w₀ w₁ (Err (record { reason = m; line = number }))
           unfolding RanBy parse_events finish
           passing_refused m e =
               record {
-                is = ap finish (whole ∙ ap (λ (x : Walk). walk text us flags (number + 1) x first.others) (is_refused _ m number (like ∙ refused_at m e)) ∙ walk_refused text us flags first.others (number + 1) m number);
+                is = ap finish (whole ∙ ap (λ (x : Walk). walk text us flags (number + 1) x first.others) (is_refused _ (number_of m) number (like ∙ refused_at m e)) ∙ walk_refused text us flags first.others (number + 1) (number_of m) number);
                 long = n ∙ p.long;
               }
 
-          went_on : (m : Held) → s ≡ walked.Going m → WentOn us flags sheet (take (end - at) (drop at sheet)) end v w h w₁ m
+          went_on : (m : Held) → s ≡ Ok (Some m) → WentOn us flags sheet (take (end - at) (drop at sheet)) end v w h w₁ m
           unfolding WalkedAs
           went_on m e = rw e at d.is
 
-          pub passing_on : (m : Held) → s ≡ walked.Going m → Passing us flags sheet text w₀ w₁ m (end + 1) (number + 1)
+          pub passing_on : (m : Held) → s ≡ Ok (Some m) → Passing us flags sheet text w₀ w₁ m (end + 1) (number + 1)
           passing_on m e =
               let g = went_on m e in
               let i = l.inside end q in
@@ -277,9 +274,9 @@ module _ {us : List NamedUnit} {flags : ℕ} {sheet text w₀ w : List ℕ} {h :
     unfolding parse_events
     finished = ap finish walked_all
 
-    ran_by : (s : Ran) → EndedAs h s → RanBy text us flags sheet (events_or (read_sheet text sheet)) w s
+    ran_by : (s : Result (Option Held) Refusal) → EndedAs h s → RanBy text us flags sheet (events_or (read_sheet text sheet)) w s
     unfolding EndedAs RanBy
-    ran_by (ran.Recipe m) d =
+    ran_by (Ok (Some m)) d =
         rw d.0
         record {
           state = p.state;
@@ -289,8 +286,8 @@ module _ {us : List NamedUnit} {flags : ℕ} {sheet text w₀ w : List ℕ} {h :
           kept = p.running.kept;
           counted = counted_more (state_in sheet w h) p.from p.running.counted;
         }
-    ran_by ran.Failed d = absurd d
-    ran_by (ran.Refused m k) d = finished ∙ d sheet w p.state p.memory
+    ran_by (Ok None) d = absurd d
+    ran_by (Err f) d = finished ∙ d sheet w p.state p.memory
 
-    pub passing_done : {s : Ran} → Finished h s → RanAs us flags sheet text (events_or (read_sheet text sheet)) w₀ w s
+    pub passing_done : {s : Result (Option Held) Refusal} → Finished h s → RanAs us flags sheet text (events_or (read_sheet text sheet)) w₀ w s
     passing_done {s} d = record { is = ran_by s d.is; long = p.long }

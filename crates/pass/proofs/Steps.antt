@@ -3,12 +3,16 @@ use Prim.Native.Nat.{ℕ, suc, ◌+◌}
 use mathlib.Core.Path.{◌≡◌, refl, sym, ap, ◌∙◌, subst}
 use mathlib.Core.List.{List, []}
 use mathlib.Core.Bool.{Bool, true, false}
+use Rattle.std.specs.Prelude.{Option, None, Some, Result, Ok, Err}
 use native.Mathlib.Omega.{arith}
 use Rattle.rules.specs.Basic.{pick}
 use Rattle.rules.specs.Units.{NamedUnit}
 use Rattle.rules.specs.State.{State, over_limits, Step, next, stop, going, refused}
 use Rattle.rules.specs.Pass.{settle, on_event, step}
 use Rattle.rules.proofs.Chained as chained
+use Rattle.refusals.specs.Told.{number_of}
+use Rattle.refusals.specs.declared.Reason.{Reason}
+use Rattle.refusals.specs.declared.Reason.TheVariants.{OverLimits as TooMuch}
 use Rattle.events.specs.Views.{event_in}
 use Rattle.events.specs.declared.EventView.{EventView}
 use Rattle.model.specs.Blank.{blank, blank_tables, blank_step, blank_walk}
@@ -18,10 +22,7 @@ use Rattle.model.specs.declared.Held.{Held}
 use Rattle.model.proofs.Blanks.{over_blank}
 use Rattle.memory.specs.Pushes.{OverLimits}
 use Rattle.blocks.specs.Lined.{step_in, SoundStep, FitStep}
-use Rattle.blocks.specs.declared.Passed.{Passed}
-use Rattle.blocks.specs.declared.Passed.TheVariants.{Next, Stop}
 use Rattle.pass.specs.Walks.{EventHere, Counted, Running, EventDone, ErrorView, WalkedAs, StepDone}
-use Rattle.pass.specs.declared.Walked.TheVariants as walked
 use Rattle.pass.proofs.Counts.{CountedStep, event_counted, counted_blank, counted_more}
 
 no_step : {P : Type 0} {st : State} {n : ℕ} → next st ≡ stop n → P
@@ -68,20 +69,20 @@ after_counted n (stop m) x e p = no_step e
 after_counted n (next st) x e p = subst (Counted n) (sym (next_inj e)) (counted_blank st p)
 
 module _ {us : List NamedUnit} {flags : ℕ} {sheet line w₀ w : List ℕ} {v : EventView} {h₀ : Held} where
-  pub step_failed : {end : ℕ} {o : Bool} → ErrorView v o → o ≡ true → StepDone us flags sheet line end v w₀ h₀ w walked.Failed
+  pub step_failed : {end : ℕ} {o : Bool} → ErrorView v o → o ≡ true → StepDone us flags sheet line end v w₀ h₀ w (Ok None)
   unfolding WalkedAs
   step_failed p t = record { is = sym (p.is line) ∙ t }
 
-  module _ {o : Bool} (p : ErrorView v o) (f : o ≡ false) {r : Passed} (d : EventDone us flags sheet line v w₀ h₀ w r) where
+  module _ {o : Bool} (p : ErrorView v o) (f : o ≡ false) {r : Result Held Reason} (d : EventDone us flags sheet line v w₀ h₀ w r) where
     settled : (text : List ℕ) (number : ℕ) → blank_walk (step text us flags number (event_in line v) (going (state_in sheet w₀ h₀))) ≡ blank_walk (settle number (on_event text us flags (event_in line v) (state_in sheet w₀ h₀)))
     unfolding step
     settled text number = rw (sym (p.is line) ∙ f)
 
-    pub step_stopped : {end : ℕ} (n : ℕ) → r ≡ Stop n → StepDone us flags sheet line end v w₀ h₀ w (walked.Refused n)
+    pub step_stopped : {end : ℕ} (m : Reason) → r ≡ Err m → StepDone us flags sheet line end v w₀ h₀ w (Err m)
     unfolding WalkedAs step_in
-    step_stopped n e = record { is = λ text number. settled text number ∙ settle_stop number _ n (rw e at (d.at text).is) }
+    step_stopped m e = record { is = λ text number. settled text number ∙ settle_stop number _ (number_of m) (rw e at (d.at text).is) }
 
-    module _ (k : Held) (e : r ≡ Next k) {b : Bool} (l : OverLimits k b) where
+    module _ (k : Held) (e : r ≡ Ok k) {b : Bool} (l : OverLimits k b) where
       after : (text : List ℕ) → next (state_in sheet w k) ≡ blank_step (on_event text us flags (event_in line v) (state_in sheet w₀ h₀))
       unfolding step_in
       after text = rw e at (d.at text).is
@@ -90,7 +91,7 @@ module _ {us : List NamedUnit} {flags : ℕ} {sheet line w₀ w : List ℕ} {v :
       settled_as text number = settled text number ∙ settle_next number _ (state_in sheet w k) (after text) b (l.is sheet w)
 
       -- 17
-      pub step_over : {end : ℕ} → b ≡ true → StepDone us flags sheet line end v w₀ h₀ w (walked.Refused 17)
+      pub step_over : {end : ℕ} → b ≡ true → StepDone us flags sheet line end v w₀ h₀ w (Err TooMuch)
       unfolding WalkedAs
       step_over t = record { is = λ text number. rw t at (settled_as text number) }
 
@@ -111,6 +112,6 @@ module _ {us : List NamedUnit} {flags : ℕ} {sheet line w₀ w : List ℕ} {v :
             counted = counted_more (state_in sheet w k) (omega (arith, z.here.whole.order)) c;
           }
 
-      pub step_going : {at end : ℕ} → b ≡ false → EventHere sheet line at end v → Running sheet w₀ h₀ at → StepDone us flags sheet line end v w₀ h₀ w (walked.Going k)
+      pub step_going : {at end : ℕ} → b ≡ false → EventHere sheet line at end v → Running sheet w₀ h₀ at → StepDone us flags sheet line end v w₀ h₀ w (Ok (Some k))
       unfolding WalkedAs
       step_going t z g = record { is = record { is = λ text number. rw t at (settled_as text number); running = running_after t z g } }

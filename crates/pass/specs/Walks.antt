@@ -1,5 +1,5 @@
 -- What the lines of the sheet, one after the other, and the end of the pass leave in work memory.
-use Rattle.std.specs.Prelude.{ℕ, ◌+◌, ◌≤◌, ◌≡◌, Bool, true, List, [], length}
+use Rattle.std.specs.Prelude.{ℕ, ◌+◌, ◌≤◌, ◌≡◌, Bool, true, List, [], length, Option, None, Some, Result, Ok, Err}
 use Rattle.std.proofs.Math.Seq.{slice}
 use Rattle.rules.specs.Units.{NamedUnit}
 use Rattle.rules.specs.Event.{Event}
@@ -8,6 +8,9 @@ use Rattle.rules.specs.State.{State, first_state, Step, going, refused, recipe, 
 use Rattle.rules.specs.Pass as rules
 use Rattle.rules.specs.Pass.{is_error_event, walk, ended, finish, parse_events}
 use Rattle.letters.specs.Tables.{unicode_tables}
+use Rattle.refusals.specs.Told.{number_of}
+use Rattle.refusals.specs.declared.Reason.{Reason}
+use Rattle.refusals.specs.declared.Refusal.{Refusal}
 use Rattle.events.specs.Views.{between_in, inside_in, event_in, EventWithin}
 use Rattle.events.specs.declared.Between.{Between}
 use Rattle.events.specs.declared.Inside.{Inside}
@@ -17,13 +20,8 @@ use Rattle.model.specs.Blank.{blank, blank_step, blank_walk}
 use Rattle.model.specs.Memory.{state_in}
 use Rattle.model.specs.declared.Held.{Held}
 use Rattle.blocks.specs.Lined.{step_in, SoundStep, FitStep, Went}
-use Rattle.blocks.specs.declared.Passed.{Passed}
 use Rattle.unit_index.specs.Index.{Indexed}
 use Rattle.component_lines.specs.Lines.{LineHere, Kept}
-use Rattle.pass.specs.declared.Walked.{Walked}
-use Rattle.pass.specs.declared.Walked.TheVariants as walked
-use Rattle.pass.specs.declared.Ran.{Ran}
-use Rattle.pass.specs.declared.Ran.TheVariants as ran
 
 -- ---- what every line is given
 
@@ -54,26 +52,26 @@ pub record Running (sheet w : List ℕ) (h : Held) (n : ℕ) : Type 0 where
 -- ---- a line
 
 -- f is what the rules make of a state
-pub record LineDone (f : State → Step) (sheet w₀ : List ℕ) (h₀ : Held) (w : List ℕ) (r : Passed) : Type 0 where
+pub record LineDone (f : State → Step) (sheet w₀ : List ℕ) (h₀ : Held) (w : List ℕ) (r : Result Held Reason) : Type 0 where
   pub is : step_in sheet w r ≡ blank_step (f (state_in sheet w₀ h₀))
   pub sound : SoundStep w r
   pub fit : FitStep sheet w r
 
 -- a line in a step, a line in any block, a line between blocks, any line; what the recipe's text is does not matter,
 -- nor the units between blocks
-pub record InStep (us : List NamedUnit) (flags : ℕ) (sheet line : List ℕ) (e : Inside) (w₀ : List ℕ) (h₀ : Held) (w : List ℕ) (r : Passed) : Type 0 where
+pub record InStep (us : List NamedUnit) (flags : ℕ) (sheet line : List ℕ) (e : Inside) (w₀ : List ℕ) (h₀ : Held) (w : List ℕ) (r : Result Held Reason) : Type 0 where
   pub done : LineDone (rules.in_step_block us flags (inside_in line e) []) sheet w₀ h₀ w r
 
 unfoldable pub inside_now : List ℕ → List NamedUnit → ℕ → List ℕ → Inside → State → Step
 inside_now text us flags line e st = rules.on_inside text us flags (inside_in line e) st.place.block st
 
-pub record InsideDone (us : List NamedUnit) (flags : ℕ) (sheet line : List ℕ) (e : Inside) (w₀ : List ℕ) (h₀ : Held) (w : List ℕ) (r : Passed) : Type 0 where
+pub record InsideDone (us : List NamedUnit) (flags : ℕ) (sheet line : List ℕ) (e : Inside) (w₀ : List ℕ) (h₀ : Held) (w : List ℕ) (r : Result Held Reason) : Type 0 where
   pub at : (text : List ℕ) → LineDone (inside_now text us flags line e) sheet w₀ h₀ w r
 
 pub record BetweenDone (flags : ℕ) (line : List ℕ) (b : Between) (w₀ : List ℕ) (h₀ : Held) (w : List ℕ) (h : Held) : Type 0 where
   pub at : (text : List ℕ) (us : List NamedUnit) → Went (rules.on_between text us flags (between_in line b)) w₀ h₀ w h
 
-pub record EventDone (us : List NamedUnit) (flags : ℕ) (sheet line : List ℕ) (v : EventView) (w₀ : List ℕ) (h₀ : Held) (w : List ℕ) (r : Passed) : Type 0 where
+pub record EventDone (us : List NamedUnit) (flags : ℕ) (sheet line : List ℕ) (v : EventView) (w₀ : List ℕ) (h₀ : Held) (w : List ℕ) (r : Result Held Reason) : Type 0 where
   pub at : (text : List ℕ) → LineDone (rules.on_event text us flags (event_in line v)) sheet w₀ h₀ w r
 
 -- whether a view is of an `error` line
@@ -88,22 +86,22 @@ module _ (us : List NamedUnit) (flags : ℕ) (sheet line : List ℕ) (end : ℕ)
     pub is : (text : List ℕ) (number : ℕ) → blank_walk (rules.step text us flags number (event_in line v) (going (state_in sheet w₀ h₀))) ≡ going (state_in sheet w h)
     pub running : Running sheet w h (end + 1)
 
-  unfoldable pub WalkedAs : Walked → Type 0
-  WalkedAs (walked.Going h) = WentOn h
-  WalkedAs walked.Failed = is_error_event (event_in line v) ≡ true
-  WalkedAs (walked.Refused n) = (text : List ℕ) (number : ℕ) → blank_walk (rules.step text us flags number (event_in line v) (going (state_in sheet w₀ h₀))) ≡ refused n number
+  unfoldable pub WalkedAs : Result (Option Held) Reason → Type 0
+  WalkedAs (Ok (Some h)) = WentOn h
+  WalkedAs (Ok None) = is_error_event (event_in line v) ≡ true
+  WalkedAs (Err r) = (text : List ℕ) (number : ℕ) → blank_walk (rules.step text us flags number (event_in line v) (going (state_in sheet w₀ h₀))) ≡ refused (number_of r) number
 
-pub record StepDone (us : List NamedUnit) (flags : ℕ) (sheet line : List ℕ) (end : ℕ) (v : EventView) (w₀ : List ℕ) (h₀ : Held) (w : List ℕ) (r : Walked) : Type 0 where
+pub record StepDone (us : List NamedUnit) (flags : ℕ) (sheet line : List ℕ) (end : ℕ) (v : EventView) (w₀ : List ℕ) (h₀ : Held) (w : List ℕ) (r : Result (Option Held) Reason) : Type 0 where
   pub is : WalkedAs us flags sheet line end v w₀ h₀ w r
 
 -- ---- the end
 
-unfoldable pub EndedAs : Held → Ran → Type 0
-EndedAs h (ran.Recipe k) = (k ≡ h) × ((sheet w : List ℕ) (st : State) → state_in sheet w h ≡ blank st → finish (going st) ≡ recipe (ended st))
-EndedAs h ran.Failed = ⊥
-EndedAs h (ran.Refused n l) = (sheet w : List ℕ) (st : State) → state_in sheet w h ≡ blank st → finish (going st) ≡ refusal n l
+unfoldable pub EndedAs : Held → Result (Option Held) Refusal → Type 0
+EndedAs h (Ok (Some k)) = (k ≡ h) × ((sheet w : List ℕ) (st : State) → state_in sheet w h ≡ blank st → finish (going st) ≡ recipe (ended st))
+EndedAs h (Ok None) = ⊥
+EndedAs h (Err f) = (sheet w : List ℕ) (st : State) → state_in sheet w h ≡ blank st → finish (going st) ≡ refusal (number_of f.reason) f.line
 
-pub record Finished (h : Held) (r : Ran) : Type 0 where
+pub record Finished (h : Held) (r : Result (Option Held) Refusal) : Type 0 where
   pub is : EndedAs h r
 
 -- ---- the whole pass
@@ -122,11 +120,11 @@ pub record RanFailed (text : List ℕ) (us : List NamedUnit) (flags : ℕ) (es :
   pub findings : List Finding
   pub is : parse_events text us flags es ≡ no_recipe findings
 
-unfoldable pub RanBy : List ℕ → List NamedUnit → ℕ → List ℕ → List Event → List ℕ → Ran → Type 0
-RanBy text us flags sheet es w (ran.Recipe h) = RanRecipe text us flags sheet es w h
-RanBy text us flags sheet es w ran.Failed = RanFailed text us flags es
-RanBy text us flags sheet es w (ran.Refused n l) = parse_events text us flags es ≡ refusal n l
+unfoldable pub RanBy : List ℕ → List NamedUnit → ℕ → List ℕ → List Event → List ℕ → Result (Option Held) Refusal → Type 0
+RanBy text us flags sheet es w (Ok (Some h)) = RanRecipe text us flags sheet es w h
+RanBy text us flags sheet es w (Ok None) = RanFailed text us flags es
+RanBy text us flags sheet es w (Err f) = parse_events text us flags es ≡ refusal (number_of f.reason) f.line
 
-pub record RanAs (us : List NamedUnit) (flags : ℕ) (sheet text : List ℕ) (es : List Event) (w₀ w : List ℕ) (r : Ran) : Type 0 where
+pub record RanAs (us : List NamedUnit) (flags : ℕ) (sheet text : List ℕ) (es : List Event) (w₀ w : List ℕ) (r : Result (Option Held) Refusal) : Type 0 where
   pub is : RanBy text us flags sheet es w r
   pub long : length w ≡ length w₀

@@ -13,9 +13,9 @@ ghost use Rattle.unit_checks.specs.Codes.{CodesKept};
 ghost use Rattle.component_lines.specs.Lines.{ComponentDone};
 ghost use Rattle.pass.specs.Walks.{Lent, EventHere, Running, InStep, InsideDone, BetweenDone, EventDone, ErrorView, StepDone, Finished, RanAs};
 
-use blocks::Passed;
 use events::{Between, ComponentEvent, EventView, Inside, Severity};
 use model::{Held, Open};
+use refusals::{Reason, Refusal};
 
 fn on_component(
     t: &[u32],
@@ -30,7 +30,7 @@ fn on_component(
     codes: &mut [u32],
     words: &mut [u32],
     h: Held,
-) -> Passed
+) -> Result<Held, Reason>
     requires { Lent t.now units.now index.now × EventHere sheet.now line.now at end (event.Inside (inside.Component c)) × Running sheet.now words.old h at × CodesKept units.now sheet.now codes.old }
     ensures { ComponentDone (units_or (read_units units.now)) flags sheet.now line.now c words.old h words.new result × CodesKept units.now sheet.now codes.new }
 {
@@ -43,7 +43,7 @@ fn on_component(
         ),
         ComponentEvent::Timer(s, n, q) => {
             let k = timers::on_timer(t, units, index, flags, line, n, q, words, h);
-            Passed::Next(k)
+            Ok(k)
         }
     }
 }
@@ -62,7 +62,7 @@ fn in_step_block(
     codes: &mut [u32],
     words: &mut [u32],
     h: Held,
-) -> Passed
+) -> Result<Held, Reason>
     requires { Lent t.now units.now index.now × EventHere sheet.now line.now at end (event.Inside e) × Running sheet.now words.old h at × CodesKept units.now sheet.now codes.old }
     ensures { InStep (units_or (read_units units.now)) flags sheet.now line.now e words.old h words.new result × CodesKept units.now sheet.now codes.new }
 {
@@ -70,7 +70,7 @@ fn in_step_block(
         Inside::End(kind) => blocks::end_step(words, h, kind),
         Inside::Text(v) => {
             let k = step_texts::text_in_step(t, units, index, flags, line, v, words, h);
-            Passed::Next(k)
+            Ok(k)
         }
         Inside::Component(c) => on_component(
             t, units, index, flags, sheet, line, at, end, c, codes, words, h,
@@ -92,13 +92,13 @@ fn on_inside(
     codes: &mut [u32],
     words: &mut [u32],
     h: Held,
-) -> Passed
+) -> Result<Held, Reason>
     requires { Lent t.now units.now index.now × EventHere sheet.now line.now at end (event.Inside e) × Running sheet.now words.old h at × CodesKept units.now sheet.now codes.old }
     ensures { InsideDone (units_or (read_units units.now)) flags sheet.now line.now e words.old h words.new result × CodesKept units.now sheet.now codes.new }
 {
     let block = h.block;
     match block {
-        Open::Nothing => Passed::Stop(12),
+        Open::Nothing => Err(Reason::InNoBlock),
         Open::Step => in_step_block(
             t, units, index, flags, sheet, line, at, end, e, codes, words, h,
         ),
@@ -132,24 +132,24 @@ fn on_event(
     codes: &mut [u32],
     words: &mut [u32],
     h: Held,
-) -> Passed
+) -> Result<Held, Reason>
     requires { Lent t.now units.now index.now × EventHere sheet.now line.now at end v × Running sheet.now words.old h at × CodesKept units.now sheet.now codes.old }
     ensures { EventDone (units_or (read_units units.now)) flags sheet.now line.now v words.old h words.new result × CodesKept units.now sheet.now codes.new }
 {
     match v {
         EventView::Between(b) => {
             if blocks::is_open(h) {
-                return Passed::Stop(11);
+                return Err(Reason::InOpenBlock);
             }
             let k = on_between(t, flags, line, b, words, h);
-            Passed::Next(k)
+            Ok(k)
         }
         EventView::Inside(e) => on_inside(
             t, units, index, flags, sheet, line, at, end, e, codes, words, h,
         ),
         EventView::Finding(s, n) => {
             let k = blocks::on_finding(words, h, s, n);
-            Passed::Next(k)
+            Ok(k)
         }
     }
 }
@@ -168,15 +168,7 @@ pub fn is_error(v: EventView) -> bool
     }
 }
 
-#[derive(Clone, Copy)]
-pub enum Walked {
-    Going(Held),
-    // An `error` line: there will be no recipe.
-    Failed,
-    Refused(u32),
-}
-
-// One line, and 17 after it.
+// One line, and 17 after it. `None`: an `error` line; there will be no recipe.
 fn step(
     t: &[u32],
     units: &[u8],
@@ -190,47 +182,35 @@ fn step(
     codes: &mut [u32],
     words: &mut [u32],
     h: Held,
-) -> Walked
+) -> Result<Option<Held>, Reason>
     requires { Lent t.now units.now index.now × EventHere sheet.now line.now at end v × Running sheet.now words.old h at × CodesKept units.now sheet.now codes.old }
     ensures { StepDone (units_or (read_units units.now)) flags sheet.now line.now end v words.old h words.new result × CodesKept units.now sheet.now codes.new }
 {
     if is_error(v) {
-        return Walked::Failed;
+        return Ok(None);
     }
-    match on_event(
+    let k = on_event(
         t, units, index, flags, sheet, line, at, end, v, codes, words, h,
-    ) {
-        Passed::Stop(n) => Walked::Refused(n),
-        Passed::Next(k) => {
-            if memory::over_limits(k) {
-                return Walked::Refused(17);
-            }
-            Walked::Going(k)
-        }
+    )?;
+    if memory::over_limits(k) {
+        return Err(Reason::OverLimits);
     }
-}
-
-#[derive(Clone, Copy)]
-pub enum Ran {
-    Recipe(Held),
-    Failed,
-    // The number of the refusal, and of the line.
-    Refused(u32, u32),
+    Ok(Some(k))
 }
 
 // The end: 19, then 17.
-fn finish(h: Held) -> Ran
+fn finish(h: Held) -> Result<Option<Held>, Refusal>
     requires { (h.counts.sections ≤ 128) × (h.counts.findings ≤ 1024) }
     ensures { Finished h result }
 {
-    let n = memory::end_refusal(h);
-    if n == 0 {
-        return Ran::Recipe(h);
+    match memory::check_end(h) {
+        Err(reason) => Err(Refusal { reason, line: 0 }),
+        Ok(()) => Ok(Some(h)),
     }
-    Ran::Refused(n, 0)
 }
 
-// The whole pass. What the words held before does not matter. From an `error` line on nothing more is refused.
+// The whole pass. What the words held before does not matter. From an `error` line on nothing more is refused; `None`: there was
+// one, and there is no recipe.
 pub fn run(
     t: &[u32],
     sheet: &[u8],
@@ -239,7 +219,7 @@ pub fn run(
     index: &[u32],
     flags: u32,
     words: &mut [u32],
-) -> Ran
+) -> Result<Option<Held>, Refusal>
     requires { Lent t.now units.now index.now × (length sheet.now ≤ 65536) × (24157 ≤ length words.old) × (read_sheet text.now sheet.now ≡ events (events_or (read_sheet text.now sheet.now))) }
     ensures { RanAs (units_or (read_units units.now)) flags sheet.now text.now (events_or (read_sheet text.now sheet.now)) words.old words.new result }
 {
@@ -249,21 +229,24 @@ pub fn run(
     let mut at = 0;
     let mut number: u32 = 1;
     while at < sheet.len() {
-        let sheet::LineEnd::At(end) = sheet::line_end(sheet, at) else {
-            return Ran::Failed;
+        let Some(end) = sheet::line_end(sheet, at) else {
+            return Ok(None);
         };
         let line = &sheet[at..end];
         let v = known_events::event_of(line);
         match step(
             t, units, index, flags, sheet, line, at, end, v, &mut codes, words, h,
         ) {
-            Walked::Failed => {
-                return Ran::Failed;
+            Err(reason) => {
+                return Err(Refusal {
+                    reason,
+                    line: number,
+                });
             }
-            Walked::Refused(n) => {
-                return Ran::Refused(n, number);
+            Ok(None) => {
+                return Ok(None);
             }
-            Walked::Going(k) => {
+            Ok(Some(k)) => {
                 h = k;
                 at = end + 1;
                 number += 1;

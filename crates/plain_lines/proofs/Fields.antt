@@ -1,4 +1,5 @@
 -- The fields of spans, texts, quantities and components, as their writers write them.
+use Rattle.std.specs.Prelude.{None, Option, Some}
 use Prim.Native.Nat.{ℕ}
 use mathlib.Core.Path.{◌≡◌}
 use mathlib.Core.Bool.{Bool, true, false}
@@ -13,15 +14,12 @@ use Rattle.output.specs.Put.{Put, tabbed}
 use Rattle.output.proofs.Texts.{put_fields}
 use Rattle.parts.specs.declared.Span.{Span}
 use Rattle.parts.specs.declared.TextView.{TextView}
-use Rattle.parts.specs.declared.OptText.{OptText}
-use Rattle.parts.specs.declared.OptText.TheVariants as text
 use Rattle.parts.specs.declared.QuantityView.{QuantityView}
-use Rattle.parts.specs.declared.OptQuantity.{OptQuantity}
-use Rattle.parts.specs.declared.OptQuantity.TheVariants as quantity
-use Rattle.parts.specs.Views.{span_in, content_in, text_in, opt_text_in, kind_in, quantity_in, opt_quantity_in}
+use Rattle.parts.specs.Views.{span_in, content_in, text_in, opt_text_in, quantity_in, opt_quantity_in}
 use Rattle.components.specs.declared.ComponentView.{ComponentView}
 use Rattle.components.specs.Views.{modifiers_in, component_in}
 use Rattle.known_events.specs.Fields.{TextField, OptTextField}
+use Rattle.sheet.specs.Words.{kind_in}
 
 module _ {o₀ o₁ o₂ : List ℕ} {at n r : ℕ} where
   pub span_put : (s : Span) → Put (tabbed (decimal s.start ∷ [])) o₀ at o₁ n → Put (tabbed (decimal s.end ∷ [])) o₁ n o₂ r → Put (tabbed (span_fields (span_in s))) o₀ at o₂ r
@@ -34,26 +32,26 @@ module _ {o₀ o₁ o₂ : List ℕ} {at n r : ℕ} where
 
 -- ---- what may be absent
 
-module _ (line : List ℕ) {q : OptText} where
-  pub text_field : {v : TextView} → q ≡ text.Present v → OptTextField line q → TextField line v
+module _ (line : List ℕ) {q : Option TextView} where
+  pub text_field : {v : TextView} → q ≡ Some v → OptTextField line q → TextField line v
   unfolding OptTextField
   text_field e h = rw e at h
 
   module _ {o₀ o : List ℕ} {at r : ℕ} where
-    pub text_absent : q ≡ text.Absent → Put (tabbed (codes "-" ∷ [])) o₀ at o r → Put (tabbed (opt_fields text_fields (opt_text_in line q))) o₀ at o r
+    pub text_absent : q ≡ None → Put (tabbed (codes "-" ∷ [])) o₀ at o r → Put (tabbed (opt_fields text_fields (opt_text_in line q))) o₀ at o r
     unfolding opt_fields opt_text_in
     text_absent e x = rw e x
 
-    pub text_present : {v : TextView} → q ≡ text.Present v → Put (tabbed (text_fields (text_in line v))) o₀ at o r → Put (tabbed (opt_fields text_fields (opt_text_in line q))) o₀ at o r
+    pub text_present : {v : TextView} → q ≡ Some v → Put (tabbed (text_fields (text_in line v))) o₀ at o r → Put (tabbed (opt_fields text_fields (opt_text_in line q))) o₀ at o r
     unfolding opt_fields opt_text_in
     text_present e x = rw e x
 
-module _ (line : List ℕ) {q : OptQuantity} {o₀ o : List ℕ} {at r : ℕ} where
-  pub quantity_absent : q ≡ quantity.Absent → Put (tabbed (codes "-" ∷ [])) o₀ at o r → Put (tabbed (opt_fields quantity_fields (opt_quantity_in line q))) o₀ at o r
+module _ (line : List ℕ) {q : Option QuantityView} {o₀ o : List ℕ} {at r : ℕ} where
+  pub quantity_absent : q ≡ None → Put (tabbed (codes "-" ∷ [])) o₀ at o r → Put (tabbed (opt_fields quantity_fields (opt_quantity_in line q))) o₀ at o r
   unfolding opt_fields opt_quantity_in
   quantity_absent e x = rw e x
 
-  pub quantity_present : {v : QuantityView} → q ≡ quantity.Present v → Put (tabbed (quantity_fields (quantity_in line v))) o₀ at o r → Put (tabbed (opt_fields quantity_fields (opt_quantity_in line q))) o₀ at o r
+  pub quantity_present : {v : QuantityView} → q ≡ Some v → Put (tabbed (quantity_fields (quantity_in line v))) o₀ at o r → Put (tabbed (opt_fields quantity_fields (opt_quantity_in line q))) o₀ at o r
   unfolding opt_fields opt_quantity_in
   quantity_present e x = rw e x
 

@@ -2,23 +2,25 @@
 // writer gets the output from the cursor on and returns how many bytes it wrote, or one more than there is room for.
 #![tactic(auto)]
 
-ghost use Rattle.std.specs.Prelude.{◌≡◌, true, false, [], ◌∷◌, ◌++◌, length};
+ghost use Rattle.std.specs.Prelude.{◌≡◌, true, [], ◌∷◌, ◌++◌, length};
 ghost use Rattle.rules.specs.Basic.{pick, codes, lf};
 ghost use Rattle.rules.specs.Utf8.{is_utf8};
 ghost use Rattle.rules.specs.Words.{text_kind};
 ghost use Rattle.rules.specs.Event.{start_event, end_event, text_event, component_event, between, inside};
 ghost use Rattle.rules.specs.Answer.{is_good_span};
-ghost use Rattle.rules.specs.Model.{with_ref};
+ghost use Rattle.rules.specs.Model.{ingredient, cookware, with_ref};
 ghost use Rattle.rules.specs.Write.{opt_fields, span_fields, text_fields, quantity_fields, named_fields, write_line};
 ghost use Rattle.rules.specs.Plain.{mark_ref};
 ghost use Rattle.output.specs.Put.{Put, tabbed};
 ghost use Rattle.parts.specs.Views.{span_in, text_in, opt_text_in, quantity_in, opt_quantity_in};
 ghost use Rattle.components.specs.Views.{modifiers_in, component_in};
 ghost use Rattle.known_events.specs.Fields.{TextField, OptTextField, QuantityFields, OptQuantityFields, ComponentFields};
+ghost use Rattle.model.specs.Kinds.{kind_of};
 ghost use Rattle.plain_lines.specs.Lines.{source_at, marked_as};
 
 use components::{ComponentView, Modifiers};
-use parts::{OptQuantity, OptText, QuantityView, Span, TextView};
+use model::Kind;
+use parts::{QuantityView, Span, TextView};
 
 // A line as it stands in the sheet, and its LF.
 pub fn copied_line(rest: &mut [u8], line: &[u8]) -> usize
@@ -75,13 +77,13 @@ fn put_text_fields(out: &mut [u8], at: usize, line: &[u8], v: TextView) -> usize
     page_fields::put_text(out, n, line, v)
 }
 
-fn put_opt_text_fields(out: &mut [u8], at: usize, line: &[u8], o: OptText) -> usize
+fn put_opt_text_fields(out: &mut [u8], at: usize, line: &[u8], o: Option<TextView>) -> usize
     requires { OptTextField line.now o }
     ensures { Put (tabbed (opt_fields text_fields (opt_text_in line.now o))) out.old at out.new result }
 {
     match o {
-        OptText::Absent => output::put_field(out, at, b"-"),
-        OptText::Present(v) => put_text_fields(out, at, line, v),
+        None => output::put_field(out, at, b"-"),
+        Some(v) => put_text_fields(out, at, line, v),
     }
 }
 
@@ -109,13 +111,13 @@ fn put_quantity_fields(out: &mut [u8], at: usize, line: &[u8], v: QuantityView) 
     put_opt_text_fields(out, e, line, unit)
 }
 
-fn put_opt_quantity_fields(out: &mut [u8], at: usize, line: &[u8], q: OptQuantity) -> usize
+fn put_opt_quantity_fields(out: &mut [u8], at: usize, line: &[u8], q: Option<QuantityView>) -> usize
     requires { OptQuantityFields line.now q }
     ensures { Put (tabbed (opt_fields quantity_fields (opt_quantity_in line.now q))) out.old at out.new result }
 {
     match q {
-        OptQuantity::Absent => output::put_field(out, at, b"-"),
-        OptQuantity::Present(v) => put_quantity_fields(out, at, line, v),
+        None => output::put_field(out, at, b"-"),
+        Some(v) => put_quantity_fields(out, at, line, v),
     }
 }
 
@@ -152,7 +154,7 @@ fn put_marked(out: &mut [u8], at: usize, line: &[u8], v: ComponentView) -> usize
 // An ingredient with REF added; what refers to a component of its kind has no intermediate reference.
 fn marked_ingredient(rest: &mut [u8], line: &[u8], v: ComponentView) -> usize
     requires { ComponentFields line.now v }
-    ensures { Put (write_line (inside (component_event (marked_as true (component_in line.now v))))) rest.old 0 rest.new result }
+    ensures { Put (write_line (inside (component_event (marked_as ingredient (component_in line.now v))))) rest.old 0 rest.new result }
 {
     let a = output::put_bytes(rest, 0, b"ingredient");
     let b = put_marked(rest, a, line, v);
@@ -162,7 +164,7 @@ fn marked_ingredient(rest: &mut [u8], line: &[u8], v: ComponentView) -> usize
 
 fn marked_cookware(rest: &mut [u8], line: &[u8], v: ComponentView) -> usize
     requires { ComponentFields line.now v }
-    ensures { Put (write_line (inside (component_event (marked_as false (component_in line.now v))))) rest.old 0 rest.new result }
+    ensures { Put (write_line (inside (component_event (marked_as cookware (component_in line.now v))))) rest.old 0 rest.new result }
 {
     let a = output::put_bytes(rest, 0, b"cookware");
     let b = put_marked(rest, a, line, v);
@@ -170,12 +172,12 @@ fn marked_cookware(rest: &mut [u8], line: &[u8], v: ComponentView) -> usize
 }
 
 // The line of an implicit reference with REF added.
-pub fn marked_line(rest: &mut [u8], line: &[u8], is_ingredient: bool, v: ComponentView) -> usize
+pub fn marked_line(rest: &mut [u8], line: &[u8], kind: Kind, v: ComponentView) -> usize
     requires { ComponentFields line.now v }
-    ensures { Put (write_line (inside (component_event (marked_as is_ingredient (component_in line.now v))))) rest.old 0 rest.new result }
+    ensures { Put (write_line (inside (component_event (marked_as (kind_of kind) (component_in line.now v))))) rest.old 0 rest.new result }
 {
-    if is_ingredient {
-        return marked_ingredient(rest, line, v);
+    match kind {
+        Kind::Ingredient => marked_ingredient(rest, line, v),
+        Kind::Cookware => marked_cookware(rest, line, v),
     }
-    marked_cookware(rest, line, v)
 }

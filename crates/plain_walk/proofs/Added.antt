@@ -3,7 +3,7 @@ use Prim.Native.Nat.{ℕ, zero, suc, ◌≤◌, ◌<◌}
 use mathlib.Core.Path.{◌≡◌, refl, sym, ap, ◌∙◌}
 use mathlib.Core.List.{List, [], ◌∷◌, ◌++◌}
 use mathlib.Core.Bool.{Bool, true, false}
-use mathlib.Core.Option.{Option, none, some}
+use Rattle.std.specs.Prelude.{Option, None, Some}
 use native.Mathlib.Omega.{arith}
 use lib.ListN.{length}
 use Rattle.rules.specs.Basic.{pick, each}
@@ -44,10 +44,10 @@ module _ (units : List NamedUnit) (flags : ℕ) where
   pub ingredient_pushed : (c : Component) (i : Option Intermediate) (items : List Item) (st after : State) → on_component units flags (ingredient_event c i) items st ≡ next after
       → c.modifiers.ref ≡ false → table_of ingredient after ≡ pushed (made_by_name units flags ingredient c st) (table_of ingredient st)
   unfolding on_component unless_fault intermediate_fault make_ingredient
-  ingredient_pushed c none items st after q r = made_pushed ingredient (made_by_name units flags ingredient c st) items st after q
-  ingredient_pushed c (some i) items st after q r = no_step (rw r at q)
+  ingredient_pushed c None items st after q r = made_pushed ingredient (made_by_name units flags ingredient c st) items st after q
+  ingredient_pushed c (Some i) items st after q r = no_step (rw r at q)
 
-  pub ingredient_refused : {P : Type 0} (c : Component) (i : Intermediate) (items : List Item) (st after : State) → on_component units flags (ingredient_event c (some i)) items st ≡ next after
+  pub ingredient_refused : {P : Type 0} (c : Component) (i : Intermediate) (items : List Item) (st after : State) → on_component units flags (ingredient_event c (Some i)) items st ≡ next after
       → c.modifiers.ref ≡ false → P
   unfolding on_component unless_fault intermediate_fault
   ingredient_refused c i items st after q r = no_step (rw r at q)
@@ -60,8 +60,8 @@ module _ (units : List NamedUnit) (flags : ℕ) where
     where
       go : (o : Option ℕ) → unless_fault o (on_made units flags ingredient (make_ingredient units flags c i st) items st) ≡ next after
           → table_of ingredient after ≡ pushed (make_ingredient units flags c i st) (table_of ingredient st)
-      go none q = made_pushed ingredient (make_ingredient units flags c i st) items st after q
-      go (some n) q = no_step q
+      go None q = made_pushed ingredient (make_ingredient units flags c i st) items st after q
+      go (Some n) q = no_step q
 
   pub cookware_pushed : (c : Component) (items : List Item) (st after : State) → on_component units flags (cookware_event c) items st ≡ next after
       → table_of cookware after ≡ pushed (made_by_name units flags cookware c st) (table_of cookware st)

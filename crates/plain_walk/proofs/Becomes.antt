@@ -3,7 +3,7 @@ use Prim.Native.Nat.{ℕ, ◌+◌, ◌-◌, ◌*◌, ◌≤◌, ◌<◌}
 use mathlib.Core.Path.{◌≡◌, refl, sym, ap, ◌∙◌, subst}
 use mathlib.Core.List.{List, [], ◌∷◌}
 use mathlib.Core.Bool.{Bool, true, false, ◌&&◌}
-use mathlib.Core.Option.{Option}
+use Rattle.std.specs.Prelude.{Option, None, Some}
 use native.Mathlib.Omega.{arith}
 use lib.ListN.{length, take, drop, length-drop}
 use lib.Seq.{length-take-le}
@@ -21,14 +21,11 @@ use Rattle.config_keys.specs.Keys.{HeededKey}
 use Rattle.parts.specs.Views.{text_in, TextWithin, part_of}
 use Rattle.parts.specs.declared.Span.{Span}
 use Rattle.parts.specs.declared.TextView.{TextView}
-use Rattle.parts.specs.declared.OptText.{OptText}
-use Rattle.parts.specs.declared.OptQuantity.{OptQuantity}
 use Rattle.components.specs.Views as views
 use Rattle.components.specs.declared.ComponentView.{ComponentView}
-use Rattle.components.specs.declared.OptIntermediate.{OptIntermediate}
-use Rattle.events.specs.Views.{block_in, between_in, component_event_in, inside_in, event_in, BetweenWithin, EventWithin}
-use Rattle.events.specs.declared.BlockKind.{BlockKind}
-use Rattle.events.specs.declared.BlockKind.TheVariants as kind
+use Rattle.events.specs.Views.{between_in, component_event_in, inside_in, event_in, BetweenWithin, EventWithin}
+use Rattle.sheet.specs.declared.BlockKind.{BlockKind}
+use Rattle.sheet.specs.declared.BlockKind.TheVariants as kind
 use Rattle.events.specs.declared.Between.{Between}
 use Rattle.events.specs.declared.Between.TheVariants as between
 use Rattle.events.specs.declared.Severity.{Severity}
@@ -40,13 +37,11 @@ use Rattle.events.specs.declared.EventView.{EventView}
 use Rattle.events.specs.declared.EventView.TheVariants as event
 use Rattle.known_events.specs.Fields.{ComponentEventFields, InsideFields, EventFields}
 use Rattle.metadata.proofs.Whole.{text_content}
-use Rattle.model.specs.Memory.{windows_of, define_of}
+use Rattle.model.specs.Memory.{windows_of}
+use Rattle.model.specs.declared.Kind.TheVariants as kinds
 use Rattle.model.specs.declared.Open.{Open}
 use Rattle.model.specs.declared.Open.TheVariants as block
 use Rattle.blocks.specs.Lined.{SpanOf}
-use Rattle.lookup.specs.Names.{same_of}
-use Rattle.lookup.specs.declared.Same.{Same}
-use Rattle.lookup.specs.declared.Same.TheVariants as same
 use Rattle.following.specs.declared.Follow.{Follow}
 use Rattle.plain_lines.specs.Lines as lines
 use Rattle.plain_lines.specs.Lines.{source_at}
@@ -56,6 +51,9 @@ use Rattle.plain_walk.specs.Faults.{ImplicitFound}
 use Rattle.plain_walk.specs.Becomes.{plain_as, PlainFit, Few, StartTold, BetweenTold, ComponentTold, BlockTold, TextTold, EventTold}
 use Rattle.plain_walk.specs.declared.Plain.{Plain}
 use Rattle.plain_walk.specs.declared.Plain.TheVariants.{Dropped, Copied, StartText, EndText, Source, Marked}
+use Rattle.parts.specs.declared.QuantityView.{QuantityView}
+use Rattle.components.specs.declared.Intermediate.{Intermediate}
+use Rattle.sheet.specs.Words.{block_in, define_of}
 
 -- ---- `meta` lines
 
@@ -105,7 +103,7 @@ module _ (flags : ℕ) (line : List ℕ) (f : Follow) {b : Between} where
     unfolding plain_as between_in between_plain PlainFit
     meta_kept t = between_as (between.Meta k v) q (record { at = λ text. rw (← e, t); fit = λ text. tt })
 
-  pub section_kept : (n : OptText) → b ≡ between.Section n → BetweenTold flags line b f Copied
+  pub section_kept : (n : Option TextView) → b ≡ between.Section n → BetweenTold flags line b f Copied
   unfolding plain_as between_in between_plain PlainFit
   section_kept n q = between_as (between.Section n) q (record { at = λ text. refl; fit = λ text. tt })
 
@@ -132,41 +130,41 @@ module _ (w : List ℕ) (f : Follow) {c : ComponentEvent} where
   component_as_lem : (y : ComponentEvent) {r : Plain} → c ≡ y → ComponentTold w y f r → ComponentTold w c f r
   component_as_lem y {r} q g = subst (λ (x : ComponentEvent). ComponentTold w x f r) (sym q) g
 
-  module _ (v : ComponentView) (i : OptIntermediate) {n : ℕ} {to : Same} (q : c ≡ component.Ingredient v i) (e : n ≡ f.ingredients) (g : ImplicitFound (take 6156 (drop 0 w)) v.modifiers.reference n to) where
-    ingredient_found : (line : List ℕ) → implicit_in w ingredient (views.component_in line v) f.ingredients ≡ same_of to
+  module _ (v : ComponentView) (i : Option Intermediate) {n : ℕ} {to : Option ℕ} (q : c ≡ component.Ingredient v i) (e : n ≡ f.ingredients) (g : ImplicitFound (take 6156 (drop 0 w)) v.modifiers.reference n to) where
+    ingredient_found : (line : List ℕ) → implicit_in w ingredient (views.component_in line v) f.ingredients ≡ to
     unfolding implicit_in views.component_in views.modifiers_in windows_of
     ingredient_found line = sym (rw e at g.is)
 
-    pub ingredient_kept : to ≡ same.Nothing → ComponentTold w c f Copied
+    pub ingredient_kept : to ≡ None → ComponentTold w c f Copied
     unfolding plain_as component_event_in component_plain PlainFit
     ingredient_kept t =
         component_as_lem (component.Ingredient v i) q
-        (record { at = λ text line. sym (ap (λ (o : Option ℕ). rules.inside (rules.component_event (ingredient_plain (views.component_in line v) (views.opt_intermediate_in i) o)) ∷ []) (ingredient_found line ∙ ap same_of t) ∙ unfold same_of ingredient_plain in refl); fit = λ text line z. tt })
+        (record { at = λ text line. sym (ap (λ (o : Option ℕ). rules.inside (rules.component_event (ingredient_plain (views.component_in line v) (views.opt_intermediate_in i) o)) ∷ []) (ingredient_found line ∙ t) ∙ unfold ingredient_plain in refl); fit = λ text line z. tt })
 
-    pub ingredient_marked : (d : ℕ) → to ≡ same.At d → ComponentTold w c f (Marked true v)
+    pub ingredient_marked : (d : ℕ) → to ≡ Some d → ComponentTold w c f (Marked kinds.Ingredient v)
     unfolding plain_as component_event_in component_plain PlainFit ComponentEventFields lines.marked_as
     ingredient_marked d t =
         component_as_lem (component.Ingredient v i) q
-        (record { at = λ text line. sym (ap (λ (o : Option ℕ). rules.inside (rules.component_event (ingredient_plain (views.component_in line v) (views.opt_intermediate_in i) o)) ∷ []) (ingredient_found line ∙ ap same_of t) ∙ unfold same_of ingredient_plain in refl); fit = λ text line z. z })
+        (record { at = λ text line. sym (ap (λ (o : Option ℕ). rules.inside (rules.component_event (ingredient_plain (views.component_in line v) (views.opt_intermediate_in i) o)) ∷ []) (ingredient_found line ∙ t) ∙ unfold ingredient_plain in refl); fit = λ text line z. z })
 
-  module _ (v : ComponentView) {n : ℕ} {to : Same} (q : c ≡ component.Cookware v) (e : n ≡ f.cookware) (g : ImplicitFound (take 3084 (drop 6156 w)) v.modifiers.reference n to) where
-    cookware_found : (line : List ℕ) → implicit_in w cookware (views.component_in line v) f.cookware ≡ same_of to
+  module _ (v : ComponentView) {n : ℕ} {to : Option ℕ} (q : c ≡ component.Cookware v) (e : n ≡ f.cookware) (g : ImplicitFound (take 3084 (drop 6156 w)) v.modifiers.reference n to) where
+    cookware_found : (line : List ℕ) → implicit_in w cookware (views.component_in line v) f.cookware ≡ to
     unfolding implicit_in views.component_in views.modifiers_in windows_of
     cookware_found line = sym (rw e at g.is)
 
-    pub cookware_kept : to ≡ same.Nothing → ComponentTold w c f Copied
+    pub cookware_kept : to ≡ None → ComponentTold w c f Copied
     unfolding plain_as component_event_in component_plain PlainFit
     cookware_kept t =
         component_as_lem (component.Cookware v) q
-        (record { at = λ text line. sym (ap (λ (o : Option ℕ). rules.inside (rules.component_event (rules.cookware_event (marked_as (views.component_in line v) o))) ∷ []) (cookware_found line ∙ ap same_of t) ∙ unfold same_of marked_as in refl); fit = λ text line z. tt })
+        (record { at = λ text line. sym (ap (λ (o : Option ℕ). rules.inside (rules.component_event (rules.cookware_event (marked_as (views.component_in line v) o))) ∷ []) (cookware_found line ∙ t) ∙ unfold marked_as in refl); fit = λ text line z. tt })
 
-    pub cookware_marked : (d : ℕ) → to ≡ same.At d → ComponentTold w c f (Marked false v)
+    pub cookware_marked : (d : ℕ) → to ≡ Some d → ComponentTold w c f (Marked kinds.Cookware v)
     unfolding plain_as component_event_in component_plain PlainFit ComponentEventFields lines.marked_as
     cookware_marked d t =
         component_as_lem (component.Cookware v) q
-        (record { at = λ text line. sym (ap (λ (o : Option ℕ). rules.inside (rules.component_event (rules.cookware_event (marked_as (views.component_in line v) o))) ∷ []) (cookware_found line ∙ ap same_of t) ∙ unfold same_of marked_as in refl); fit = λ text line z. z })
+        (record { at = λ text line. sym (ap (λ (o : Option ℕ). rules.inside (rules.component_event (rules.cookware_event (marked_as (views.component_in line v) o))) ∷ []) (cookware_found line ∙ t) ∙ unfold marked_as in refl); fit = λ text line z. z })
 
-  pub timer_kept : (s : Span) (n : OptText) (a : OptQuantity) → c ≡ component.Timer s n a → ComponentTold w c f Copied
+  pub timer_kept : (s : Span) (n : Option TextView) (a : Option QuantityView) → c ≡ component.Timer s n a → ComponentTold w c f Copied
   unfolding plain_as component_event_in component_plain PlainFit
   timer_kept s n a q = component_as_lem (component.Timer s n a) q (record { at = λ text line. refl; fit = λ text line z. tt })
 

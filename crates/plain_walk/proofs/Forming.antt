@@ -2,7 +2,7 @@
 use Prim.Native.Nat.{ℕ, suc, ◌+◌, ◌-◌, ◌≤◌, ◌<◌}
 use mathlib.Core.Path.{◌≡◌, refl, sym, ap, ◌∙◌, subst}
 use mathlib.Core.List.{List, [], ◌∷◌, ◌++◌, append_assoc, append-nil}
-use mathlib.Core.Option.{Option, none, some}
+use Rattle.std.specs.Prelude.{Option, None, Some}
 use native.Mathlib.Omega.{arith}
 use native.Mathlib.Numerals.{add-one}
 use lib.ListN.{length, take, drop}
@@ -18,8 +18,6 @@ use Rattle.rules.proofs.FaultWalk.{Takes, takes, trace_on}
 use Rattle.output.specs.Put.{Put}
 use Rattle.output.proofs.Puts.{put_seq}
 use Rattle.output.proofs.Texts.{text_is}
-use Rattle.sheet.specs.declared.LineEnd.{LineEnd}
-use Rattle.sheet.specs.declared.LineEnd.TheVariants.{At, Nothing}
 use Rattle.sheet.specs.Lines.{LineAt}
 use Rattle.events.specs.declared.EventView.{EventView}
 use Rattle.events.specs.Views.{event_in}
@@ -118,12 +116,12 @@ module _ (text : List ℕ) (us : List NamedUnit) (flags : ℕ) (sheet w : List �
     unfolding unless_faulty
     forming_clear m a = d.clear a ∙ ap (unless_faulty us flags a) (none_left m)
 
-    module _ {r : LineEnd} (l : LineAt sheet at r) where
+    module _ {r : Option ℕ} (l : LineAt sheet at r) where
       -- every line has its LF
-      pub forming_cut : {P : Type 0} → at < length sheet → r ≡ Nothing → P
+      pub forming_cut : {P : Type 0} → at < length sheet → r ≡ None → P
       forming_cut t q = rest_ended d.rest l t q
 
-      module _ {end : ℕ} (q : r ≡ At end) {v : EventView} (k : KnownEvent (take (end - at) (drop at sheet)) v) where
+      module _ {end : ℕ} (q : r ≡ Some end) {v : EventView} (k : KnownEvent (take (end - at) (drop at sheet)) v) where
         abbrev event : Event
         event = event_in (take (end - at) (drop at sheet)) v
 
@@ -156,14 +154,14 @@ module _ (text : List ℕ) (us : List NamedUnit) (flags : ℕ) (sheet w : List �
         forming_row = row_there text us flags sheet w h d.st went.after d.final d.memory grown d.behind event went.event
 
         -- the first fault
-        pub forming_fault : (m : ℕ) → fault_in w sheet event f ≡ some m → (a : Answer) → unless_faulty us flags a whole ≡ declined m number
+        pub forming_fault : (m : ℕ) → fault_in w sheet event f ≡ Some m → (a : Answer) → unless_faulty us flags a whole ≡ declined m number
         unfolding unless_faulty fault_or
         forming_fault m e a =
             d.clear a ∙ (ap (unless_faulty us flags a) trace_next
             ∙ ap (λ (x : Option ℕ). fault_or number x (unless_faulty us flags a (trace (number + 1) went.after first.others))) (fault_is ∙ e))
 
         -- one line on
-        pub forming_next : {g : Follow} {o' : List ℕ} {n' : ℕ} → at ≤ end → fault_in w sheet event f ≡ none → Put (sheet_of (plain_in text w flags event f)) o n o' n'
+        pub forming_next : {g : Follow} {o' : List ℕ} {n' : ℕ} → at ≤ end → fault_in w sheet event f ≡ None → Put (sheet_of (plain_in text w flags event f)) o n o' n'
             → Followed flags (take (end - at) (drop at sheet)) v 0 f g → Forming o₀ (end + 1) (number + 1) g o' n'
         forming_next {g} {o'} {n'} m e p z =
             record {

@@ -3,7 +3,7 @@ use Prim.Native.Nat.{ℕ, suc}
 use mathlib.Core.Path.{◌≡◌, refl, sym, ap, ◌∙◌}
 use mathlib.Core.List.{List, [], ◌∷◌, ◌++◌, append_assoc}
 use mathlib.Core.Bool.{Bool, true, false}
-use mathlib.Core.Option.{Option, none, some}
+use Rattle.std.specs.Prelude.{Option, None, Some}
 use lib.Dec.{eqb}
 use lib.ListN.{length}
 use Rattle.rules.specs.Basic.{pick, each, on_some}
@@ -40,8 +40,8 @@ bare_set i n (e ∷ es) =
 
 pub bare_more : (o : Option Earlier) (es : List Entry) → each bare (referred o es) ≡ each bare es
 unfolding referred
-bare_more none es = refl
-bare_more (some d) es = bare_set d.index (length es) es
+bare_more None es = refl
+bare_more (Some d) es = bare_set d.index (length es) es
 
 pub bare_length : (es : List Entry) → length (each bare es) ≡ length es
 unfolding each
@@ -59,9 +59,9 @@ bare_search f a o [] = refl
 bare_search f a o (e ∷ es) = go (fits f a o e) (bare_search f a o es)
   where
     go : (b : Bool) → on_some index_of (same_name_in f a o (each bare es)) ≡ on_some index_of (same_name_in f a o es)
-        → on_some index_of (pick b (some (record { index = length (each bare es); entry = bare e })) (same_name_in f a o (each bare es)))
-        ≡ on_some index_of (pick b (some (record { index = length es; entry = e })) (same_name_in f a o es))
-    go true ih = ap some (bare_length es)
+        → on_some index_of (pick b (Some (record { index = length (each bare es); entry = bare e })) (same_name_in f a o (each bare es)))
+        ≡ on_some index_of (pick b (Some (record { index = length es; entry = e })) (same_name_in f a o es))
+    go true ih = ap Some (bare_length es)
     go false ih = ih
 
 -- ---- a later state of a table

@@ -3,7 +3,7 @@ use Prim.Native.Nat.{ℕ}
 use mathlib.Core.Path.{◌≡◌, refl, sym, ap, ◌∙◌}
 use mathlib.Core.List.{List, [], ◌∷◌}
 use mathlib.Core.Bool.{Bool, true, false}
-use mathlib.Core.Option.{Option, none, some}
+use Rattle.std.specs.Prelude.{Option, None, Some}
 use native.Mathlib.Omega.{arith}
 use lib.ListN.{length}
 use Rattle.rules.specs.Basic.{pick, on_some}
@@ -31,11 +31,11 @@ use Rattle.plain_walk.proofs.Added.{HasRow}
 -- ---- the component that a relation refers to
 
 unfoldable target_index : Relation → Option ℕ
-target_index (definition b by) = none
-target_index (reference to_ingredient j) = some j
-target_index (reference to_cookware j) = some j
-target_index (reference to_step j) = none
-target_index (reference to_section j) = none
+target_index (definition b by) = None
+target_index (reference to_ingredient j) = Some j
+target_index (reference to_cookware j) = Some j
+target_index (reference to_step j) = None
+target_index (reference to_section j) = None
 
 target_bare : (r : Relation) → target_index (bare_relation r) ≡ target_index r
 unfolding target_index bare_relation
@@ -50,20 +50,20 @@ target_row cookware (Reference Ingredient) b i by = refl
 target_row k (Reference Step) b i by = refl
 target_row k (Reference Section) b i by = refl
 
-target_made : (k : Kind) (to : Option Earlier) (new : Entry) → target_index new.relation ≡ none → target_index (as_referring k to new).relation ≡ on_some index_of to
+target_made : (k : Kind) (to : Option Earlier) (new : Entry) → target_index new.relation ≡ None → target_index (as_referring k to new).relation ≡ on_some index_of to
 unfolding target_index as_referring set_relation set_modifiers target_of on_some index_of
-target_made k none new q = q
-target_made ingredient (some d) new q = refl
-target_made cookware (some d) new q = refl
+target_made k None new q = q
+target_made ingredient (Some d) new q = refl
+target_made cookware (Some d) new q = refl
 
-target_new : (k : Kind) (c : Component) (st : State) → target_index (new_entry k c st).relation ≡ none
+target_new : (k : Kind) (c : Component) (st : State) → target_index (new_entry k c st).relation ≡ None
 unfolding target_index new_entry entry_of entry_with
 target_new k c st = refl
 
 made_name : (k : Kind) (to : Option Earlier) (new : Entry) → (as_referring k to new).name ≡ new.name
 unfolding as_referring set_relation set_modifiers
-made_name k none new = refl
-made_name k (some d) new = refl
+made_name k None new = refl
+made_name k (Some d) new = refl
 
 bare_target : (e : Entry) → target_index (bare e).relation ≡ target_index e.relation
 unfolding bare set_relation
@@ -78,22 +78,22 @@ bare_name e = refl
 any_opt : (f : List ℕ) (o p : Bool) (es : List Entry) → same_name_in f true o es ≡ same_name_in f true p es
 unfolding same_name_in fits
 any_opt f o p [] = refl
-any_opt f o p (e ∷ es) = ap (λ (x : Option Earlier). pick (fits f true o e) (some (record { index = length es; entry = e })) x) (any_opt f o p es)
+any_opt f o p (e ∷ es) = ap (λ (x : Option Earlier). pick (fits f true o e) (Some (record { index = length es; entry = e })) x) (any_opt f o p es)
 
 index_row : (k : Kind) (sheet rs pairs : List ℕ) (m : ℕ) (o : Option ℕ) → on_some index_of (on_some (earlier_in k sheet rs pairs m) o) ≡ o
 unfolding on_some index_of earlier_in
-index_row k sheet rs pairs m none = refl
-index_row k sheet rs pairs m (some i) = refl
+index_row k sheet rs pairs m None = refl
+index_row k sheet rs pairs m (Some i) = refl
 
-fault_by : (d : Earlier) (last : Option Earlier) → pick (is_last d last) none (some 23) ≡ fault_as (some d.index) (on_some index_of last)
+fault_by : (d : Earlier) (last : Option Earlier) → pick (is_last d last) None (Some 23) ≡ fault_as (Some d.index) (on_some index_of last)
 unfolding is_last fault_as on_some index_of
-fault_by d none = refl
-fault_by d (some l) = refl
+fault_by d None = refl
+fault_by d (Some l) = refl
 
 fault_as_lem : (new : Entry) (table : List Entry) (to : Option Earlier) → implicit_fault new table to ≡ fault_as (on_some index_of to) (on_some index_of (same_name_of true new table))
 unfolding implicit_fault fault_as on_some index_of
-fault_as_lem new table none = refl
-fault_as_lem new table (some d) = fault_by d (same_name_of true new table)
+fault_as_lem new table None = refl
+fault_as_lem new table (Some d) = fault_by d (same_name_of true new table)
 
 -- ---- a component with its row
 
@@ -134,8 +134,8 @@ module _ (units : List NamedUnit) (flags : ℕ) (k : Kind) (c : Component) (st :
 
 marked_as_lem : (c : Component) (to : Option Earlier) → marked_if c to ≡ marked_as c (on_some index_of to)
 unfolding marked_if marked_as on_some
-marked_as_lem c none = refl
-marked_as_lem c (some d) = refl
+marked_as_lem c None = refl
+marked_as_lem c (Some d) = refl
 
 -- ---- any component's line: `to` is what it refers to
 
@@ -151,8 +151,8 @@ module _ (units : List NamedUnit) (flags : ℕ) (k : Kind) (c : Component) (st :
     implicit_row_lem = go c.modifiers.ref refl
       where
         go : (b : Bool) → c.modifiers.ref ≡ b
-            → on_some index_of (pick b none to)
-            ≡ pick b none (refers_as (row_of (row_at 12 (rows_in k w) (length (table_of k st)))).relation.relation (row_of (row_at 12 (rows_in k w) (length (table_of k st)))).relation.index)
+            → on_some index_of (pick b None to)
+            ≡ pick b None (refers_as (row_of (row_at 12 (rows_in k w) (length (table_of k st)))).relation.relation (row_of (row_at 12 (rows_in k w) (length (table_of k st)))).relation.index)
         go true q = unfold on_some in refl
         go false q = ap (on_some index_of) (h q).by ∙ sym (refers_row units flags k c st sheet (rows_in k w) pairs m n (h q).row)
 

@@ -3,7 +3,7 @@ use Prim.Native.Nat.{ℕ, ◌+◌, ◌≤◌}
 use mathlib.Core.Path.{◌≡◌, refl, sym, ap, ◌∙◌, subst}
 use mathlib.Core.List.{List, [], ◌∷◌}
 use mathlib.Core.Bool.{Bool, true, false}
-use mathlib.Core.Option.{Option, none, some}
+use Rattle.std.specs.Prelude.{Option, None, Some}
 use native.Mathlib.Omega.{arith}
 use lib.ListN.{length, length-append}
 use Rattle.rules.specs.Basic.{pick, each}
@@ -59,10 +59,10 @@ table_most k {sheet} {w} {h} st {final} z g =
     let m : length (each bare (table_of k final)) ≡ length g.more + length (each bare (table_of k st)) = ap length g.is ∙ length-append g.more (each bare (table_of k st)) in
     omega (arith, n, m, bare_length (table_of k final), bare_length (table_of k st))
 
-ingredient_alone : (c : Component) (o : Option ℕ) → ingredient_event (marked_as c o) none ≡ ingredient_plain c none o
+ingredient_alone : (c : Component) (o : Option ℕ) → ingredient_event (marked_as c o) None ≡ ingredient_plain c None o
 unfolding marked_as ingredient_plain
-ingredient_alone c none = refl
-ingredient_alone c (some d) = refl
+ingredient_alone c None = refl
+ingredient_alone c (Some d) = refl
 
 module _ (text : List ℕ) (us : List NamedUnit) (flags : ℕ) (sheet w : List ℕ) (h : Held) (st after final : State) (z : Final sheet w h final) (g : (k : Kind) → Grown (table_of k after) (table_of k final)) where
   abbrev f : Follow
@@ -84,29 +84,29 @@ module _ (text : List ℕ) (us : List NamedUnit) (flags : ℕ) (sheet w : List �
 
   ingredient_named : (c : Component) (i : Option Intermediate) (items : List Item) → on_component us flags (ingredient_event c i) items st ≡ next after → c.modifiers.ref ≡ false
       → NamedBy ingredient c (make_ingredient us flags c i st).refers_to
-  ingredient_named c none items q r =
-      record { row = row_at_lem ingredient (made_by_name us flags ingredient c st) (ingredient_pushed us flags c none items st after q r); by = unfold make_ingredient in refl }
-  ingredient_named c (some i) items q r = ingredient_refused us flags c i items st after q r
+  ingredient_named c None items q r =
+      record { row = row_at_lem ingredient (made_by_name us flags ingredient c st) (ingredient_pushed us flags c None items st after q r); by = unfold make_ingredient in refl }
+  ingredient_named c (Some i) items q r = ingredient_refused us flags c i items st after q r
 
   cookware_named : (c : Component) (items : List Item) → on_component us flags (cookware_event c) items st ≡ next after → NamedBy cookware c (make_cookware us flags c st).refers_to
   cookware_named c items q =
       record { row = row_at_lem cookware (made_by_name us flags cookware c st) (cookware_pushed us flags c items st after q); by = unfold make_cookware in refl }
 
-  intermediate_kept : (c : Component) (i : Intermediate) (items : List Item) (to : Option Earlier) (n : ℕ) → on_component us flags (ingredient_event c (some i)) items st ≡ next after
-      → ingredient_event (marked_if c (implicit_of c to)) (some i) ≡ ingredient_plain c (some i) (implicit_in w ingredient c n)
+  intermediate_kept : (c : Component) (i : Intermediate) (items : List Item) (to : Option Earlier) (n : ℕ) → on_component us flags (ingredient_event c (Some i)) items st ≡ next after
+      → ingredient_event (marked_if c (implicit_of c to)) (Some i) ≡ ingredient_plain c (Some i) (implicit_in w ingredient c n)
   intermediate_kept c i items to n q = go c.modifiers.ref refl
     where
-      go : (b : Bool) → c.modifiers.ref ≡ b → ingredient_event (marked_if c (implicit_of c to)) (some i) ≡ ingredient_plain c (some i) (implicit_in w ingredient c n)
+      go : (b : Bool) → c.modifiers.ref ≡ b → ingredient_event (marked_if c (implicit_of c to)) (Some i) ≡ ingredient_plain c (Some i) (implicit_in w ingredient c n)
       go true r = unfold implicit_of marked_if implicit_in implicit_row ingredient_plain in rw r
       go false r = ingredient_refused us flags c i items st after q r
 
   component_marked : (c : ComponentEvent) (items : List Item) → on_component us flags c items st ≡ next after → marked_component us flags st c ≡ component_plain w c f
   unfolding marked_component component_plain with_inline follow_of implicit_ingredient implicit_cookware
-  component_marked (ingredient_event c none) items q =
+  component_marked (ingredient_event c None) items q =
       unfold table_of in
-      (ap (λ (x : Component). ingredient_event x none) (marked_row us flags ingredient c st sheet w (pairs_in ingredient w) (pairs_of ingredient h) (count_of ingredient h) (make_ingredient us flags c none st).refers_to (ingredient_named c none items q))
+      (ap (λ (x : Component). ingredient_event x None) (marked_row us flags ingredient c st sheet w (pairs_in ingredient w) (pairs_of ingredient h) (count_of ingredient h) (make_ingredient us flags c None st).refers_to (ingredient_named c None items q))
       ∙ ingredient_alone c (implicit_in w ingredient c (length (table_of ingredient st))))
-  component_marked (ingredient_event c (some i)) items q = intermediate_kept c i items (make_ingredient us flags c (some i) st).refers_to (length st.tables.ingredients) q
+  component_marked (ingredient_event c (Some i)) items q = intermediate_kept c i items (make_ingredient us flags c (Some i) st).refers_to (length st.tables.ingredients) q
   component_marked (cookware_event c) items q =
       unfold table_of in
       ap (λ (x : Component). cookware_event x) (marked_row us flags cookware c st sheet w (pairs_in cookware w) (pairs_of cookware h) (count_of cookware h) (make_cookware us flags c st).refers_to (λ r. cookware_named c items q))
@@ -151,8 +151,8 @@ module _ (text : List ℕ) (us : List NamedUnit) (flags : ℕ) (sheet w : List �
   unfolding on_inside in_step_block component_fault component_fault_in kind_of
   component_fault_lem c no_block q = refl
   component_fault_lem c (step_open items) q =
-      ap (λ (x : Option ℕ). pick (is_components st.modes.define) (some 22) x) (mark_fault_lem c items q)
-      ∙ unfold with_inline follow_of in ap (λ (m : DefineMode). pick (is_components m) (some 22) (mark_fault_in w sheet c f)) (sym (mode_back st.modes.define))
+      ap (λ (x : Option ℕ). pick (is_components st.modes.define) (Some 22) x) (mark_fault_lem c items q)
+      ∙ unfold with_inline follow_of in ap (λ (m : DefineMode). pick (is_components m) (Some 22) (mark_fault_in w sheet c f)) (sym (mode_back st.modes.define))
   component_fault_lem c (text_open ts) q = refl
   component_fault_lem c (text_mode_open ts) q = refl
 

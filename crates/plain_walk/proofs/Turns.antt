@@ -3,27 +3,24 @@ use Prim.Native.Nat.{ℕ, suc, ◌+◌, ◌-◌, ◌≤◌, ◌<◌}
 use mathlib.Core.Path.{◌≡◌, refl, sym, ap, ◌∙◌, subst}
 use mathlib.Core.List.{List}
 use mathlib.Core.Bool.{Bool, true, false}
-use mathlib.Core.Option.{Option, none, some}
+use Rattle.std.specs.Prelude.{Option, None, Some, Result, Ok, Err}
 use native.Mathlib.Omega.{arith}
-use lib.Dec.{ltb, eqb}
+use lib.Dec.{ltb}
 use lib.ListN.{length, take, drop}
 use Rattle.rules.specs.Basic.{pick, is_some, all, lf}
 use Rattle.rules.specs.Sheet.{Lines, lines}
-use Rattle.rules.specs.Event as rules
 use Rattle.rules.specs.Event.{Event, spans_of}
 use Rattle.rules.specs.Units.{NamedUnit}
 use Rattle.rules.specs.Read.{parse_line}
 use Rattle.rules.specs.Model.{Kind, ingredient, cookware}
-use Rattle.rules.specs.Modes.{is_components}
 use Rattle.rules.specs.State.{State}
 use Rattle.rules.specs.Plain.{sheet_of}
 use Rattle.rules.specs.Answer.{Reading, events, unread, with_event, events_or, is_good_span, read_line, read_from, read_sheet}
-use Rattle.rules.proofs.Basics.{pick_either}
 use Rattle.rules.proofs.Fields.{Without}
+use Rattle.refusals.specs.Told.{number_of, number_told}
+use Rattle.refusals.specs.declared.Reason.{Reason}
 use Rattle.output.proofs.Puts.{keeps}
 use Rattle.output.proofs.Texts.{text_is}
-use Rattle.sheet.specs.declared.LineEnd.{LineEnd}
-use Rattle.sheet.specs.declared.LineEnd.TheVariants.{At, Nothing}
 use Rattle.sheet.specs.Lines.{lines_from, LineAt}
 use Rattle.content.proofs.Lines.{line_without}
 use Rattle.events.specs.Views.{component_event_in, inside_in, event_in}
@@ -36,7 +33,6 @@ use Rattle.events.specs.declared.EventView.TheVariants as event
 use Rattle.reading.proofs.Passes.{Rest, rest_some}
 use Rattle.known_events.specs.Known.{KnownEvent}
 use Rattle.model.specs.Fits.{Fits, EachRow}
-use Rattle.model.specs.Memory.{define_of}
 use Rattle.model.specs.declared.Open.{Open}
 use Rattle.model.specs.declared.Open.TheVariants as block
 use Rattle.model.specs.declared.Held.{Held}
@@ -46,57 +42,15 @@ use Rattle.lookup.proofs.Names.{names_inside}
 use Rattle.following.specs.declared.Follow.{Follow}
 use Rattle.following.specs.Drawn.{first_follow}
 use Rattle.following.specs.Follow.{Followed, Room}
-use Rattle.plain_walk.specs.Rows.{fault_as, kind_fault, mark_fault_in, component_fault_in, fault_in, RowOf, RowIn, RowFor}
+use Rattle.plain_walk.specs.Rows.{RowOf, RowIn, RowFor}
 use Rattle.plain_walk.specs.Lines.{plain_in}
-use Rattle.plain_walk.specs.Faults.{number_of, ComponentReady, BlockReady, InsideReady, EventReady, LineFault}
+use Rattle.plain_walk.specs.Faults.{ComponentReady, BlockReady, InsideReady, EventReady, LineFault}
 use Rattle.plain_walk.specs.Becomes.{PlainFit, Few, EventTold, PlainWritten}
 use Rattle.plain_walk.specs.Walk.{Final, PassDone, FormedAs, FormWritten}
 use Rattle.plain_walk.specs.declared.Plain.{Plain}
-use Rattle.plain_walk.specs.declared.Formed.TheVariants.{Fault, Length}
 use Rattle.plain_walk.proofs.Behinds.{behind_none}
 use Rattle.plain_walk.proofs.Forming.{Forming, forming_starts, forming_room, forming_form, forming_clear, forming_cut, forming_row, forming_few, forming_fault, forming_next}
 use Rattle.plain_walk.proofs.Writes.{put_none}
-
--- ---- a fault's number is not 0
-
-abbrev NotZero : Option ℕ → Type 0
-NotZero o = number_of o ≡ 0 → o ≡ none
-
-twenty : (n : ℕ) → (n ≡ 0 → ⊥) → NotZero (some n)
-unfolding number_of
-twenty n h q = absurd (h q)
-
-as_positive : (to last : Option ℕ) → NotZero (fault_as to last)
-unfolding fault_as
-as_positive none last q = refl
-as_positive (some d) none q = twenty 23 (λ e. omega arith) q
-as_positive (some d) (some l) q = pick_either NotZero (eqb d l) none (some 23) (λ b e. refl) (λ b. twenty 23 (λ e. omega arith)) q
-
-mark_positive : (w sheet : List ℕ) (c : rules.ComponentEvent) (f : Follow) → NotZero (mark_fault_in w sheet c f)
-unfolding mark_fault_in kind_fault
-mark_positive w sheet (rules.ingredient_event c i) f q = as_positive _ _ q
-mark_positive w sheet (rules.cookware_event c) f q = as_positive _ _ q
-mark_positive w sheet (rules.timer_event s n a) f q = refl
-
-component_positive : (w sheet : List ℕ) (c : rules.ComponentEvent) (b : Open) (f : Follow) → NotZero (component_fault_in w sheet c b f)
-unfolding component_fault_in
-component_positive w sheet c block.Nothing f q = refl
-component_positive w sheet c block.Step f q = pick_either NotZero (is_components (define_of f.define)) (some 22) (mark_fault_in w sheet c f) (λ b. twenty 22 (λ e. omega arith)) (λ b. mark_positive w sheet c f) q
-component_positive w sheet c block.Text f q = refl
-component_positive w sheet c block.TextMode f q = refl
-
-fault_positive : (w sheet : List ℕ) (e : Event) (f : Follow) → NotZero (fault_in w sheet e f)
-unfolding fault_in
-fault_positive w sheet (rules.between b) f q = refl
-fault_positive w sheet (rules.inside (rules.end_event k)) f q = refl
-fault_positive w sheet (rules.inside (rules.text_event t)) f q = refl
-fault_positive w sheet (rules.inside (rules.component_event c)) f q = component_positive w sheet c f.block f q
-fault_positive w sheet (rules.parser_event s n) f q = refl
-
-number_some : (o : Option ℕ) {r : ℕ} → r ≡ number_of o → (r ≡ 0 → ⊥) → o ≡ some r
-unfolding number_of
-number_some none e h = absurd (h e)
-number_some (some n) e h = ap some (sym e)
 
 -- ---- a component's line in a step has its row
 
@@ -137,16 +91,16 @@ chosen true t e number rest es q = no_events q
 chosen false true e number rest es q = refl
 chosen false false e number rest es q = no_events q
 
-spans_of_lem : (text : List ℕ) (number : ℕ) (e : Event) (rest : Reading) {es : List Event} → read_line text (length text) number (some e) rest ≡ events es → all (is_good_span text (length text)) (spans_of e) ≡ true
+spans_of_lem : (text : List ℕ) (number : ℕ) (e : Event) (rest : Reading) {es : List Event} → read_line text (length text) number (Some e) rest ≡ events es → all (is_good_span text (length text)) (spans_of e) ≡ true
 unfolding read_line
 spans_of_lem text number e rest q = chosen (ltb 4096 number) (all (is_good_span text (length text)) (spans_of e)) e number rest _ q
 
-module _ {text bytes : List ℕ} {at number : ℕ} {es : List Event} (w : Rest text bytes at number es) {r : LineEnd} (l : LineAt bytes at r) {end : ℕ} (q : r ≡ At end) where
+module _ {text bytes : List ℕ} {at number : ℕ} {es : List Event} (w : Rest text bytes at number es) {r : Option ℕ} (l : LineAt bytes at r) {end : ℕ} (q : r ≡ Some end) where
   split : read_line text (length text) number (parse_line (take (end - at) (drop at bytes))) (read_from text (length text) (suc number) (lines (drop (end + 1) bytes))) ≡ events es
   unfolding read_from lines_from
   split = sym (ap (λ (ls : Lines). read_from text (length text) number ls) (sym l.is ∙ ap (lines_from bytes at) q)) ∙ w.is
 
-  line_spans : (e : Event) → parse_line (take (end - at) (drop at bytes)) ≡ some e → all (is_good_span text (length text)) (spans_of e) ≡ true
+  line_spans : (e : Event) → parse_line (take (end - at) (drop at bytes)) ≡ Some e → all (is_good_span text (length text)) (spans_of e) ≡ true
   line_spans e k = spans_of_lem text number e _ (rw k at split)
 
   no_lf_lem : Without lf (take (end - at) (drop at bytes))
@@ -166,7 +120,7 @@ form_starts {text} {us} {flags} {sheet} {w} {h} {o₀} e c q =
     record { held = h; is = subst (λ (x : Follow). Forming text us flags sheet w h o₀ 0 1 x o₀ 0) (sym e) (forming_starts text us flags sheet w h c q (put_none o₀)) }
 
 module _ {text : List ℕ} {us : List NamedUnit} {flags : ℕ} {sheet w : List ℕ} {o₀ : List ℕ} {at number : ℕ} {f : Follow} {o : List ℕ} {n : ℕ} (d : Looping text us flags sheet w o₀ at number f o n) where
-  pub form_ends : length sheet ≤ at → FormWritten text us flags sheet o₀ o (Length n)
+  pub form_ends : length sheet ≤ at → FormWritten text us flags sheet o₀ o (Ok n)
   unfolding FormedAs
   form_ends m = record { is = (forming_clear text us flags sheet w d.held d.is m, forming_form text us flags sheet w d.held d.is m) }
 
@@ -188,11 +142,11 @@ module _ {text : List ℕ} {us : List NamedUnit} {flags : ℕ} {sheet w : List �
   pub form_few : Few f
   form_few = forming_few text us flags sheet w d.held d.is
 
-  module _ {r : LineEnd} (l : LineAt sheet at r) where
-    pub form_cut : {P : Type 0} → at < length sheet → r ≡ Nothing → P
+  module _ {r : Option ℕ} (l : LineAt sheet at r) where
+    pub form_cut : {P : Type 0} → at < length sheet → r ≡ None → P
     form_cut t q = forming_cut text us flags sheet w d.held d.is l t q
 
-    module _ {end : ℕ} (q : r ≡ At end) where
+    module _ {end : ℕ} (q : r ≡ Some end) where
       pub form_line : (is_some (parse_line (take (end - at) (drop at sheet))) ≡ true) × Without lf (take (end - at) (drop at sheet))
       form_line = (rest_some d.is.rest l q, no_lf_lem d.is.rest l q)
 
@@ -203,24 +157,20 @@ module _ {text : List ℕ} {us : List NamedUnit} {flags : ℕ} {sheet w : List �
         pub form_fit : {p : Plain} → EventTold flags w (take (end - at) (drop at sheet)) v f p → PlainFit text (take (end - at) (drop at sheet)) p
         form_fit t = t.fit text k.fields (line_spans d.is.rest l q (event_in (take (end - at) (drop at sheet)) v) k.is)
 
-        module _ {x : ℕ} (g : LineFault sheet w v f x) where
-          pub form_fault : (x ≡ 0 → ⊥) → {o' : List ℕ} → FormWritten text us flags sheet o₀ o' (Fault x number)
+        module _ {x : Result (Unit {0}) Reason} (g : LineFault sheet w v f x) where
+          pub form_fault : {m : Reason} → x ≡ Err m → {o' : List ℕ} → FormWritten text us flags sheet o₀ o' (Err (record { reason = m; line = number }))
           unfolding FormedAs
-          form_fault m =
-              record {
-                is =
-                    forming_fault text us flags sheet w d.held d.is l q k x
-                    (number_some (fault_in w sheet (event_in (take (end - at) (drop at sheet)) v) f) (g.at (take (end - at) (drop at sheet))) m);
-              }
+          form_fault {m} e =
+              record { is = forming_fault text us flags sheet w d.held d.is l q k (number_of m) (sym (g.at (take (end - at) (drop at sheet))) ∙ ap number_told e) }
 
-          pub form_next : x ≡ 0 → {p : Plain} {y : Follow} {o' : List ℕ} {n' : ℕ} → EventTold flags w (take (end - at) (drop at sheet)) v f p
+          pub form_next : {u : Unit {0}} → x ≡ Ok u → {p : Plain} {y : Follow} {o' : List ℕ} {n' : ℕ} → EventTold flags w (take (end - at) (drop at sheet)) v f p
               → PlainWritten text (take (end - at) (drop at sheet)) p o n o' n' → Followed flags (take (end - at) (drop at sheet)) v 0 f y → Looping text us flags sheet w o₀ (end + 1) (number + 1) y o' n'
           form_next m t p z =
               record {
                 held = d.held;
                 is =
                     forming_next text us flags sheet w d.held d.is l q k (l.inside end q).0
-                    (fault_positive w sheet (event_in (take (end - at) (drop at sheet)) v) f (sym (g.at (take (end - at) (drop at sheet))) ∙ m))
+                    (sym (g.at (take (end - at) (drop at sheet))) ∙ ap number_told m)
                     (text_is (sheet_of (plain_in text w flags (event_in (take (end - at) (drop at sheet)) v) f)) (ap sheet_of (sym (t.at text))) (p.put (event_in (take (end - at) (drop at sheet)) v) k.is (no_lf_lem d.is.rest l q)))
                     z;
               }

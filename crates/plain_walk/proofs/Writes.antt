@@ -2,7 +2,7 @@
 use Prim.Native.Nat.{ℕ, ◌+◌, ◌-◌, ◌≤◌, ◌<◌}
 use mathlib.Core.Path.{◌≡◌, sym, subst}
 use mathlib.Core.List.{List, [], ◌∷◌, ◌++◌, append-nil}
-use mathlib.Core.Bool.{Bool, true}
+use mathlib.Core.Bool.{true}
 use native.Mathlib.Omega.{arith}
 use lib.ListN.{length, take, drop, length-drop}
 use lib.Seq.{length-take-le}
@@ -20,6 +20,8 @@ use Rattle.parts.specs.Views.{span_in}
 use Rattle.parts.specs.declared.Span.{Span}
 use Rattle.components.specs.Views.{component_in}
 use Rattle.components.specs.declared.ComponentView.{ComponentView}
+use Rattle.model.specs.Kinds.{kind_of}
+use Rattle.model.specs.declared.Kind.{Kind}
 use Rattle.known_events.specs.Fields.{ComponentFields}
 use Rattle.plain_lines.specs.Lines.{source_at, marked_as}
 use Rattle.plain_walk.specs.Becomes.{plain_as, PlainFit, PlainWritten}
@@ -62,9 +64,9 @@ module _ (text line : List ℕ) {p : Plain} where
     unfolding plain_as
     write_source s q g = written_as (Source s) q (record { put = λ e k n. one_line (inside (text_event (source_at text (span_in s)))) g; most = put_most g })
 
-    pub write_marked : (b : Bool) (v : ComponentView) → p ≡ Marked b v → Put (write_line (inside (component_event (marked_as b (component_in line v))))) o₀ 0 o r → PlainWritten text line p o₀ 0 o r
+    pub write_marked : (k : Kind) (v : ComponentView) → p ≡ Marked k v → Put (write_line (inside (component_event (marked_as (kind_of k) (component_in line v))))) o₀ 0 o r → PlainWritten text line p o₀ 0 o r
     unfolding plain_as
-    write_marked b v q g = written_as (Marked b v) q (record { put = λ e k n. one_line (inside (component_event (marked_as b (component_in line v)))) g; most = put_most g })
+    write_marked k v q g = written_as (Marked k v) q (record { put = λ e z n. one_line (inside (component_event (marked_as (kind_of k) (component_in line v)))) g; most = put_most g })
 
   -- ---- what the writers ask
 
@@ -72,9 +74,9 @@ module _ (text line : List ℕ) {p : Plain} where
   unfolding PlainFit
   fit_source s q z = subst (PlainFit text line) q z
 
-  pub fit_marked : (b : Bool) (v : ComponentView) → p ≡ Marked b v → PlainFit text line p → ComponentFields line v
+  pub fit_marked : (k : Kind) (v : ComponentView) → p ≡ Marked k v → PlainFit text line p → ComponentFields line v
   unfolding PlainFit
-  fit_marked b v q z = subst (PlainFit text line) q z
+  fit_marked k v q z = subst (PlainFit text line) q z
 
 -- ---- at a position
 

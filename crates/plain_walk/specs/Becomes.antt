@@ -1,6 +1,5 @@
 -- What a line becomes, as the code tells it, and what its writer leaves.
-use Rattle.std.specs.Prelude.{ℕ, ◌+◌, ◌≤◌, ◌≡◌, List, [], ◌∷◌, true, length}
-use Rattle.std.proofs.Math.Option.{some}
+use Rattle.std.specs.Prelude.{ℕ, ◌+◌, ◌≤◌, ◌≡◌, List, [], ◌∷◌, true, length, Some}
 use Rattle.rules.specs.Basic.{lf, all}
 use Rattle.rules.specs.Words.{text_kind}
 use Rattle.rules.specs.Event.{start_event, end_event, text_event, component_event, Event, between, inside, spans_of}
@@ -12,13 +11,14 @@ use Rattle.output.specs.Put.{Put}
 use Rattle.parts.specs.Views.{span_in}
 use Rattle.components.specs.Views.{component_in}
 use Rattle.events.specs.Views.{between_in, component_event_in, inside_in, event_in}
-use Rattle.events.specs.declared.BlockKind.{BlockKind}
+use Rattle.sheet.specs.declared.BlockKind.{BlockKind}
 use Rattle.events.specs.declared.Between.{Between}
 use Rattle.events.specs.declared.Between.TheVariants as start
 use Rattle.events.specs.declared.ComponentEvent.{ComponentEvent}
 use Rattle.events.specs.declared.Inside.{Inside}
 use Rattle.events.specs.declared.EventView.{EventView}
 use Rattle.known_events.specs.Fields.{ComponentFields, ComponentEventFields, InsideFields, EventFields}
+use Rattle.model.specs.Kinds.{kind_of}
 use Rattle.model.specs.declared.Open.{Open}
 use Rattle.model.specs.declared.Open.TheVariants as block
 use Rattle.following.specs.declared.Follow.{Follow}
@@ -34,7 +34,7 @@ plain_as text line e Copied = e ∷ []
 plain_as text line e StartText = between (start_event text_kind) ∷ []
 plain_as text line e EndText = inside (end_event text_kind) ∷ []
 plain_as text line e (Source s) = inside (text_event (source_at text (span_in s))) ∷ []
-plain_as text line e (Marked is_ingredient v) = inside (component_event (marked_as is_ingredient (component_in line v))) ∷ []
+plain_as text line e (Marked k v) = inside (component_event (marked_as (kind_of k) (component_in line v))) ∷ []
 
 -- what a writer asks: a good span, a component whose contents are fields of the line
 unfoldable pub PlainFit : List ℕ → List ℕ → Plain → Type 0
@@ -43,7 +43,7 @@ PlainFit text line Copied = Unit
 PlainFit text line StartText = Unit
 PlainFit text line EndText = Unit
 PlainFit text line (Source s) = is_good_span text (length text) (span_in s) ≡ true
-PlainFit text line (Marked is_ingredient v) = ComponentFields line v
+PlainFit text line (Marked k v) = ComponentFields line v
 
 -- at most as many components as the limits let through
 pub record Few (f : Follow) : Type 0 where
@@ -80,5 +80,5 @@ pub record EventTold (flags : ℕ) (w line : List ℕ) (e : EventView) (f : Foll
 -- ---- what is written
 
 pub record PlainWritten (text line : List ℕ) (p : Plain) (o₀ : List ℕ) (at : ℕ) (o : List ℕ) (r : ℕ) : Type 0 where
-  pub put : (e : Event) → parse_line line ≡ some e → Without lf line → Put (sheet_of (plain_as text line e p)) o₀ at o r
+  pub put : (e : Event) → parse_line line ≡ Some e → Without lf line → Put (sheet_of (plain_as text line e p)) o₀ at o r
   pub most : r ≤ length o₀ + 1

@@ -1,7 +1,8 @@
 -- What the functions that look for a fault are given, and what they answer.
-use Rattle.std.specs.Prelude.{ℕ, ◌+◌, ◌*◌, ◌≤◌, ◌<◌, ◌≡◌, List, Bool, length}
-use Rattle.std.proofs.Math.Option.{Option, none, some}
+use Rattle.std.specs.Prelude.{ℕ, ◌+◌, ◌*◌, ◌≤◌, ◌<◌, ◌≡◌, List, Bool, length, Option, Result}
 use Rattle.rules.specs.Model.{ingredient, cookware}
+use Rattle.refusals.specs.Told.{number_told}
+use Rattle.refusals.specs.declared.Reason.{Reason}
 use Rattle.events.specs.Views.{component_event_in, event_in}
 use Rattle.events.specs.declared.ComponentEvent.{ComponentEvent}
 use Rattle.events.specs.declared.ComponentEvent.TheVariants as component
@@ -11,15 +12,9 @@ use Rattle.events.specs.declared.EventView.{EventView}
 use Rattle.events.specs.declared.EventView.TheVariants as event
 use Rattle.model.specs.declared.Open.{Open}
 use Rattle.model.specs.declared.Open.TheVariants as block
-use Rattle.lookup.specs.Names.{NamesInside, rows_in, same_of}
-use Rattle.lookup.specs.declared.Same.{Same}
+use Rattle.lookup.specs.Names.{NamesInside, rows_in}
 use Rattle.following.specs.declared.Follow.{Follow}
 use Rattle.plain_walk.specs.Rows.{implicit_row, last_row, fault_as, mark_fault_in, fault_in}
-
--- 0 for no fault
-unfoldable pub number_of : Option ℕ → ℕ
-number_of none = 0
-number_of (some n) = n
 
 -- row n is there, and it and those before it have their names in the sheet
 pub record RowNamed (sheet rows : List ℕ) (n : ℕ) : Type 0 where
@@ -54,16 +49,16 @@ module _ (sheet w : List ℕ) where
 -- ---- answers
 
 -- what row n refers to without REF
-pub record ImplicitFound (rows : List ℕ) (ref : Bool) (n : ℕ) (r : Same) : Type 0 where
-  pub is : same_of r ≡ implicit_row rows ref n
+pub record ImplicitFound (rows : List ℕ) (ref : Bool) (n : ℕ) (r : Option ℕ) : Type 0 where
+  pub is : r ≡ implicit_row rows ref n
 
 -- 23, where the line of row n refers to `to` without REF
-pub record RowFault (sheet rows : List ℕ) (n : ℕ) (to : Option ℕ) (r : ℕ) : Type 0 where
-  pub is : r ≡ number_of (fault_as to (last_row rows sheet n))
+pub record RowFault (sheet rows : List ℕ) (n : ℕ) (to : Option ℕ) (r : Result (Unit {0}) Reason) : Type 0 where
+  pub is : number_told r ≡ fault_as to (last_row rows sheet n)
 
 -- 22 or 23 of a component in a step, and of any line; what the line's contents are does not matter
-pub record StepFault (sheet w : List ℕ) (c : ComponentEvent) (f : Follow) (r : ℕ) : Type 0 where
-  pub at : (line : List ℕ) → r ≡ number_of (mark_fault_in w sheet (component_event_in line c) f)
+pub record StepFault (sheet w : List ℕ) (c : ComponentEvent) (f : Follow) (r : Result (Unit {0}) Reason) : Type 0 where
+  pub at : (line : List ℕ) → number_told r ≡ mark_fault_in w sheet (component_event_in line c) f
 
-pub record LineFault (sheet w : List ℕ) (e : EventView) (f : Follow) (r : ℕ) : Type 0 where
-  pub at : (line : List ℕ) → r ≡ number_of (fault_in w sheet (event_in line e) f)
+pub record LineFault (sheet w : List ℕ) (e : EventView) (f : Follow) (r : Result (Unit {0}) Reason) : Type 0 where
+  pub at : (line : List ℕ) → number_told r ≡ fault_in w sheet (event_in line e) f

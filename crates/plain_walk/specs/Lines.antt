@@ -1,6 +1,5 @@
 -- What each line becomes in the plain form, by the small state and the rows of work memory after the pass.
-use Rattle.std.specs.Prelude.{ℕ, ◌≡◌, List, [], ◌∷◌, ◌&&◌}
-use Rattle.std.proofs.Math.Option.{Option, none, some}
+use Rattle.std.specs.Prelude.{ℕ, ◌≡◌, List, [], ◌∷◌, ◌&&◌, Option, None, Some}
 use Rattle.rules.specs.Basic.{pick}
 use Rattle.rules.specs.Words.{step_kind, text_kind}
 use Rattle.rules.specs.Event.{Component, Intermediate, Between, meta_event, section_event, start_event, ComponentEvent, ingredient_event, cookware_event, timer_event, Inside, end_event, text_event, component_event, Event, between, inside, parser_event}
@@ -8,13 +7,13 @@ use Rattle.rules.specs.Model.{ingredient, cookware}
 use Rattle.rules.specs.Modes.{is_components, is_text, has_modes, key_of, key_text}
 use Rattle.rules.specs.State.{State}
 use Rattle.rules.specs.Plain.{mark_ref, is_mode_key, in_plain_text}
-use Rattle.model.specs.Memory.{define_of}
 use Rattle.model.specs.declared.Open.{Open}
 use Rattle.model.specs.declared.Open.TheVariants as block
 use Rattle.following.specs.declared.Follow.{Follow}
 use Rattle.following.specs.Drawn.{follow_of}
 use Rattle.following.specs.Follow.{with_inline}
 use Rattle.plain_walk.specs.Rows.{marked_as, implicit_in}
+use Rattle.sheet.specs.Words.{define_of}
 
 -- f is what of the state the next line's form depends on; inline quantities are not counted
 pub record Behind (st : State) (f : Follow) : Type 0 where
@@ -38,8 +37,8 @@ module _ (flags : ℕ) where
 
 -- an ingredient that refers without REF has no intermediate reference
 unfoldable pub ingredient_plain : Component → Option Intermediate → Option ℕ → ComponentEvent
-ingredient_plain c i none = ingredient_event c i
-ingredient_plain c i (some d) = ingredient_event (mark_ref c) none
+ingredient_plain c i None = ingredient_event c i
+ingredient_plain c i (Some d) = ingredient_event (mark_ref c) None
 
 module _ (w : List ℕ) where
   unfoldable pub component_plain : ComponentEvent → Follow → ComponentEvent

@@ -1,6 +1,5 @@
 -- What the rows of work memory say, after the pass, of a component's line: what it refers to without REF, 22 and 23.
-use Rattle.std.specs.Prelude.{ℕ, ◌<◌, List, Bool, true, false, eqb}
-use Rattle.std.proofs.Math.Option.{Option, none, some}
+use Rattle.std.specs.Prelude.{ℕ, ◌<◌, List, Bool, true, false, eqb, Option, None, Some}
 use Rattle.rules.specs.Basic.{pick}
 use Rattle.rules.specs.Unicode.{fold_name}
 use Rattle.rules.specs.Event.{Component, ComponentEvent, ingredient_event, cookware_event, timer_event, end_event, text_event, component_event, Event, between, inside, parser_event}
@@ -9,7 +8,6 @@ use Rattle.rules.specs.Modes.{is_components}
 use Rattle.rules.specs.Plain.{mark_ref}
 use Rattle.content.specs.Contents.{kept_in}
 use Rattle.model.specs.Rows.{row_at, row_of}
-use Rattle.model.specs.Memory.{define_of}
 use Rattle.model.specs.declared.Relation.{Relation}
 use Rattle.model.specs.declared.Relation.TheVariants.{Definition, Reference}
 use Rattle.model.specs.declared.Target.TheVariants.{Ingredient, Step, Section}
@@ -18,31 +16,32 @@ use Rattle.model.specs.declared.Open.TheVariants as block
 use Rattle.model.specs.declared.Held.{Held}
 use Rattle.lookup.specs.Names.{name_part, same_row, rows_in}
 use Rattle.following.specs.declared.Follow.{Follow}
+use Rattle.sheet.specs.Words.{define_of}
 
 -- the component of its kind that a row refers to
 unfoldable pub refers_as : Relation → ℕ → Option ℕ
-refers_as Definition i = none
-refers_as (Reference Ingredient) i = some i
-refers_as (Reference Step) i = none
-refers_as (Reference Section) i = none
+refers_as Definition i = None
+refers_as (Reference Ingredient) i = Some i
+refers_as (Reference Step) i = None
+refers_as (Reference Section) i = None
 
 -- REF added where a line refers without it
 unfoldable pub marked_as : Component → Option ℕ → Component
-marked_as c none = c
-marked_as c (some d) = mark_ref c
+marked_as c None = c
+marked_as c (Some d) = mark_ref c
 
 -- 23, where `to` is what a line refers to without REF, and `last` the last of its name without REF
 unfoldable pub fault_as : Option ℕ → Option ℕ → Option ℕ
-fault_as none last = none
-fault_as (some d) none = some 23
-fault_as (some d) (some l) = pick (eqb d l) none (some 23)
+fault_as None last = None
+fault_as (Some d) None = Some 23
+fault_as (Some d) (Some l) = pick (eqb d l) None (Some 23)
 
 -- ---- the rows of a kind
 
 module _ (rows : List ℕ) where
   -- what row n refers to, where its line has no REF
   unfoldable pub implicit_row : Bool → ℕ → Option ℕ
-  implicit_row ref n = pick ref none (refers_as (row_of (row_at 12 rows n)).relation.relation (row_of (row_at 12 rows n)).relation.index)
+  implicit_row ref n = pick ref None (refers_as (row_of (row_at 12 rows n)).relation.relation (row_of (row_at 12 rows n)).relation.index)
 
   -- the last row before row n that has its name, and no REF
   unfoldable pub last_row : List ℕ → ℕ → Option ℕ
@@ -62,22 +61,22 @@ module _ (w : List ℕ) where
     unfoldable pub mark_fault_in : ComponentEvent → Follow → Option ℕ
     mark_fault_in (ingredient_event c i) f = kind_fault ingredient c f.ingredients
     mark_fault_in (cookware_event c) f = kind_fault cookware c f.cookware
-    mark_fault_in (timer_event s n q) f = none
+    mark_fault_in (timer_event s n q) f = None
 
     -- 22, then 23
     unfoldable pub component_fault_in : ComponentEvent → Open → Follow → Option ℕ
-    component_fault_in c block.Nothing f = none
-    component_fault_in c block.Step f = pick (is_components (define_of f.define)) (some 22) (mark_fault_in c f)
-    component_fault_in c block.Text f = none
-    component_fault_in c block.TextMode f = none
+    component_fault_in c block.Nothing f = None
+    component_fault_in c block.Step f = pick (is_components (define_of f.define)) (Some 22) (mark_fault_in c f)
+    component_fault_in c block.Text f = None
+    component_fault_in c block.TextMode f = None
 
     -- the fault of a line
     unfoldable pub fault_in : Event → Follow → Option ℕ
-    fault_in (between b) f = none
-    fault_in (inside (end_event k)) f = none
-    fault_in (inside (text_event t)) f = none
+    fault_in (between b) f = None
+    fault_in (inside (end_event k)) f = None
+    fault_in (inside (text_event t)) f = None
     fault_in (inside (component_event c)) f = component_fault_in c f.block f
-    fault_in (parser_event s n) f = none
+    fault_in (parser_event s n) f = None
 
 -- ---- a component's line in a step has its row
 

@@ -1,17 +1,17 @@
 -- What is known of work memory when the plain form is written, and what is written.
-use Rattle.std.specs.Prelude.{ℕ, ◌≤◌, ◌≡◌, List}
+use Rattle.std.specs.Prelude.{ℕ, ◌≤◌, ◌≡◌, List, Result, Ok, Err}
 use Rattle.rules.specs.Units.{NamedUnit}
 use Rattle.rules.specs.State.{State, first_state, going}
 use Rattle.rules.specs.Pass.{walk}
 use Rattle.rules.specs.Plain.{Traced, trace_from, plain_events, sheet_of}
 use Rattle.rules.specs.Answer.{Answer, declined, unless_faulty, events_or, read_sheet}
+use Rattle.refusals.specs.Told.{number_of}
+use Rattle.refusals.specs.declared.Refusal.{Refusal}
 use Rattle.output.specs.Put.{Put}
 use Rattle.model.specs.Blank.{blank}
 use Rattle.model.specs.Memory.{state_in, Sound}
 use Rattle.model.specs.Fits.{AllFit}
 use Rattle.model.specs.declared.Held.{Held}
-use Rattle.plain_walk.specs.declared.Formed.{Formed}
-use Rattle.plain_walk.specs.declared.Formed.TheVariants.{Fault, Length}
 
 -- work memory holds what it keeps of the state `final`
 pub record Final (sheet w : List ℕ) (h : Held) (final : State) : Type 0 where
@@ -35,11 +35,11 @@ trace_of text us flags sheet = trace_from text us flags 1 (going first_state) (e
 
 -- the first fault: its number and line, and what the buffer then holds is the program's choice; or no fault, and the form's bytes
 -- at the front of a buffer that held o₀, or they do not fit
-unfoldable pub FormedAs : List ℕ → List NamedUnit → ℕ → List ℕ → List ℕ → List ℕ → Formed → Type 0
-FormedAs text us flags sheet o₀ o (Fault n l) = (a : Answer) → unless_faulty us flags a (trace_of text us flags sheet) ≡ declined n l
-FormedAs text us flags sheet o₀ o (Length r) =
+unfoldable pub FormedAs : List ℕ → List NamedUnit → ℕ → List ℕ → List ℕ → List ℕ → Result ℕ Refusal → Type 0
+FormedAs text us flags sheet o₀ o (Err f) = (a : Answer) → unless_faulty us flags a (trace_of text us flags sheet) ≡ declined (number_of f.reason) f.line
+FormedAs text us flags sheet o₀ o (Ok r) =
     ((a : Answer) → unless_faulty us flags a (trace_of text us flags sheet) ≡ a)
     × Put (sheet_of (plain_events text us flags (trace_of text us flags sheet))) o₀ 0 o r
 
-pub record FormWritten (text : List ℕ) (us : List NamedUnit) (flags : ℕ) (sheet o₀ o : List ℕ) (r : Formed) : Type 0 where
+pub record FormWritten (text : List ℕ) (us : List NamedUnit) (flags : ℕ) (sheet o₀ o : List ℕ) (r : Result ℕ Refusal) : Type 0 where
   pub is : FormedAs text us flags sheet o₀ o r

@@ -1,8 +1,7 @@
 // The plain form of a sheet that the pass accepted: a second walk, over the component rows that the pass left in work memory.
 #![tactic(auto)]
 
-ghost use Rattle.std.specs.Prelude.{◌≡◌, true, ◌&&◌, ◌+◌, ◌*◌, ◌≤◌, ◌<◌, length};
-ghost use Rattle.std.proofs.Math.Option.{some};
+ghost use Rattle.std.specs.Prelude.{◌≡◌, true, ◌&&◌, ◌+◌, ◌*◌, ◌≤◌, ◌<◌, length, Some};
 ghost use Rattle.rules.specs.Utf8.{is_utf8};
 ghost use Rattle.rules.specs.Units.{read_units};
 ghost use Rattle.rules.specs.Answer.{units_or, events_or, read_sheet, events};
@@ -19,11 +18,12 @@ ghost use Rattle.plain_walk.specs.Becomes.{PlainFit, Few, StartTold, BetweenTold
 ghost use Rattle.plain_walk.specs.Walk.{PassDone, FormWritten};
 
 use components::ComponentView;
-use events::{Between, BlockKind, ComponentEvent, EventView, Inside};
+use events::{Between, ComponentEvent, EventView, Inside};
 use following::Follow;
-use lookup::Same;
-use model::{Held, Open};
+use model::{Held, Kind, Open};
 use parts::{Span, TextView};
+use refusals::{Reason, Refusal};
+use sheet::BlockKind;
 
 fn wide(x: u32) -> usize
     ensures { result ≡ x }
@@ -34,52 +34,58 @@ fn wide(x: u32) -> usize
 // ---- references without REF
 
 // What row n refers to, of its own kind, where its line has no REF.
-fn implicit_row(rows: &[u32], n: usize, reference: bool) -> Same
+fn implicit_row(rows: &[u32], n: usize, reference: bool) -> Option<usize>
     requires { (n < 513) × (n * 12 + 12 ≤ length rows.now) }
     ensures { ImplicitFound rows.now reference n result }
 {
     if reference {
-        return Same::Nothing;
+        return None;
     }
     let at = n * 12;
     if rows[at + 9] == 1 {
-        return Same::At(wide(rows[at + 10]));
+        return Some(wide(rows[at + 10]));
     }
-    Same::Nothing
+    None
 }
 
 // 23, where row n refers to the row d without REF.
-fn last_fault(t: &[u32], sheet: &[u8], rows: &[u32], n: usize, d: usize) -> u32
+fn check_last(t: &[u32], sheet: &[u8], rows: &[u32], n: usize, d: usize) -> Result<(), Reason>
     requires { (t.now ≡ unicode_tables) × RowNamed sheet.now rows.now n }
-    ensures { RowFault sheet.now rows.now n (some d) result }
+    ensures { RowFault sheet.now rows.now n (Some d) result }
 {
     let at = n * 12;
     let a = wide(rows[at + 2]);
     let e = wide(rows[at + 3]);
     match lookup::same_name_before(t, sheet, rows, n, &sheet[a..e], true, false) {
-        Same::Nothing => 23,
-        Same::At(l) => {
+        None => Err(Reason::NotLast),
+        Some(l) => {
             if l == d {
-                return 0;
+                return Ok(());
             }
-            23
+            Err(Reason::NotLast)
         }
     }
 }
 
 // 23 of the line of row n.
-fn row_fault(t: &[u32], sheet: &[u8], rows: &[u32], n: usize, reference: bool) -> u32
+fn check_row(t: &[u32], sheet: &[u8], rows: &[u32], n: usize, reference: bool) -> Result<(), Reason>
     requires { (t.now ≡ unicode_tables) × RowNamed sheet.now rows.now n }
     ensures { RowFault sheet.now rows.now n (implicit_row rows.now reference n) result }
 {
     match implicit_row(rows, n, reference) {
-        Same::Nothing => 0,
-        Same::At(d) => last_fault(t, sheet, rows, n, d),
+        None => Ok(()),
+        Some(d) => check_last(t, sheet, rows, n, d),
     }
 }
 
 // 23 of a component in a step.
-fn mark_fault(t: &[u32], sheet: &[u8], words: &[u32], c: ComponentEvent, f: Follow) -> u32
+fn check_mark(
+    t: &[u32],
+    sheet: &[u8],
+    words: &[u32],
+    c: ComponentEvent,
+    f: Follow,
+) -> Result<(), Reason>
     requires { (t.now ≡ unicode_tables) × (24157 ≤ length words.now) × ComponentReady sheet.now words.now c f }
     ensures { StepFault sheet.now words.now c f result }
 {
@@ -87,52 +93,58 @@ fn mark_fault(t: &[u32], sheet: &[u8], words: &[u32], c: ComponentEvent, f: Foll
         ComponentEvent::Ingredient(v, i) => {
             let n = wide(f.ingredients);
             let m = v.modifiers;
-            row_fault(t, sheet, &words[0..6156], n, m.reference)
+            check_row(t, sheet, &words[0..6156], n, m.reference)
         }
         ComponentEvent::Cookware(v) => {
             let n = wide(f.cookware);
             let m = v.modifiers;
-            row_fault(t, sheet, &words[6156..9240], n, m.reference)
+            check_row(t, sheet, &words[6156..9240], n, m.reference)
         }
-        ComponentEvent::Timer(s, n, q) => 0,
+        ComponentEvent::Timer(s, n, q) => Ok(()),
     }
 }
 
 // 22 or 23 of a line in a block.
-fn inside_fault(t: &[u32], sheet: &[u8], words: &[u32], i: Inside, f: Follow) -> u32
+fn check_inside(t: &[u32], sheet: &[u8], words: &[u32], i: Inside, f: Follow) -> Result<(), Reason>
     requires { (t.now ≡ unicode_tables) × (24157 ≤ length words.now) × InsideReady sheet.now words.now i f }
     ensures { LineFault sheet.now words.now (event.Inside i) f result }
 {
     match i {
-        Inside::End(kind) => 0,
-        Inside::Text(body) => 0,
+        Inside::End(kind) => Ok(()),
+        Inside::Text(body) => Ok(()),
         Inside::Component(c) => {
             let b = f.block;
             match b {
-                Open::Nothing => 0,
+                Open::Nothing => Ok(()),
                 Open::Step => {
                     let define = f.define;
                     if blocks::is_components(define) {
-                        return 22;
+                        return Err(Reason::InComponentsMode);
                     }
-                    mark_fault(t, sheet, words, c, f)
+                    check_mark(t, sheet, words, c, f)
                 }
-                Open::Text => 0,
-                Open::TextMode => 0,
+                Open::Text => Ok(()),
+                Open::TextMode => Ok(()),
             }
         }
     }
 }
 
-// The number of the fault of a line, 0 for none.
-fn line_fault(t: &[u32], sheet: &[u8], words: &[u32], e: EventView, f: Follow) -> u32
+// 22 or 23 of any line.
+fn check_marks(
+    t: &[u32],
+    sheet: &[u8],
+    words: &[u32],
+    e: EventView,
+    f: Follow,
+) -> Result<(), Reason>
     requires { (t.now ≡ unicode_tables) × (24157 ≤ length words.now) × EventReady sheet.now words.now e f }
     ensures { LineFault sheet.now words.now e f result }
 {
     match e {
-        EventView::Between(b) => 0,
-        EventView::Inside(i) => inside_fault(t, sheet, words, i, f),
-        EventView::Finding(s, n) => 0,
+        EventView::Between(b) => Ok(()),
+        EventView::Inside(i) => check_inside(t, sheet, words, i, f),
+        EventView::Finding(s, n) => Ok(()),
     }
 }
 
@@ -146,8 +158,8 @@ pub enum Plain {
     EndText,
     // A component in text mode, by its span.
     Source(Span),
-    // With REF added; whether it is an ingredient.
-    Marked(bool, ComponentView),
+    // A component of the kind, with REF added.
+    Marked(Kind, ComponentView),
 }
 
 // Whether a `meta` line sets a mode, or would.
@@ -204,16 +216,16 @@ fn component_plain(words: &[u32], c: ComponentEvent, f: Follow) -> Plain
             let n = wide(f.ingredients);
             let m = v.modifiers;
             match implicit_row(&words[0..6156], n, m.reference) {
-                Same::Nothing => Plain::Copied,
-                Same::At(d) => Plain::Marked(true, v),
+                None => Plain::Copied,
+                Some(d) => Plain::Marked(Kind::Ingredient, v),
             }
         }
         ComponentEvent::Cookware(v) => {
             let n = wide(f.cookware);
             let m = v.modifiers;
             match implicit_row(&words[6156..9240], n, m.reference) {
-                Same::Nothing => Plain::Copied,
-                Same::At(d) => Plain::Marked(false, v),
+                None => Plain::Copied,
+                Some(d) => Plain::Marked(Kind::Cookware, v),
             }
         }
         ComponentEvent::Timer(s, n, q) => Plain::Copied,
@@ -299,13 +311,6 @@ fn put_plain(out: &mut [u8], at: usize, text: &[u8], line: &[u8], p: Plain) -> u
 
 // ---- the form
 
-#[derive(Clone, Copy)]
-pub enum Formed {
-    // The number of the first fault, and of its line.
-    Fault(u32, u32),
-    Length(usize),
-}
-
 // The plain form of a sheet that the pass accepted, written in `out`; `words` and `h` are what the pass left.
 pub fn plain_form_lines(
     t: &[u32],
@@ -316,7 +321,7 @@ pub fn plain_form_lines(
     words: &[u32],
     h: Held,
     out: &mut [u8],
-) -> Formed
+) -> Result<usize, Refusal>
     requires { (t.now ≡ unicode_tables) × (length sheet.now ≤ 65536) × (is_utf8 text.now ≡ true) × (read_sheet text.now sheet.now ≡ events (events_or (read_sheet text.now sheet.now))) × PassDone text.now (units_or (read_units units.now)) flags sheet.now words.now h }
     ensures { FormWritten text.now (units_or (read_units units.now)) flags sheet.now out.old out.new result }
 {
@@ -325,14 +330,16 @@ pub fn plain_form_lines(
     let mut number: u32 = 1;
     let mut n = 0;
     while at < sheet.len() {
-        let sheet::LineEnd::At(end) = sheet::line_end(sheet, at) else {
-            return Formed::Length(0);
+        let Some(end) = sheet::line_end(sheet, at) else {
+            return Ok(0);
         };
         let line = &sheet[at..end];
         let e = known_events::event_of(line);
-        let fault = line_fault(t, sheet, words, e, f);
-        if fault != 0 {
-            return Formed::Fault(fault, number);
+        if let Err(reason) = check_marks(t, sheet, words, e, f) {
+            return Err(Refusal {
+                reason,
+                line: number,
+            });
         }
         let p = plain_of(t, flags, line, words, e, f);
         n = put_plain(out, n, text, line, p);
@@ -340,5 +347,5 @@ pub fn plain_form_lines(
         at = end + 1;
         number += 1;
     }
-    Formed::Length(n)
+    Ok(n)
 }

@@ -3,12 +3,13 @@ use Prim.Native.Nat.{ℕ}
 use mathlib.Core.Path.{◌≡◌, ap, ◌∙◌}
 use mathlib.Core.Bool.{Bool, true, false}
 use mathlib.Core.List.{List}
+use Rattle.std.specs.Prelude.{Result}
 use Rattle.rules.specs.Answer.{Lent, printed}
-use Rattle.recipe.specs.declared.Answer.{Answer}
+use Rattle.refusals.specs.declared.Refusal.{Refusal}
 use Rattle.recipe.specs.Answers.{Collected, PlainFormed, PrintedAt}
 use Rattle.program.specs.Prints.{answer_for, AnswerPrinted}
 
-module _ {plain : Bool} {sheet text units : List ℕ} {flags : ℕ} {m : Lent} {w b o₀ o : List ℕ} {r : Answer} {n : ℕ} where
+module _ {plain : Bool} {sheet text units : List ℕ} {flags : ℕ} {m : Lent} {w b o₀ o : List ℕ} {r : Result ℕ Refusal} {n : ℕ} where
   pub form_printed : plain ≡ true → PlainFormed sheet text units flags m w b o₀ r → PrintedAt r o₀ o n → AnswerPrinted plain sheet text units flags m o n
   unfolding answer_for
   form_printed q c p = rw q record { is = p.is ∙ ap printed c.is; fits = p.fits }

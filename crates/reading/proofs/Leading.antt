@@ -9,15 +9,16 @@ use borrow.Author.Tests.{eqb-true, eq-eqb, ne_eqb, le-leb}
 use lib.Dec.{eqb}
 use lib.ListN.{length, get_or, drop, drop_of_length-le}
 use lib.Seq.{drop-cons}
-use Rattle.rules.specs.Basic.{pick, tab, split_at, on_first, eq_list, word_in}
+use Rattle.std.specs.Prelude.{None, Some}
+use Rattle.rules.specs.Basic.{pick, tab, split_at, on_first, on_some, eq_list, word_in}
 use Rattle.rules.specs.Sheet.{fields_of}
 use Rattle.rules.specs.Words.{event_words}
-use Rattle.rules.proofs.Basics.{no_truth}
+use Rattle.rules.proofs.Basics.{no_truth, no_some, some_inj}
 use Rattle.rules.proofs.Fields.{Without, without_none, without_more}
 use Rattle.sheet.specs.Lines.{fields_from, field_at}
-use Rattle.sheet.specs.Words.{word_as}
-use Rattle.sheet.specs.declared.Word.TheVariants as told
-use Rattle.reading.specs.declared.FirstWord.{FirstWord}
+use Rattle.sheet.specs.Words.{event_word_in}
+use Rattle.sheet.specs.declared.EventWord.{EventWord}
+use Rattle.sheet.specs.declared.EventWord.TheVariants.{Text, Ingredient, Start, End}
 use Rattle.reading.specs.Answers.{leads_with, WordRead}
 
 -- ---- byte by byte
@@ -67,39 +68,45 @@ field_leading : (w s : List ℕ) → leads_with w s ≡ true → Without tab w �
 unfolding field_at fields_from fields_of
 field_leading w s e n = rw (le-leb 0 (length s) (omega arith)) (leading w s e n)
 
--- a word without tabs that the line starts with
-pub word_led : (w s : List ℕ) {t : Bool} → t ≡ leads_with w s → t ≡ true → Without tab w → {u : FirstWord} → u.word ≡ word_as (word_in w event_words) → u.next ≡ length w + 1 → WordRead s u
-word_led w s e q n a b = let k = sym (field_leading w s (sym e ∙ q) n) in record { word = rw k at a; next = rw k at b }
+-- a field that was read
+module _ (s : List ℕ) {f : List ℕ} (e : f ≡ field_at s 0) where
+  pub no_word : on_some event_word_in None ≡ word_in f event_words → WordRead s None
+  unfolding on_some
+  no_word a = record { word = rw e at a; next = λ w n q. no_some q }
 
--- the same of a field that was read
-pub word_read : (s : List ℕ) {f : List ℕ} → f ≡ field_at s 0 → {u : FirstWord} → u.word ≡ word_as (word_in f event_words) → u.next ≡ length f + 1 → WordRead s u
-word_read s e a b = record { word = rw e at a; next = rw e at b }
+  pub word_read : {k : EventWord} {n : ℕ} → on_some event_word_in (Some k) ≡ word_in f event_words → n ≡ length f + 1 → WordRead s (Some (k, n))
+  unfolding on_some
+  word_read a b = record { word = rw e at a; next = λ w m q. sym (ap (λ (p : EventWord × ℕ). p.1) (some_inj q)) ∙ rw e at b }
+
+-- a word without tabs that the line starts with
+pub word_led : (w s : List ℕ) {t : Bool} → t ≡ leads_with w s → t ≡ true → Without tab w → {k : EventWord} {n : ℕ} → on_some event_word_in (Some k) ≡ word_in w event_words → n ≡ length w + 1 → WordRead s (Some (k, n))
+word_led w s e q n = word_read s (sym (field_leading w s (sym e ∙ q) n))
 
 -- ---- the frequent words
 pub no_tab_text : Without tab (116 ∷ 101 ∷ 120 ∷ 116 ∷ [])
 no_tab_text = without_more refl (without_more refl (without_more refl (without_more refl without_none)))
 
-pub text_word_lem : told.Text ≡ word_as (word_in (116 ∷ 101 ∷ 120 ∷ 116 ∷ []) event_words)
-unfolding word_as word_in eq_list
+pub text_word_lem : on_some event_word_in (Some Text) ≡ word_in (116 ∷ 101 ∷ 120 ∷ 116 ∷ []) event_words
+unfolding on_some event_word_in word_in eq_list
 text_word_lem = refl
 
 pub no_tab_ingredient : Without tab (105 ∷ 110 ∷ 103 ∷ 114 ∷ 101 ∷ 100 ∷ 105 ∷ 101 ∷ 110 ∷ 116 ∷ [])
 no_tab_ingredient = without_more refl (without_more refl (without_more refl (without_more refl (without_more refl (without_more refl (without_more refl (without_more refl (without_more refl (without_more refl without_none)))))))))
 
-pub ingredient_word : told.Ingredient ≡ word_as (word_in (105 ∷ 110 ∷ 103 ∷ 114 ∷ 101 ∷ 100 ∷ 105 ∷ 101 ∷ 110 ∷ 116 ∷ []) event_words)
-unfolding word_as word_in eq_list
+pub ingredient_word : on_some event_word_in (Some Ingredient) ≡ word_in (105 ∷ 110 ∷ 103 ∷ 114 ∷ 101 ∷ 100 ∷ 105 ∷ 101 ∷ 110 ∷ 116 ∷ []) event_words
+unfolding on_some event_word_in word_in eq_list
 ingredient_word = refl
 
 pub no_tab_start : Without tab (115 ∷ 116 ∷ 97 ∷ 114 ∷ 116 ∷ [])
 no_tab_start = without_more refl (without_more refl (without_more refl (without_more refl (without_more refl without_none))))
 
-pub start_word : told.Start ≡ word_as (word_in (115 ∷ 116 ∷ 97 ∷ 114 ∷ 116 ∷ []) event_words)
-unfolding word_as word_in eq_list
+pub start_word : on_some event_word_in (Some Start) ≡ word_in (115 ∷ 116 ∷ 97 ∷ 114 ∷ 116 ∷ []) event_words
+unfolding on_some event_word_in word_in eq_list
 start_word = refl
 
 pub no_tab_end : Without tab (101 ∷ 110 ∷ 100 ∷ [])
 no_tab_end = without_more refl (without_more refl (without_more refl without_none))
 
-pub end_word : told.End ≡ word_as (word_in (101 ∷ 110 ∷ 100 ∷ []) event_words)
-unfolding word_as word_in eq_list
+pub end_word : on_some event_word_in (Some End) ≡ word_in (101 ∷ 110 ∷ 100 ∷ []) event_words
+unfolding on_some event_word_in word_in eq_list
 end_word = refl

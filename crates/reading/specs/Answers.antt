@@ -1,49 +1,20 @@
 -- What the readers of whole lines answer: the rules' reading.
-use Rattle.std.specs.Prelude.{ℕ, ◌+◌, Bool, false, ◌≡◌, List, [], ◌∷◌, eqb, leb, length}
-use Rattle.std.proofs.Math.Option.{Option, none, some}
-use Rattle.rules.specs.Basic.{tab, pick, word_in}
+use Rattle.std.specs.Prelude.{ℕ, ◌+◌, Bool, false, ◌≡◌, List, [], ◌∷◌, eqb, leb, length, Option, None, Some, Result}
+use Rattle.rules.specs.Basic.{tab, pick, on_some, word_in}
 use Rattle.rules.specs.Sheet.{fields_of}
-use Rattle.rules.specs.Words as words
+use Rattle.rules.specs.Words.{event_words}
 use Rattle.rules.specs.Event.{Event}
-use Rattle.rules.specs.Read.{Reader, read_after, read_event, first_read, parse_line}
+use Rattle.rules.specs.Read.{read_event, first_read, parse_line}
 use Rattle.sheet.specs.Lines.{field_at}
-use Rattle.sheet.specs.Words.{word_as}
-use Rattle.sheet.specs.declared.Word.{Word}
-use Rattle.sheet.specs.declared.Word.TheVariants as told
+use Rattle.sheet.specs.Words.{event_word_in}
+use Rattle.sheet.specs.declared.EventWord.{EventWord}
 use Rattle.parts.specs.Got.{Among}
-use Rattle.events.specs.declared.GotEvent.{GotEvent}
-use Rattle.events.specs.declared.GotEvent.TheVariants as event
 use Rattle.events.specs.Views.{event_in, EventWithin, raw_event}
 use Rattle.rules.specs.Answer.{Reading, events, unread, read_line, read_sheet}
-use Rattle.reading.specs.declared.FirstWord.{FirstWord}
-use Rattle.reading.specs.declared.ReadEvent.{ReadEvent}
-use Rattle.reading.specs.declared.ReadEvent.TheVariants as answer
-use Rattle.reading.specs.declared.LineFault.{LineFault}
-use Rattle.reading.specs.declared.LineFault.TheVariants as fault
-use Rattle.reading.specs.declared.SheetRead.{SheetRead}
-use Rattle.reading.specs.declared.SheetRead.TheVariants as sheet
-
--- the word of the rules that was told
-unfoldable pub word_of : Word → Option words.EventWord
-word_of told.Meta = some words.meta_word
-word_of told.Section = some words.section_word
-word_of told.Start = some words.start_word
-word_of told.End = some words.end_word
-word_of told.Text = some words.text_word
-word_of told.Ingredient = some words.ingredient_word
-word_of told.Cookware = some words.cookware_word
-word_of told.Timer = some words.timer_word
-word_of told.Error = some words.error_word
-word_of told.Warning = some words.warning_word
-word_of told.Unknown = none
-
-unfoldable pub after_word : Option words.EventWord → Reader Event
-after_word none fs = none
-after_word (some w) fs = read_after w fs
-
--- the reader of what follows a word; after an unknown one nothing is well formed
-unfoldable pub read_word : Word → Reader Event
-read_word w = after_word (word_of w)
+use Rattle.refusals.specs.declared.Reason.{Reason}
+use Rattle.refusals.specs.declared.Refusal.{Refusal}
+use Rattle.refusals.specs.Told.{number_told, told}
+use Rattle.events.specs.declared.EventView.{EventView}
 
 -- s starts with the word and a tab
 unfoldable pub leads_with : List ℕ → List ℕ → Bool
@@ -52,58 +23,50 @@ leads_with [] (c ∷ s) = eqb c tab
 leads_with (x ∷ w) [] = false
 leads_with (x ∷ w) (c ∷ s) = pick (eqb c x) (leads_with w s) false
 
--- a line's first word, and where the field after it starts
-pub record WordRead (line : List ℕ) (r : FirstWord) : Type 0 where
-  pub word : r.word ≡ word_as (word_in (field_at line 0) words.event_words)
-  pub next : r.next ≡ length (field_at line 0) + 1
+-- a line's first word, if it is one of an event's, and where the field after it starts
+pub record WordRead (line : List ℕ) (r : Option (EventWord × ℕ)) : Type 0 where
+  pub word : on_some (λ (p : EventWord × ℕ). event_word_in p.0) r ≡ word_in (field_at line 0) event_words
+  pub next : (w : EventWord) (n : ℕ) → r ≡ Some (w, n) → n ≡ length (field_at line 0) + 1
 
 -- the event that was read, if one was
-unfoldable pub event_as : List ℕ → ReadEvent → Option Event
-event_as line (answer.Event v) = some (event_in line v)
-event_as line answer.Ill = none
+unfoldable pub event_as : List ℕ → Option EventView → Option Event
+event_as line (Some v) = Some (event_in line v)
+event_as line None = None
 
-unfoldable pub IfEvent : List ℕ → ReadEvent → Type 0
-IfEvent line (answer.Event v) = EventWithin line v
-IfEvent line answer.Ill = Unit
+unfoldable pub IfEvent : List ℕ → Option EventView → Type 0
+IfEvent line (Some v) = EventWithin line v
+IfEvent line None = Unit
 
 -- the contents that the view holds are whole fields of the line, in their order
-unfoldable pub IfWhole : List ℕ → ReadEvent → Type 0
-IfWhole line (answer.Event v) = Among (raw_event line v) (fields_of line) []
-IfWhole line answer.Ill = Unit
+unfoldable pub IfWhole : List ℕ → Option EventView → Type 0
+IfWhole line (Some v) = Among (raw_event line v) (fields_of line) []
+IfWhole line None = Unit
 
 -- what a reader of events got, in a line of so many bytes, if the line ends there
-unfoldable pub ended_as : ℕ → GotEvent → ReadEvent
-ended_as l (event.Got v m) = pick (leb m l) answer.Ill (answer.Event v)
-ended_as l event.Ill = answer.Ill
+unfoldable pub ended_as : ℕ → Option (EventView × ℕ) → Option EventView
+ended_as l (Some (v, m)) = pick (leb m l) None (Some v)
+ended_as l None = None
 
 -- what `event_in` and `event_at` answer
-pub record EventOf (line : List ℕ) (r : ReadEvent) : Type 0 where
+pub record EventOf (line : List ℕ) (r : Option EventView) : Type 0 where
   pub is : event_as line r ≡ first_read (read_event (fields_of line))
   pub within : IfEvent line r
   pub whole : IfWhole line r
 
-pub record LineOf (line : List ℕ) (r : ReadEvent) : Type 0 where
+pub record LineOf (line : List ℕ) (r : Option EventView) : Type 0 where
   pub is : event_as line r ≡ parse_line line
   pub within : IfEvent line r
   pub whole : IfWhole line r
 
 -- the refusal of a reading and its line
 unfoldable pub fault_of : Reading → Option (ℕ × ℕ)
-fault_of (events es) = none
-fault_of (unread n l) = some (n, l)
-
-unfoldable pub line_as : ℕ → LineFault → Option (ℕ × ℕ)
-line_as number fault.Nothing = none
-line_as number (fault.Fault n) = some (n, number)
+fault_of (events es) = None
+fault_of (unread n l) = Some (n, l)
 
 -- the refusal of a line, with nothing after it
-pub record LineChecked (text : List ℕ) (number : ℕ) (line : List ℕ) (r : LineFault) : Type 0 where
-  pub is : line_as number r ≡ fault_of (read_line text (length text) number (parse_line line) (events []))
-
-unfoldable pub read_as : SheetRead → Option (ℕ × ℕ)
-read_as sheet.Good = none
-read_as (sheet.Refused n l) = some (n, l)
+pub record LineChecked (text : List ℕ) (number : ℕ) (line : List ℕ) (r : Result (Unit {0}) Reason) : Type 0 where
+  pub is : on_some (λ (n : ℕ). (n, number)) (number_told r) ≡ fault_of (read_line text (length text) number (parse_line line) (events []))
 
 -- the refusal of a whole sheet
-pub record SheetChecked (text bytes : List ℕ) (r : SheetRead) : Type 0 where
-  pub is : read_as r ≡ fault_of (read_sheet text bytes)
+pub record SheetChecked (text bytes : List ℕ) (r : Result (Unit {0}) Refusal) : Type 0 where
+  pub is : told r ≡ fault_of (read_sheet text bytes)

@@ -4,23 +4,19 @@
 ghost use Rattle.std.specs.Prelude.{◌≡◌, length};
 ghost use Rattle.reading.specs.Answers.{leads_with, WordRead, ended_as, EventOf, LineOf, LineChecked, SheetChecked};
 
-#[derive(Clone, Copy)]
-pub enum ReadEvent {
-    Event(events::EventView),
-    Ill,
-}
+use events::EventView;
+use refusals::{Reason, Refusal};
+use sheet::EventWord;
 
 // The event that was read, if the line ends with it.
-fn ended(line: &[u8], g: events::GotEvent) -> ReadEvent
+fn ended(line: &[u8], g: Option<(events::EventView, usize)>) -> Option<EventView>
     ensures { result ≡ ended_as (length line.now) g }
 {
-    let events::GotEvent::Got(v, m) = g else {
-        return ReadEvent::Ill;
-    };
+    let (v, m) = g?;
     if m <= line.len() {
-        return ReadEvent::Ill;
+        return None;
     }
-    ReadEvent::Event(v)
+    Some(v)
 }
 
 // Whether the line starts with a word and a tab.
@@ -40,152 +36,116 @@ fn leads(line: &[u8], word: &[u8]) -> bool
     line[i] == b'\t'
 }
 
-// A line's first word, and where its next field starts.
-#[derive(Clone, Copy)]
-struct FirstWord {
-    word: sheet::Word,
-    next: usize,
-}
-
-// The frequent words first, without a search for the field's end.
-fn first_word(line: &[u8]) -> FirstWord
+// A line's first word, if it is one of an event's, and where its next field starts. The frequent words first, without a search
+// for the field's end.
+fn first_word(line: &[u8]) -> Option<(EventWord, usize)>
     ensures { WordRead line.now result }
 {
     if leads(line, b"text") {
-        return FirstWord {
-            word: sheet::Word::Text,
-            next: 5,
-        };
+        return Some((EventWord::Text, 5));
     }
     if leads(line, b"ingredient") {
-        return FirstWord {
-            word: sheet::Word::Ingredient,
-            next: 11,
-        };
+        return Some((EventWord::Ingredient, 11));
     }
     if leads(line, b"start") {
-        return FirstWord {
-            word: sheet::Word::Start,
-            next: 6,
-        };
+        return Some((EventWord::Start, 6));
     }
     if leads(line, b"end") {
-        return FirstWord {
-            word: sheet::Word::End,
-            next: 4,
-        };
+        return Some((EventWord::End, 4));
     }
     let f = sheet::field(line, 0);
-    let word = sheet::event_word(f);
-    FirstWord {
-        word,
-        next: f.len() + 1,
-    }
+    let word = sheet::event_word(f)?;
+    Some((word, f.len() + 1))
 }
 
 // The event of a line's fields. Each word has an exit of its own, so that no view is copied that is larger than its own.
-pub fn event_in(line: &[u8]) -> ReadEvent
+pub fn event_in(line: &[u8]) -> Option<EventView>
     ensures { EventOf line.now result }
 {
-    let first = first_word(line);
-    let n = first.next;
-    let w = first.word;
-    match w {
-        sheet::Word::Meta => {
+    let (word, n) = first_word(line)?;
+    match word {
+        EventWord::Meta => {
             return ended(line, events::read_meta(line, n));
         }
-        sheet::Word::Section => {
+        EventWord::Section => {
             return ended(line, events::read_section(line, n));
         }
-        sheet::Word::Start => {
+        EventWord::Start => {
             return ended(line, events::read_start(line, n));
         }
-        sheet::Word::End => {
+        EventWord::End => {
             return ended(line, events::read_end(line, n));
         }
-        sheet::Word::Text => {
+        EventWord::Text => {
             return ended(line, events::read_text_line(line, n));
         }
-        sheet::Word::Ingredient => {
+        EventWord::Ingredient => {
             return ended(line, events::read_ingredient(line, n));
         }
-        sheet::Word::Cookware => {
+        EventWord::Cookware => {
             return ended(line, events::read_cookware(line, n));
         }
-        sheet::Word::Timer => {
+        EventWord::Timer => {
             return ended(line, events::read_timer(line, n));
         }
-        sheet::Word::Error => {
+        EventWord::Error => {
             return ended(
                 line,
                 events::read_finding(line, n, events::Severity::Severe),
             );
         }
-        sheet::Word::Warning => {
+        EventWord::Warning => {
             return ended(line, events::read_finding(line, n, events::Severity::Mild));
         }
-        sheet::Word::Unknown => ReadEvent::Ill,
     }
 }
 
 // The event of a line without its LF; an ill-formed line has none.
-fn event_at(line: &[u8]) -> ReadEvent
+fn event_at(line: &[u8]) -> Option<EventView>
     ensures { LineOf line.now result }
 {
     match utf8::first_fault(line) {
-        utf8::Checked::Valid => event_in(line),
-        utf8::Checked::Fault(at) => ReadEvent::Ill,
+        None => event_in(line),
+        Some(_) => None,
     }
-}
-
-#[derive(Clone, Copy)]
-pub enum LineFault {
-    Nothing,
-    Fault(u32),
 }
 
 // The refusal of a line with its number: 8, 9 or 10.
-fn line_fault(text: &[u8], number: u32, line: &[u8]) -> LineFault
+fn check_line(text: &[u8], number: u32, line: &[u8]) -> Result<(), Reason>
     ensures { LineChecked text.now number line.now result }
 {
-    let ReadEvent::Event(v) = event_at(line) else {
-        return LineFault::Fault(8);
+    let Some(v) = event_at(line) else {
+        return Err(Reason::IllLine);
     };
     if 4096 < number {
-        return LineFault::Fault(9);
+        return Err(Reason::ManyLines);
     }
     if spans::spans_good(text, v) {
-        return LineFault::Nothing;
+        return Ok(());
     }
-    LineFault::Fault(10)
+    Err(Reason::BadSpan)
 }
 
-#[derive(Clone, Copy)]
-pub enum SheetRead {
-    Good,
-    // The number of the refusal, and of the line.
-    Refused(u32, u32),
-}
-
-pub fn read_sheet(bytes: &[u8], text: &[u8]) -> SheetRead
+pub fn read_sheet(bytes: &[u8], text: &[u8]) -> Result<(), Refusal>
     ensures { SheetChecked text.now bytes.now result }
 {
     let mut at = 0;
     let mut number: u32 = 1;
     while at < bytes.len() {
-        let sheet::LineEnd::At(end) = sheet::line_end(bytes, at) else {
-            return SheetRead::Refused(8, number);
+        let Some(end) = sheet::line_end(bytes, at) else {
+            return Err(Refusal {
+                reason: Reason::IllLine,
+                line: number,
+            });
         };
-        let fault = line_fault(text, number, &bytes[at..end]);
-        match fault {
-            LineFault::Fault(k) => {
-                return SheetRead::Refused(k, number);
-            }
-            LineFault::Nothing => {
-                at = end + 1;
-                number += 1;
-            }
+        if let Err(reason) = check_line(text, number, &bytes[at..end]) {
+            return Err(Refusal {
+                reason,
+                line: number,
+            });
         }
+        at = end + 1;
+        number += 1;
     }
-    SheetRead::Good
+    Ok(())
 }

@@ -2,7 +2,7 @@
 use Prim.Native.Nat.{ℕ}
 use mathlib.Core.Path.{◌≡◌, refl, sym}
 use mathlib.Core.Bool.{true, false}
-use mathlib.Core.Option.{some}
+use Rattle.std.specs.Prelude.{Some}
 use mathlib.Core.List.{List}
 use Rattle.rules.specs.Read.{parse_line}
 use Rattle.rules.specs.Model.{Kind, ingredient, cookware}
@@ -33,7 +33,7 @@ module _ (line : List ℕ) where
   component_view cookware (component.Cookware v) h = refl
   component_view cookware (component.Timer s n q) h = no_truth h
 
-  event_view : (k : Kind) (e : EventView) → is_of_kind k (some (event_in line e)) ≡ true → views.component_in line (view_in e) ≡ component_in k (some (event_in line e))
+  event_view : (k : Kind) (e : EventView) → is_of_kind k (Some (event_in line e)) ≡ true → views.component_in line (view_in e) ≡ component_in k (Some (event_in line e))
   unfolding is_of_kind is_inside_of event_in inside_in view_in view_inside component_in component_inside
   event_view k (event.Between b) h = no_truth h
   event_view k (event.Inside (inside.End b)) h = no_truth h
@@ -48,7 +48,7 @@ module _ (line : List ℕ) where
   component_within ingredient (component.Timer s n q) h w = no_truth h
   component_within cookware (component.Timer s n q) h w = no_truth h
 
-  event_within : (k : Kind) (e : EventView) → is_of_kind k (some (event_in line e)) ≡ true → EventWithin line e → ComponentWithin line (view_in e)
+  event_within : (k : Kind) (e : EventView) → is_of_kind k (Some (event_in line e)) ≡ true → EventWithin line e → ComponentWithin line (view_in e)
   unfolding is_of_kind is_inside_of event_in inside_in view_in view_inside EventWithin InsideWithin
   event_within k (event.Between b) h w = no_truth h
   event_within k (event.Inside (inside.End b)) h w = no_truth h
@@ -63,7 +63,7 @@ module _ (line : List ℕ) where
   component_fields_lem ingredient (component.Timer s n q) h w = no_truth h
   component_fields_lem cookware (component.Timer s n q) h w = no_truth h
 
-  event_fields_lem : (k : Kind) (e : EventView) → is_of_kind k (some (event_in line e)) ≡ true → EventFields line e → ComponentFields line (view_in e)
+  event_fields_lem : (k : Kind) (e : EventView) → is_of_kind k (Some (event_in line e)) ≡ true → EventFields line e → ComponentFields line (view_in e)
   unfolding is_of_kind is_inside_of event_in inside_in view_in view_inside EventFields InsideFields
   event_fields_lem k (event.Between b) h w = no_truth h
   event_fields_lem k (event.Inside (inside.End b)) h w = no_truth h
@@ -77,7 +77,7 @@ module _ (line : List ℕ) where
   no_component_lem (component.Cookware v) h = no_truth (sym (h cookware))
   no_component_lem (component.Timer s n q) h = refl
 
-  no_event : (e : EventView) → ((k : Kind) → is_of_kind k (some (event_in line e)) ≡ false) → view_in e ≡ blank_view
+  no_event : (e : EventView) → ((k : Kind) → is_of_kind k (Some (event_in line e)) ≡ false) → view_in e ≡ blank_view
   unfolding is_of_kind is_inside_of event_in inside_in view_in view_inside
   no_event (event.Between b) h = refl
   no_event (event.Inside (inside.End b)) h = refl
@@ -86,7 +86,7 @@ module _ (line : List ℕ) where
   no_event (event.Finding s n) h = refl
 
 module _ {line : List ℕ} {v : EventView} (o : KnownEvent line v) where
-  of_kind : (k : Kind) → is_of_kind k (parse_line line) ≡ true → is_of_kind k (some (event_in line v)) ≡ true
+  of_kind : (k : Kind) → is_of_kind k (parse_line line) ≡ true → is_of_kind k (Some (event_in line v)) ≡ true
   of_kind k h = rw o.is at h
 
   recall_is : (k : Kind) → is_of_kind k (parse_line line) ≡ true → views.component_in line (view_in v) ≡ component_of_line k line

@@ -3,7 +3,7 @@ use Prim.Native.Nat.{ℕ, ◌+◌, ◌≤◌, ◌<◌}
 use mathlib.Core.Path.{◌≡◌, ap, sym, ◌∙◌}
 use mathlib.Core.Bool.{true}
 use mathlib.Core.List.{List, []}
-use mathlib.Core.Option.{Option, none, some}
+use Rattle.std.specs.Prelude.{Option, None, Some}
 use native.Mathlib.Omega.{arith}
 use lib.ListN.{length, get_or, drop}
 use Rattle.rules.specs.Basic.{on_some}
@@ -30,7 +30,7 @@ no_unit_within line p e = absurd (let z : ◌≡◌ {A = ℕ} 0 1 = cc in omega 
 
 -- what is told of an opt part that starts at a place
 module _ (line : List ℕ) (at : ℕ) where
-  module _ {ls : Fields} (d : some (none, ls) ≡ opt dash (fields_from line at)) where
+  module _ {ls : Fields} (d : Some (None, ls) ≡ opt dash (fields_from line at)) where
     pub past_absent : {n : ℕ} → fields_from line n ≡ ls → PastText line at n
     past_absent q = record { is = λ o gs e. q ∙ (is_absent read_text _ e d).1 }
 
@@ -38,14 +38,14 @@ module _ (line : List ℕ) (at : ℕ) where
     unfolding content_if on_some unit_as
     unit_absent = record { is = λ o gs e. let k = (is_absent read_text _ e d).0 in rw k; within = no_unit_within line }
 
-  module _ (d : none ≡ opt dash (fields_from line at)) where
+  module _ (d : None ≡ opt dash (fields_from line at)) where
     pub past_ill : (n : ℕ) → PastText line at n
     past_ill n = record { is = λ o gs e. is_ill read_text _ e d }
 
     pub unit_ill : UnitRead line at NoUnit
     unit_ill = record { is = λ o gs e. is_ill read_text _ e d; within = no_unit_within line }
 
-  module _ {ls : Fields} (d : some (some tt, ls) ≡ opt dash (fields_from line at)) {n : ℕ} where
+  module _ {ls : Fields} (d : Some (Some tt, ls) ≡ opt dash (fields_from line at)) {n : ℕ} where
     pub past_present : fields_from line n ≡ drop 3 (fields_from line at) → PastText line at n
     past_present q = record { is = λ o gs e. q ∙ takes_text _ _ gs (is_one_lem read_text _ e d).is_read }
 
@@ -54,12 +54,12 @@ module _ (line : List ℕ) (at : ℕ) where
       unit_past h = record { is = λ o gs e. text_there _ (is_one_lem read_text _ e d).is_read (sym q ∙ fields_past line n h); within = no_unit_within line }
 
       module _ {f : List ℕ} (h : n ≤ length line) (k : f ≡ field_at line n) where
-        there_is : (o : Option Text) (gs : Fields) → opt read_text (fields_from line at) ≡ some (o, gs) → some (content_if o) ≡ unit_as line (At (record { from = n; to = n + length f }))
+        there_is : (o : Option Text) (gs : Fields) → opt read_text (fields_from line at) ≡ Some (o, gs) → Some (content_if o) ≡ unit_as line (At (record { from = n; to = n + length f }))
         unfolding content_if on_some unit_as field_at
         there_is o gs e =
             let t = is_one_lem read_text _ e d in
             let b : f ≡ get_or (drop 2 (fields_from line at)) 0 [] = k ∙ ap (λ (x : Fields). get_or x 0 []) q in
-            let c : content_of f ≡ some t.one.content = rw b (text_content _ t.is_read) in
+            let c : content_of f ≡ Some t.one.content = rw b (text_content _ t.is_read) in
             rw (t.holds_one, field_part line n h k, plains.content_of_lem f c)
 
         pub unit_there : UnitRead line at (At (record { from = n; to = n + length f }))
@@ -76,14 +76,14 @@ module _ (line : List ℕ) (h : is_of_kind ingredient (parse_line line) ≡ true
       let c = ap (λ (x : Component). x.quantity) g.is_event in
       rw (k, c) u.quantity
 
-  pub quantity_absent : {ls : Fields} → some (none, ls) ≡ opt dash (fields_from line n) → UnitRecalled line NoQuantity
+  pub quantity_absent : {ls : Fields} → Some (None, ls) ≡ opt dash (fields_from line n) → UnitRecalled line NoQuantity
   unfolding unit_of on_some unit_as
   quantity_absent d = let k = (is_absent read_quantity _ quantity_here.is_read d).0 in record { is = rw k; within = no_quantity_within line }
 
-  pub quantity_ill : none ≡ opt dash (fields_from line n) → UnitRecalled line NoQuantity
+  pub quantity_ill : None ≡ opt dash (fields_from line n) → UnitRecalled line NoQuantity
   quantity_ill d = is_ill read_quantity _ quantity_here.is_read d
 
-  pub quantity_present : {ls : Fields} {u : ℕ} {r : UnitPlace} → some (some tt, ls) ≡ opt dash (fields_from line n) → fields_from line u ≡ drop 7 (fields_from line n) → UnitRead line u r → UnitRecalled line r
+  pub quantity_present : {ls : Fields} {u : ℕ} {r : UnitPlace} → Some (Some tt, ls) ≡ opt dash (fields_from line n) → fields_from line u ≡ drop 7 (fields_from line n) → UnitRead line u r → UnitRecalled line r
   unfolding unit_of on_some
   quantity_present d e w =
       let o = is_one_lem read_quantity _ quantity_here.is_read d in

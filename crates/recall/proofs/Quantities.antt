@@ -3,7 +3,7 @@ use Prim.Native.Nat.{ℕ, ◌+◌}
 use mathlib.Core.Path.{◌≡◌, refl, ap, sym, ◌∙◌}
 use mathlib.Core.Bool.{Bool, true, false}
 use mathlib.Core.List.{List, [], ◌∷◌}
-use mathlib.Core.Option.{Option, none, some}
+use Rattle.std.specs.Prelude.{Option, None, Some}
 use native.Mathlib.Omega.{arith}
 use borrow.Author.Tests.{le-leb}
 use lib.ListN.{length}
@@ -17,12 +17,12 @@ use Rattle.rules.specs.Model.{ingredient}
 use Rattle.rules.proofs.Basics.{no_some, some_inj, no_truth}
 use Rattle.rules.proofs.Given.{eq_list_true}
 use Rattle.sheet.specs.Lines.{fields_from, field_at}
-use Rattle.parts.specs.declared.OptQuantity.{OptQuantity}
 use Rattle.parts.specs.Views.{opt_quantity_in, OptQuantityWithin}
 use Rattle.parts.proofs.Leaves.{field_here}
 use Rattle.model.specs.Rows.{component_in, component_inside, component_as, component_of_line}
 use Rattle.model.specs.Fits.{is_of_kind, is_inside_of, is_component_of}
 use Rattle.recall.specs.Recalls.{QuantityRecalled}
+use Rattle.parts.specs.declared.QuantityView.{QuantityView}
 
 -- ---- the word of a line that is an ingredient
 
@@ -35,19 +35,19 @@ IsOne x = is_of_kind ingredient (first_read (go_on at_end x)) ≡ true
 
 bind : {A P : Type 0} (f : A → Reader Event) (o : Option (A × Fields)) → ((a : A) (gs : Fields) → IsOne (f a gs) → P) → IsOne (go_on f o) → P
 unfolding go_on first_read is_of_kind
-bind f none g h = no_truth h
-bind f (some r) g h = g r.0 r.1 h
+bind f None g h = no_truth h
+bind f (Some r) g h = g r.0 r.1 h
 
-at_end_lem : (e : Event) (gs : Fields) → is_of_kind ingredient (first_read (at_end e gs)) ≡ true → first_read (at_end e gs) ≡ some e
+at_end_lem : (e : Event) (gs : Fields) → is_of_kind ingredient (first_read (at_end e gs)) ≡ true → first_read (at_end e gs) ≡ Some e
 unfolding ◌>>=◌ go_on no_more give first_read is_of_kind
 at_end_lem e [] h = refl
 at_end_lem e (f ∷ gs) h = no_truth h
 
-ended : (e : Event) (gs : Fields) → IsOne (give e gs) → first_read (go_on at_end (give e gs)) ≡ some e
+ended : (e : Event) (gs : Fields) → IsOne (give e gs) → first_read (go_on at_end (give e gs)) ≡ Some e
 unfolding go_on give
 ended e gs h = at_end_lem e gs h
 
-other : {P : Type 0} (e : Event) (gs : Fields) → is_of_kind ingredient (some e) ≡ false → IsOne (give e gs) → P
+other : {P : Type 0} (e : Event) (gs : Fields) → is_of_kind ingredient (Some e) ≡ false → IsOne (give e gs) → P
 other e gs q h = no_truth (sym q ∙ (rw (ended e gs h) at h))
 
 after_word_lem : (w : EventWord) (gs : Fields) → IsOne (read_after w gs) → w ≡ ingredient_word
@@ -67,10 +67,10 @@ after_word_lem warning_word gs h = bind _ (read_number gs) (λ n hs p. other (pa
 abbrev after_first : Option EventWord → Fields → Option (Event × Fields)
 after_first o gs = go_on (λ (w : EventWord). read_after w >>= at_end) (saying o gs)
 
-first_word : (o : Option EventWord) (gs : Fields) → is_of_kind ingredient (first_read (after_first o gs)) ≡ true → o ≡ some ingredient_word
+first_word : (o : Option EventWord) (gs : Fields) → is_of_kind ingredient (first_read (after_first o gs)) ≡ true → o ≡ Some ingredient_word
 unfolding go_on saying first_read is_of_kind ◌>>=◌
-first_word none gs h = no_truth h
-first_word (some w) gs h = ap (λ (x : EventWord). some x) (after_word_lem w gs h)
+first_word None gs h = no_truth h
+first_word (Some w) gs h = ap (λ (x : EventWord). Some x) (after_word_lem w gs h)
 
 event_first : (f : List ℕ) (gs : Fields) → read_event (f ∷ gs) ≡ after_first (word_in f event_words) gs
 unfolding read_event word field ◌>>=◌ go_on
@@ -79,7 +79,7 @@ event_first f gs = refl
 -- no other word of the table stands for it
 
 told_word : (a b c d e f g h i j : Bool)
-    → pick a (some meta_word) (pick b (some section_word) (pick c (some start_word) (pick d (some end_word) (pick e (some text_word) (pick f (some ingredient_word) (pick g (some cookware_word) (pick h (some timer_word) (pick i (some error_word) (pick j (some warning_word) none))))))))) ≡ some ingredient_word
+    → pick a (Some meta_word) (pick b (Some section_word) (pick c (Some start_word) (pick d (Some end_word) (pick e (Some text_word) (pick f (Some ingredient_word) (pick g (Some cookware_word) (pick h (Some timer_word) (pick i (Some error_word) (pick j (Some warning_word) None))))))))) ≡ Some ingredient_word
     → f ≡ true
 told_word true b c d e f g h i j q = absurd (let z : ◌≡◌ {A = ℕ} 0 1 = cc in omega arith)
 told_word false true c d e f g h i j q = absurd (let z : ◌≡◌ {A = ℕ} 0 1 = cc in omega arith)
@@ -93,7 +93,7 @@ told_word false false false false false false false false true j q = absurd (let
 told_word false false false false false false false false false true q = absurd (let z : ◌≡◌ {A = ℕ} 0 1 = cc in omega arith)
 told_word false false false false false false false false false false q = no_some q
 
-word_is : (f : List ℕ) → word_in f event_words ≡ some ingredient_word → f ≡ codes "ingredient"
+word_is : (f : List ℕ) → word_in f event_words ≡ Some ingredient_word → f ≡ codes "ingredient"
 unfolding word_in
 word_is f q =
     eq_list_true f (codes "ingredient")
@@ -104,23 +104,23 @@ word_is f q =
 pub record Got (gs : Fields) (e : Option Event) : Type 0 where
   pub component : Component
   pub rest : Fields
-  pub is_read : read_component gs ≡ some (component, rest)
+  pub is_read : read_component gs ≡ Some (component, rest)
   pub is_event : component_in ingredient e ≡ component
 
-one_ended : (gs : Fields) (c : Component) (hs : Fields) → read_component gs ≡ some (c, hs) → (o : Option (Option Intermediate × Fields))
+one_ended : (gs : Fields) (c : Component) (hs : Fields) → read_component gs ≡ Some (c, hs) → (o : Option (Option Intermediate × Fields))
     → IsOne (go_on (λ (i : Option Intermediate). give (inside (component_event (ingredient_event c i)))) o)
     → Got gs (first_read (go_on at_end (go_on (λ (i : Option Intermediate). give (inside (component_event (ingredient_event c i)))) o)))
 unfolding go_on first_read is_of_kind component_in component_inside component_as
-one_ended gs c hs q none h = no_truth h
-one_ended gs c hs q (some r) h = record { component = c; rest = hs; is_read = q; is_event = ap (component_in ingredient) (ended (inside (component_event (ingredient_event c r.0))) r.1 h) }
+one_ended gs c hs q None h = no_truth h
+one_ended gs c hs q (Some r) h = record { component = c; rest = hs; is_read = q; is_event = ap (component_in ingredient) (ended (inside (component_event (ingredient_event c r.0))) r.1 h) }
 
 abbrev after_component : Component → Reader Event
 after_component c = opt read_intermediate >>= (λ (i : Option Intermediate). give (inside (component_event (ingredient_event c i))))
 
 one_read : (gs : Fields) (o : Option (Component × Fields)) → read_component gs ≡ o → IsOne (go_on after_component o) → Got gs (first_read (go_on at_end (go_on after_component o)))
 unfolding go_on first_read is_of_kind ◌>>=◌
-one_read gs none q h = no_truth h
-one_read gs (some r) q h = one_ended gs r.0 r.1 q (opt read_intermediate r.1) h
+one_read gs None q h = no_truth h
+one_read gs (Some r) q h = one_ended gs r.0 r.1 q (opt read_intermediate r.1) h
 
 got_one_lem : (gs : Fields) → IsOne (read_ingredient gs) → Got gs (first_read (go_on at_end (read_ingredient gs)))
 unfolding read_ingredient ◌>>=◌
@@ -136,22 +136,22 @@ module _ (s : Span) (n : Text) (a : Option Text) (q : Option Quantity) where
   after_quantity = opt read_text >>= (λ (t : Option Text). read_modifiers >>= (λ (m : Modifiers). read_span >>= (λ (ms : Span). give (as_read t m ms))))
 
   module _ {c : Component} {rest : Fields} where
-    span_last : (t : Option Text) (m : Modifiers) (o : Option (Span × Fields)) → go_on (λ (ms : Span). give (as_read t m ms)) o ≡ some (c, rest) → c.quantity ≡ q
+    span_last : (t : Option Text) (m : Modifiers) (o : Option (Span × Fields)) → go_on (λ (ms : Span). give (as_read t m ms)) o ≡ Some (c, rest) → c.quantity ≡ q
     unfolding go_on give
-    span_last t m none k = no_some k
-    span_last t m (some r) k = sym (ap (λ (p : Component × Fields). p.0.quantity) (some_inj k))
+    span_last t m None k = no_some k
+    span_last t m (Some r) k = sym (ap (λ (p : Component × Fields). p.0.quantity) (some_inj k))
 
-    modifiers_last : (t : Option Text) (o : Option (Modifiers × Fields)) → go_on (λ (m : Modifiers). read_span >>= (λ (ms : Span). give (as_read t m ms))) o ≡ some (c, rest) → c.quantity ≡ q
+    modifiers_last : (t : Option Text) (o : Option (Modifiers × Fields)) → go_on (λ (m : Modifiers). read_span >>= (λ (ms : Span). give (as_read t m ms))) o ≡ Some (c, rest) → c.quantity ≡ q
     unfolding go_on ◌>>=◌
-    modifiers_last t none k = no_some k
-    modifiers_last t (some r) k = span_last t r.0 (read_span r.1) k
+    modifiers_last t None k = no_some k
+    modifiers_last t (Some r) k = span_last t r.0 (read_span r.1) k
 
-    note_last : (o : Option (Option Text × Fields)) → go_on (λ (t : Option Text). read_modifiers >>= (λ (m : Modifiers). read_span >>= (λ (ms : Span). give (as_read t m ms)))) o ≡ some (c, rest) → c.quantity ≡ q
+    note_last : (o : Option (Option Text × Fields)) → go_on (λ (t : Option Text). read_modifiers >>= (λ (m : Modifiers). read_span >>= (λ (ms : Span). give (as_read t m ms)))) o ≡ Some (c, rest) → c.quantity ≡ q
     unfolding go_on ◌>>=◌
-    note_last none k = no_some k
-    note_last (some r) k = modifiers_last r.0 (read_modifiers r.1) k
+    note_last None k = no_some k
+    note_last (Some r) k = modifiers_last r.0 (read_modifiers r.1) k
 
-    pub quantity_of : (fs : Fields) → after_quantity fs ≡ some (c, rest) → c.quantity ≡ q
+    pub quantity_of : (fs : Fields) → after_quantity fs ≡ Some (c, rest) → c.quantity ≡ q
     unfolding ◌>>=◌
     quantity_of fs k = note_last (opt read_text fs) k
 
@@ -161,7 +161,7 @@ line_fields : (line : List ℕ) → fields_of line ≡ field_at line 0 ∷ field
 unfolding fields_from
 line_fields line = sym (rw (le-leb 0 (length line) (omega arith)) refl) ∙ field_here line 0 (omega arith) refl
 
-utf8_one : (t : Bool) (o : Option Event) → is_of_kind ingredient (pick t o none) ≡ true → pick t o none ≡ o
+utf8_one : (t : Bool) (o : Option Event) → is_of_kind ingredient (pick t o None) ≡ true → pick t o None ≡ o
 unfolding is_of_kind
 utf8_one true o e = refl
 utf8_one false o e = no_truth e
@@ -171,7 +171,7 @@ module _ (line : List ℕ) (h : is_of_kind ingredient (parse_line line) ≡ true
   unfolding parse_line
   line_read = utf8_one (is_utf8 line) (first_read (read_event (fields_of line))) h ∙ ap first_read (ap read_event (line_fields line) ∙ event_first (field_at line 0) _)
 
-  line_word : word_in (field_at line 0) event_words ≡ some ingredient_word
+  line_word : word_in (field_at line 0) event_words ≡ Some ingredient_word
   line_word = first_word _ _ (rw line_read at h)
 
   line_one : parse_line line ≡ first_read (go_on at_end (read_ingredient (fields_from line 11)))
@@ -182,11 +182,11 @@ module _ (line : List ℕ) (h : is_of_kind ingredient (parse_line line) ≡ true
   line_got = rw line_one (got_one_lem (fields_from line 11) (rw line_one at h))
 
   -- it is read
-  pub not_ill : {P : Type 0} → read_component (fields_from line 11) ≡ none → P
+  pub not_ill : {P : Type 0} → read_component (fields_from line 11) ≡ None → P
   not_ill e = no_some (sym e ∙ line_got.is_read)
 
   -- what is read up to the quantity tells it
-  pub quantity_got_lem : (s : Span) (n : Text) (a : Option Text) {q : OptQuantity} (fs : Fields) → read_component (fields_from line 11) ≡ after_quantity s n a (opt_quantity_in line q) fs → OptQuantityWithin line q → QuantityRecalled line q
+  pub quantity_got_lem : (s : Span) (n : Text) (a : Option Text) {q : Option QuantityView} (fs : Fields) → read_component (fields_from line 11) ≡ after_quantity s n a (opt_quantity_in line q) fs → OptQuantityWithin line q → QuantityRecalled line q
   unfolding component_of_line
   quantity_got_lem s n a {q} fs e w =
       record {

@@ -1,6 +1,5 @@
 -- Where the unit of the quantity of an ingredient's line stands.
-use Rattle.std.specs.Prelude.{ℕ, zero, suc, ◌+◌, ◌≤◌, ◌≡◌, List, eqb, length, get_or}
-use Rattle.std.proofs.Math.Option.{Option, none, some}
+use Rattle.std.specs.Prelude.{ℕ, zero, suc, ◌+◌, ◌≤◌, ◌≡◌, List, eqb, length, get_or, Option, None, Some}
 use Rattle.rules.specs.Basic.{pick, tab, on_some}
 use Rattle.rules.specs.Event.{Text, Quantity}
 use Rattle.rules.specs.Read.{Fields, opt, read_text}
@@ -27,9 +26,9 @@ unit_of o = on_some (λ (q : Quantity). content_if q.unit) o
 
 -- what a place in a line says of it
 unfoldable pub unit_as : List ℕ → UnitPlace → Option (Option (List ℕ))
-unit_as line NoQuantity = none
-unit_as line NoUnit = some none
-unit_as line (At p) = some (some (content_in (part_of line p)))
+unit_as line NoQuantity = None
+unit_as line NoUnit = Some None
+unit_as line (At p) = Some (Some (content_in (part_of line p)))
 
 abbrev pub PlaceWithin : List ℕ → UnitPlace → Type 0
 PlaceWithin line r = (p : Part) → r ≡ At p → (p.from ≤ p.to) × (p.to ≤ length line)
@@ -41,9 +40,9 @@ pub record UnitRecalled (line : List ℕ) (r : UnitPlace) : Type 0 where
 
 -- where an opt text is read at a place, the fields after it start at r
 pub record PastText (line : List ℕ) (at r : ℕ) : Type 0 where
-  pub is : (o : Option Text) (gs : Fields) → opt read_text (fields_from line at) ≡ some (o, gs) → fields_from line r ≡ gs
+  pub is : (o : Option Text) (gs : Fields) → opt read_text (fields_from line at) ≡ Some (o, gs) → fields_from line r ≡ gs
 
 -- where a unit is read at a place, r is its place
 pub record UnitRead (line : List ℕ) (at : ℕ) (r : UnitPlace) : Type 0 where
-  pub is : (o : Option Text) (gs : Fields) → opt read_text (fields_from line at) ≡ some (o, gs) → some (content_if o) ≡ unit_as line r
+  pub is : (o : Option Text) (gs : Fields) → opt read_text (fields_from line at) ≡ Some (o, gs) → Some (content_if o) ≡ unit_as line r
   pub within : PlaceWithin line r

@@ -1,10 +1,7 @@
 -- What the component of a line stands for.
-use Rattle.std.specs.Prelude.{ℕ, ◌≡◌, true, false, List}
+use Rattle.std.specs.Prelude.{ℕ, ◌≡◌, true, false, List, None, Option}
 use Rattle.rules.specs.Read.{parse_line}
 use Rattle.rules.specs.Model.{Kind, ingredient}
-use Rattle.parts.specs.declared.OptText.TheVariants as text
-use Rattle.parts.specs.declared.OptQuantity.{OptQuantity}
-use Rattle.parts.specs.declared.OptQuantity.TheVariants as quantity
 use Rattle.parts.specs.Views.{opt_quantity_in, OptQuantityWithin}
 use Rattle.components.specs.declared.ComponentView.{ComponentView}
 use Rattle.components.specs.Views.{component_in, ComponentWithin}
@@ -17,6 +14,7 @@ use Rattle.events.specs.declared.ComponentEvent.TheVariants as component
 use Rattle.known_events.specs.Fields.{ComponentFields}
 use Rattle.model.specs.Rows.{component_of_line}
 use Rattle.model.specs.Fits.{is_of_kind}
+use Rattle.parts.specs.declared.QuantityView.{QuantityView}
 
 -- the view of nothing
 unfoldable pub blank_view : ComponentView
@@ -24,9 +22,9 @@ blank_view =
     record {
       span = record { start = 0; end = 0 };
       name = record { span = record { start = 0; end = 0 }; content = record { from = 0; to = 0 } };
-      alias = text.Absent;
-      quantity = quantity.Absent;
-      note = text.Absent;
+      alias = None;
+      quantity = None;
+      note = None;
       modifiers = record { recipe = false; reference = false; hidden = false; opt = false; new = false };
       modifiers_span = record { start = 0; end = 0 };
     }
@@ -56,6 +54,6 @@ pub record Recalled (line : List ℕ) (v : ComponentView) : Type 0 where
   pub nothing : ((k : Kind) → is_of_kind k (parse_line line) ≡ false) → v ≡ blank_view
 
 -- q is the quantity of the line's ingredient
-pub record QuantityRecalled (line : List ℕ) (q : OptQuantity) : Type 0 where
+pub record QuantityRecalled (line : List ℕ) (q : Option QuantityView) : Type 0 where
   pub is : opt_quantity_in line q ≡ (component_of_line ingredient line).quantity
   pub within : OptQuantityWithin line q

@@ -12,7 +12,7 @@ ghost use Rattle.recall.specs.Recalls.{blank_view, view_of, view_inside, view_in
 ghost use Rattle.recall.specs.Places.{tabs_in, PastText, UnitRead, UnitRecalled};
 
 use components::{ComponentView, Modifiers};
-use parts::{Dash, OptQuantity, Part};
+use parts::{Dash, Part, QuantityView};
 
 // A view of nothing.
 fn blank_view() -> ComponentView
@@ -24,9 +24,9 @@ fn blank_view() -> ComponentView
             span: parts::Span { start: 0, end: 0 },
             content: parts::Part { from: 0, to: 0 },
         },
-        alias: parts::OptText::Absent,
-        quantity: parts::OptQuantity::Absent,
-        note: parts::OptText::Absent,
+        alias: None,
+        quantity: None,
+        note: None,
         modifiers: Modifiers {
             recipe: false,
             reference: false,
@@ -78,23 +78,15 @@ pub fn component_in(line: &[u8]) -> ComponentView
 }
 
 // The quantity of a line that is an ingredient: what stands before it is read, and nothing after it.
-pub fn quantity_in(line: &[u8]) -> OptQuantity
+pub fn quantity_in(line: &[u8]) -> Option<QuantityView>
     requires { is_of_kind ingredient (parse_line line.now) ≡ true }
     ensures { QuantityRecalled line.now result }
 {
     // after the word `ingredient` and a tab
-    let parts::GotSpan::Got(span, a1) = parts::read_span(line, 11) else {
-        return OptQuantity::Absent;
-    };
-    let parts::GotText::Got(name, a2) = parts::read_text(line, a1) else {
-        return OptQuantity::Absent;
-    };
-    let parts::GotOptText::Got(alias, a3) = parts::read_opt_text(line, a2) else {
-        return OptQuantity::Absent;
-    };
-    let parts::GotOptQuantity::Got(quantity, a4) = parts::read_opt_quantity(line, a3) else {
-        return OptQuantity::Absent;
-    };
+    let (span, a1) = parts::read_span(line, 11)?;
+    let (name, a2) = parts::read_text(line, a1)?;
+    let (alias, a3) = parts::read_opt_text(line, a2)?;
+    let (quantity, a4) = parts::read_opt_quantity(line, a3)?;
     quantity
 }
 

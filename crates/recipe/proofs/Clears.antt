@@ -3,6 +3,7 @@ use Prim.Native.Nat.{ℕ, ◌+◌, ◌-◌, ◌*◌, ◌≤◌, ◌<◌}
 use mathlib.Core.Path.{◌≡◌, refl, ap, sym, ◌∙◌, subst}
 use mathlib.Core.List.{List, ◌++◌, append_assoc}
 use native.Mathlib.Omega.{arith}
+use Rattle.std.specs.Prelude.{Result, Ok, Err}
 use borrow.Author.Tests.{leb-true, leb-false, le-leb, lt-leb}
 use borrow.Rule.Slice.PartMut.{put_mid}
 use lib.Dec.{leb}
@@ -12,40 +13,40 @@ use Rattle.rules.specs.Basic.{pick}
 use Rattle.rules.proofs.Basics.{pick_either}
 use Rattle.rules.specs.Answer as rules
 use Rattle.rules.specs.Answer.{Lent, answered, declined, out_after, work_after}
-use Rattle.recipe.specs.declared.Answer.{Answer}
-use Rattle.recipe.specs.declared.Answer.TheVariants.{Page, Refused}
+use Rattle.refusals.specs.Told.{number_of}
+use Rattle.refusals.specs.declared.Refusal.{Refusal}
 use Rattle.recipe.specs.Answers.{answer_of, used_of, code_of, answer_code, usable_of, lends, usable_lent, Answered, AnswerLeft, Coded}
 
 -- ---- an answer's variants
-module _ {r : Answer} where
-  pub used_page : {n : ℕ} → r ≡ Page n → n ≡ used_of r
+module _ {r : Result ℕ Refusal} where
+  pub used_page : {n : ℕ} → r ≡ Ok n → n ≡ used_of r
   unfolding used_of
   used_page q = rw q
 
-  pub used_refused : {n l : ℕ} → r ≡ Refused n l → 0 ≡ used_of r
+  pub used_refused : {f : Refusal} → r ≡ Err f → 0 ≡ used_of r
   unfolding used_of
   used_refused q = rw q
 
-  pub code_page : {n : ℕ} → r ≡ Page n → n ≡ answer_code r
+  pub code_page : {n : ℕ} → r ≡ Ok n → n ≡ answer_code r
   unfolding answer_code
   code_page q = rw q
 
-  pub code_refused : {n l a b : ℕ} → r ≡ Refused n l → a ≡ n → b ≡ l → a * 4294967296 + b ≡ answer_code r
+  pub code_refused : {f : Refusal} {a : ℕ} → r ≡ Err f → a ≡ number_of f.reason → a * 4294967296 + f.line ≡ answer_code r
   unfolding answer_code
-  code_refused q e f = rw (q, e, f)
+  code_refused q e = rw (q, e)
 
 -- ---- the output o of an answer r, cleared behind the page
-cleared_is : (o : List ℕ) (r : Answer) → used_of r ≤ length o
+cleared_is : (o : List ℕ) (r : Result ℕ Refusal) → used_of r ≤ length o
     → answer_of r (take (used_of r) o ++ replicate (length o - used_of r) 0) ≡ answer_of r o
 unfolding answer_of used_of
-cleared_is o (Page n) h = ap answered (take_at (take n o) (replicate (length o - n) 0) n (length-take-le n o h))
-cleared_is o (Refused n l) h = refl
+cleared_is o (Ok n) h = ap answered (take_at (take n o) (replicate (length o - n) 0) n (length-take-le n o h))
+cleared_is o (Err f) h = refl
 
-cleared_out : (o : List ℕ) (r : Answer) → used_of r ≤ length o
+cleared_out : (o : List ℕ) (r : Result ℕ Refusal) → used_of r ≤ length o
     → take (used_of r) o ++ replicate (length o - used_of r) 0 ≡ out_after (length o) (answer_of r o)
 unfolding answer_of used_of out_after
-cleared_out o (Page n) h = rw (length-take-le n o h)
-cleared_out o (Refused n l) h =
+cleared_out o (Ok n) h = rw (length-take-le n o h)
+cleared_out o (Err f) h =
     let e : length o - 0 ≡ length o = omega arith in
     ap (λ (k : ℕ). replicate k 0) e
 
@@ -53,7 +54,7 @@ cleared_long : (o : List ℕ) (k : ℕ) → k ≤ length o → length (take k o 
 cleared_long o k h = rw (length-append, length-take-le k o h, length-replicate) (omega arith)
 
 module _ {a : rules.Answer} {m : Lent} where
-  pub answer_left : {o₁ w b o : List ℕ} {nw nb k : ℕ} {r : Answer} → Answered a m.room o₁ r → nw ≡ m.words → w ≡ replicate nw 0
+  pub answer_left : {o₁ w b o : List ℕ} {nw nb k : ℕ} {r : Result ℕ Refusal} → Answered a m.room o₁ r → nw ≡ m.words → w ≡ replicate nw 0
       → nb ≡ m.bytes → b ≡ replicate (nb - 0) 0 → k ≡ used_of r → o ≡ take k o₁ ++ replicate (length o₁ - k) 0 → AnswerLeft a m w b o r
   unfolding work_after
   answer_left {o₁} {w} {b} {o} {nw} {nb} {k} {r} d ew cw eb cb e c =
@@ -68,10 +69,10 @@ module _ {a : rules.Answer} {m : Lent} where
       }
 
 -- ---- as one number
-code_is : (o : List ℕ) (r : Answer) → used_of r ≤ length o → answer_code r ≡ code_of (answer_of r o)
+code_is : (o : List ℕ) (r : Result ℕ Refusal) → used_of r ≤ length o → answer_code r ≡ code_of (answer_of r o)
 unfolding answer_code used_of code_of answer_of
-code_is o (Page n) h = sym (length-take-le n o h)
-code_is o (Refused n l) h = refl
+code_is o (Ok n) h = sym (length-take-le n o h)
+code_is o (Err f) h = refl
 
 -- an answer is a page or a refusal
 pub not_answered : {P : Type 0} {n l : ℕ} {f : List ℕ} → declined n l ≡ answered f → P
@@ -81,10 +82,10 @@ pub same_bytes : {a b : List ℕ} → answered a ≡ answered b → a ≡ b
 same_bytes q = cc
 
 -- a page is no longer than the output that it stands in
-page_fits : (o : List ℕ) (r : Answer) (bytes : List ℕ) → used_of r ≤ length o → answer_of r o ≡ answered bytes → length bytes ≤ length o
+page_fits : (o : List ℕ) (r : Result ℕ Refusal) (bytes : List ℕ) → used_of r ≤ length o → answer_of r o ≡ answered bytes → length bytes ≤ length o
 unfolding used_of answer_of
-page_fits o (Page n) bytes h e = subst (λ (x : List ℕ). length x ≤ length o) (same_bytes e) (rw (length-take-le n o h) h)
-page_fits o (Refused n l) bytes h e = not_answered e
+page_fits o (Ok n) bytes h e = subst (λ (x : List ℕ). length x ≤ length o) (same_bytes e) (rw (length-take-le n o h) h)
+page_fits o (Err f) bytes h e = not_answered e
 
 usable_most : (room : ℕ) → usable_of room ≤ room
 unfolding usable_of
@@ -121,7 +122,7 @@ pub front_long : (n : ℕ) (o : List ℕ) → n ≤ length o → length (take (n
 front_long n o h = let e : n - 0 ≡ n = omega arith in rw e (length-take-le n o h)
 
 -- the answer of a front f of n bytes of the output o₀, and the output o with the rest cleared; g says the answer for what is lent
-pub coded : (g : Lent → rules.Answer) (o₀ : List ℕ) {m : Lent} {w b f o : List ℕ} {n k : ℕ} {r : Answer} {c : ℕ} → AnswerLeft (g (lends m k)) (lends m k) w b f r → length o₀ ≡ m.room
+pub coded : (g : Lent → rules.Answer) (o₀ : List ℕ) {m : Lent} {w b f o : List ℕ} {n k : ℕ} {r : Result ℕ Refusal} {c : ℕ} → AnswerLeft (g (lends m k)) (lends m k) w b f r → length o₀ ≡ m.room
     → (n ≡ usable_of (length o₀)) × (n ≤ length o₀) → k ≡ n → length f ≡ k
     → o ≡ take n (put_mid 0 (n - 0) o₀ f) ++ replicate (length (put_mid 0 (n - 0) o₀ f) - n) 0 → c ≡ answer_code r → Coded (g (usable_lent m)) m w b o c
 coded g o₀ {m} {w} {b} {f} {o} {n} {k} {r} {c} p z s v l q' e =

@@ -4,6 +4,7 @@ use mathlib.Core.Path.{◌≡◌, refl, sym, subst, ◌∙◌}
 use mathlib.Core.Bool.{Bool, true, false}
 use mathlib.Core.List.{List}
 use native.Mathlib.Omega.{arith}
+use Rattle.std.specs.Prelude.{Result}
 use borrow.Author.Tests.{le-leb, leb-true}
 use lib.Dec.{leb}
 use lib.ListN.{length}
@@ -16,7 +17,7 @@ use Rattle.rules.specs.PlainForm.{plain_form, fitted, lent_to, SamePage, Demande
 use Rattle.rules.proofs.Basics.{pick_either}
 use Rattle.rules.proofs.Lending.{plain_lent}
 use Rattle.rules.proofs.PlainForm as rules-proofs
-use Rattle.recipe.specs.declared.Answer.{Answer}
+use Rattle.refusals.specs.declared.Refusal.{Refusal}
 use Rattle.recipe.proofs.Clears.{not_answered, same_bytes}
 use Rattle.recipe.specs.Answers.{answer_of, PlainFormed}
 use Rattle.recipe.specs.Demand3.{SameCollected, Hands, Demand3}
@@ -38,7 +39,7 @@ unfolding hand_out
 gives s room x form h = rw (h.0, h.2, le-leb (length form) room h.1)
 
 -- ---- the theorem
-module _ (sheet text units : List ℕ) (flags : ℕ) (m : Lent) (w b o : List ℕ) (r : Answer) (p : PlainFormed sheet text units flags m w b o r) where
+module _ (sheet text units : List ℕ) (flags : ℕ) (m : Lent) (w b o : List ℕ) (r : Result ℕ Refusal) (p : PlainFormed sheet text units flags m w b o r) where
   rule : PlainForm sheet text units flags
   rule = rules-proofs.plain_form_holds sheet text units flags
 

@@ -1,4 +1,5 @@
 -- The first `error` line, line by line.
+use Rattle.std.specs.Prelude.{None, Option, Some}
 use Prim.Native.Nat.{ℕ, suc, ◌+◌, ◌-◌, ◌≤◌, ◌<◌}
 use mathlib.Core.Path.{◌≡◌, refl, ap, sym, ◌∙◌}
 use mathlib.Core.Bool.{Bool, true, false}
@@ -11,8 +12,6 @@ use Rattle.rules.specs.Event.{Event}
 use Rattle.rules.specs.Pass.{is_error_event}
 use Rattle.rules.specs.Answer.{events, events_or, read_sheet, error_line}
 use Rattle.sheet.specs.Lines.{LineAt}
-use Rattle.sheet.specs.declared.LineEnd.{LineEnd}
-use Rattle.sheet.specs.declared.LineEnd.TheVariants.{At, Nothing}
 use Rattle.reading.proofs.Passes.{Rest, rest_ends, rest_ended, rest_parsed}
 use Rattle.events.specs.declared.EventView.{EventView}
 use Rattle.events.specs.Views.{event_in}
@@ -39,11 +38,11 @@ module _ {text sheet : List ℕ} {at number : ℕ} (s : Seeking text sheet at nu
   unfolding error_line
   seeking_ends h = ap (error_line number) (sym (rest_ends s.rest h)) ∙ s.is
 
-  module _ {r : LineEnd} (l : LineAt sheet at r) where
-    pub seeking_cut : {P : Type 0} → at < length sheet → r ≡ Nothing → P
+  module _ {r : Option ℕ} (l : LineAt sheet at r) where
+    pub seeking_cut : {P : Type 0} → at < length sheet → r ≡ None → P
     seeking_cut h q = rest_ended s.rest l h q
 
-    module _ {end : ℕ} (q : r ≡ At end) {v : EventView} (k : KnownEvent (take (end - at) (drop at sheet)) v) {b : Bool} (p : ErrorView v b) where
+    module _ {end : ℕ} (q : r ≡ Some end) {v : EventView} (k : KnownEvent (take (end - at) (drop at sheet)) v) {b : Bool} (p : ErrorView v b) where
       pub seeking_found : b ≡ true → number ≡ error_line 1 (events_or (read_sheet text sheet))
       seeking_found t =
           let f = rest_parsed s.rest l q k.is in

@@ -4,7 +4,8 @@ use mathlib.Core.Path.{◌≡◌, refl, ap, sym, subst, ◌∙◌}
 use mathlib.Core.Bool.{Bool, true, false, ◌||◌}
 use mathlib.Core.List.{List, ◌++◌, append_assoc}
 use native.Mathlib.Omega.{arith}
-use borrow.Author.Tests.{le-ltb, lt-ltb}
+use Rattle.std.specs.Prelude.{Option, None, Some, Result, Ok, Err}
+use borrow.Author.Tests.{le-ltb, lt-ltb, ne_eqb}
 use lib.Dec.{eqb, ltb}
 use lib.ListN.{length, take, drop, length-append}
 use lib.Seq.{take_at}
@@ -19,65 +20,63 @@ use Rattle.rules.proofs.Basics.{by_order}
 use Rattle.rules.proofs.Collected.{Begins, collected_is}
 use Rattle.rules.proofs.Kept.{form_reads}
 use Rattle.letters.specs.Tables.{unicode_tables}
+use Rattle.refusals.specs.Told.{number_of}
+use Rattle.refusals.specs.declared.Reason.{Reason}
+use Rattle.refusals.specs.declared.Reason.TheVariants.{OverLimits, ErrorLine, LongForm}
+use Rattle.refusals.specs.declared.Refusal.{Refusal}
+use Rattle.refusals.proofs.Told.{same_reason}
 use Rattle.output.specs.Put.{Put}
 use Rattle.output.proofs.Puts.{keeps, put_room, put_fit, put_fits}
 use Rattle.inputs.specs.Inputs.{InputsChecked, GoodInputs}
-use Rattle.inputs.specs.declared.Inputs.{Inputs}
-use Rattle.inputs.specs.declared.Inputs.TheVariants as inputs
 use Rattle.inputs.proofs.Answers.{told_refused, refused_plain, good_plain}
 use Rattle.model.specs.declared.Held.{Held}
 use Rattle.pass.specs.Walks.{RanRecipe, RanFailed, RanBy, RanAs}
-use Rattle.pass.specs.declared.Ran.{Ran}
-use Rattle.pass.specs.declared.Ran.TheVariants as ran
 use Rattle.page.specs.Pages.{RecipeGiven}
 use Rattle.component_lines.proofs.Rooms.{limits_roomy}
 use Rattle.plain_walk.specs.Walk.{PassDone, FormWritten}
 use Rattle.plain_walk.proofs.Results.{form_declined, form_answered, form_put}
-use Rattle.plain_walk.specs.declared.Formed.{Formed}
-use Rattle.plain_walk.specs.declared.Formed.TheVariants.{Fault, Length}
-use Rattle.recipe.specs.declared.Answer.{Answer}
-use Rattle.recipe.specs.declared.Answer.TheVariants.{Refused}
 use Rattle.recipe.specs.Answers.{page_or20, lengths, Given, Answered}
 use Rattle.recipe.specs.Forms.{tells17, form_given}
 use Rattle.recipe.proofs.Pages.{refused_as, Handed, page_handed}
 
 -- ---- before the pass
-pub plain_refused : {sheet text units : List ℕ} {flags : ℕ} (m : Lent) {a : Inputs} → InputsChecked sheet text units flags m.words m.bytes a → {n l : ℕ} (o : List ℕ)
-    → length o ≡ m.room → a ≡ inputs.Refused n l → Answered (plain_answer sheet text units flags m) m.room o (Refused n l)
+pub plain_refused : {sheet text units : List ℕ} {flags : ℕ} (m : Lent) {a : Result (Unit {0}) Refusal} → InputsChecked sheet text units flags m.words m.bytes a → {f : Refusal} (o : List ℕ)
+    → length o ≡ m.room → a ≡ Err f → Answered (plain_answer sheet text units flags m) m.room o (Err f)
 plain_refused {sheet} {text} {units} {flags} m p o e q = refused_as o e (refused_plain sheet text units flags m (told_refused (rw q at p)))
 
 -- ---- whether a pass gives 17
-module _ {r : Ran} where
-  pub tells_recipe : {h : Held} → r ≡ ran.Recipe h → false ≡ tells17 r
+module _ {r : Result (Option Held) Refusal} where
+  pub tells_none : {o : Option Held} → r ≡ Ok o → false ≡ tells17 r
   unfolding tells17
-  tells_recipe q = rw q
+  tells_none q = rw q
 
-  pub tells_failed : r ≡ ran.Failed → false ≡ tells17 r
+  pub tells_over : {f : Refusal} → r ≡ Err f → f.reason ≡ OverLimits → true ≡ tells17 r
   unfolding tells17
-  tells_failed q = rw q
+  tells_over q e = rw (q, e)
 
-  pub tells_refused : {n l : ℕ} → r ≡ ran.Refused n l → eqb n 17 ≡ tells17 r
+  -- no other reason is told by 17
+  pub tells_other : {f : Refusal} → r ≡ Err f → (f.reason ≡ OverLimits → ⊥) → false ≡ tells17 r
   unfolding tells17
-  tells_refused q = rw q
+  tells_other {f} q n = rw (q, ne_eqb (number_of f.reason) 17 (λ e. n (same_reason f.reason OverLimits e)))
 
-tells_gives : (text : List ℕ) (us : List NamedUnit) (flags : ℕ) (sheet : List ℕ) (es : List Event) (w : List ℕ) (a : Ran) → RanBy text us flags sheet es w a
+tells_gives : (text : List ℕ) (us : List NamedUnit) (flags : ℕ) (sheet : List ℕ) (es : List Event) (w : List ℕ) (a : Result (Option Held) Refusal) → RanBy text us flags sheet es w a
     → tells17 a ≡ gives17 (parse_events text us flags es)
 unfolding RanBy tells17 gives17
-tells_gives text us flags sheet es w (ran.Recipe h) p = sym (ap gives17 p.is)
-tells_gives text us flags sheet es w ran.Failed p = sym (ap gives17 p.is)
-tells_gives text us flags sheet es w (ran.Refused n l) p = sym (ap gives17 p)
+tells_gives text us flags sheet es w (Ok (Some h)) p = sym (ap gives17 p.is)
+tells_gives text us flags sheet es w (Ok None) p = sym (ap gives17 p.is)
+tells_gives text us flags sheet es w (Err f) p = sym (ap gives17 p)
 
 -- ---- a form that is not too long
-module _ {t form text units index : List ℕ} {flags : ℕ} {m : Lent} (g : Given t form text units index flags m) {w₀ w : List ℕ} {a : Ran}
+module _ {t form text units index : List ℕ} {flags : ℕ} {m : Lent} (g : Given t form text units index flags m) {w₀ w : List ℕ} {a : Result (Option Held) Refusal}
     (p : RanAs (units_or (read_units units)) flags form text (events_or (read_sheet text form)) w₀ w a) {b : Bool} (e : b ≡ tells17 a) where
   again : (ltb 65536 (length form) || gives17 (collection form text units flags)) ≡ b
   again = rw (le-ltb 65536 (length form) g.inputs.sheet_short) (ap gives17 g.inputs.collects ∙ sym (tells_gives text (units_or (read_units units)) flags form (events_or (read_sheet text form)) w a p.is) ∙ sym e)
 
-  pub form_over : {room : ℕ} (o : List ℕ) → length o ≡ room → b ≡ true → Answered (form_answer text units flags room form) room o (Refused 24 0)
+  pub form_over : {room : ℕ} (o : List ℕ) → length o ≡ room → b ≡ true → Answered (form_answer text units flags room form) room o (Err (record { reason = LongForm; line = 0 }))
   unfolding form_answer
   form_over o l q = refused_as o l (rw (again ∙ q))
 
-  pub form_out : {o₀ o : List ℕ} {n : ℕ} {r : Answer} → b ≡ false → Put form o₀ 0 o n → r ≡ page_or20 n (length o)
+  pub form_out : {o₀ o : List ℕ} {n : ℕ} {r : Result ℕ Refusal} → b ≡ false → Put form o₀ 0 o n → r ≡ page_or20 n (length o)
       → Answered (form_answer text units flags (length o₀) form) (length o₀) o r
   unfolding form_answer
   form_out {o₀} {o} {n} {r} q s k =
@@ -146,12 +145,12 @@ module _ {t sheet text units index : List ℕ} {flags : ℕ} {w : List ℕ} {h :
         collects = collected_is form text units flags begins (le-ltb 65536 (length form) s) (events_or (read_sheet text form)) q;
       }
 
-  module _ {b₀ b : List ℕ} {f : Formed} (p : FormWritten text us flags sheet b₀ b f) where
-    pub fault_told : {n l room : ℕ} (o : List ℕ) → length o ≡ room → f ≡ Fault n l → Answered (form_given sheet text units flags room) room o (Refused n l)
+  module _ {b₀ b : List ℕ} {f : Result ℕ Refusal} (p : FormWritten text us flags sheet b₀ b f) where
+    pub fault_told : {k : Refusal} {room : ℕ} (o : List ℕ) → length o ≡ room → f ≡ Err k → Answered (form_given sheet text units flags room) room o (Err k)
     unfolding form_given
-    fault_told {n} {l} {room} o e q = refused_as o e (form_declined units room (rw q at p))
+    fault_told {room = room} o e q = refused_as o e (form_declined units room (rw q at p))
 
-    module _ {n : ℕ} (q : f ≡ Length n) (k : length b₀ ≡ 65536) where
+    module _ {n : ℕ} (q : f ≡ Ok n) (k : length b₀ ≡ 65536) where
       put : Put form b₀ 0 b n
       put = form_put (rw q at p)
 
@@ -163,7 +162,7 @@ module _ {t sheet text units index : List ℕ} {flags : ℕ} {w : List ℕ} {h :
       long j =
           by_order (length form) (length b₀) (λ s. let z : n ≡ 0 + length form = put_room put (omega arith) in omega arith) (λ s. omega arith)
 
-      pub form_long : {room : ℕ} (o : List ℕ) → length o ≡ room → 65536 < n → Answered (form_given sheet text units flags room) room o (Refused 24 0)
+      pub form_long : {room : ℕ} (o : List ℕ) → length o ≡ room → 65536 < n → Answered (form_given sheet text units flags room) room o (Err (record { reason = LongForm; line = 0 }))
       unfolding form_answer
       form_long {room} o e j = refused_as o e (no_fault room ∙ rw (lt-ltb 65536 (length form) (long j)))
 
@@ -193,7 +192,7 @@ module _ {t sheet text units index : List ℕ} {flags : ℕ} {w : List ℕ} {h :
             subst (λ (x : List ℕ). Given t x text units index flags (lengths w bytes_needed o)) (sym (part s))
             (record { tables = g.tables; inputs = form_good (omega (arith, ends)); indexed = g.indexed })
 
-        pub form_told : (s : List ℕ) {room : ℕ} {o : List ℕ} {r : Answer} → Answered (form_answer text units flags room (take (n - 0) (b ++ s))) room o r
+        pub form_told : (s : List ℕ) {room : ℕ} {o : List ℕ} {r : Result ℕ Refusal} → Answered (form_answer text units flags room (take (n - 0) (b ++ s))) room o r
             → Answered (form_given sheet text units flags room) room o r
         form_told s {room} d =
             record { is = d.is ∙ ap (form_answer text units flags room) (part s) ∙ sym (no_fault room); fits = d.fits; long = d.long }
@@ -208,24 +207,24 @@ module _ {t sheet text units index : List ℕ} {flags : ℕ} {m : Lent} (g : Giv
       → plain_answer sheet text units flags m ≡ plain_of text units (units_or (read_units units)) flags m.room (events_or (read_sheet text sheet)) x
   formed_on e = good_plain sheet text units flags m g.inputs ∙ ap (plain_of text units (units_or (read_units units)) flags m.room (events_or (read_sheet text sheet))) e
 
-  module _ {w₀ w : List ℕ} {a : Ran}
+  module _ {w₀ w : List ℕ} {a : Result (Option Held) Refusal}
       (p : RanAs (units_or (read_units units)) flags sheet text (events_or (read_sheet text sheet)) w₀ w a) where
-    pub recipe_formed : {h : Held} {o : List ℕ} {r : Answer} → a ≡ ran.Recipe h → Answered (form_given sheet text units flags m.room) m.room o r
+    pub recipe_formed : {h : Held} {o : List ℕ} {r : Result ℕ Refusal} → a ≡ Ok (Some h) → Answered (form_given sheet text units flags m.room) m.room o r
         → Answered (plain_answer sheet text units flags m) m.room o r
     unfolding RanBy form_given plain_of
     recipe_formed {h} q d =
         let x : RanRecipe text (units_or (read_units units)) flags sheet (events_or (read_sheet text sheet)) w h = (rw q at p).is in
         record { is = d.is ∙ sym (formed_on x.is); fits = d.fits; long = d.long }
 
-    pub failed_formed : {l : ℕ} (o : List ℕ) → length o ≡ m.room → a ≡ ran.Failed → l ≡ error_line 1 (events_or (read_sheet text sheet))
-        → Answered (plain_answer sheet text units flags m) m.room o (Refused 21 l)
+    pub failed_formed : {l : ℕ} (o : List ℕ) → length o ≡ m.room → a ≡ Ok None → l ≡ error_line 1 (events_or (read_sheet text sheet))
+        → Answered (plain_answer sheet text units flags m) m.room o (Err (record { reason = ErrorLine; line = l }))
     unfolding RanBy plain_of
     failed_formed o e q k =
         let x : RanFailed text (units_or (read_units units)) flags (events_or (read_sheet text sheet)) = (rw q at p).is in
         refused_as o e (formed_on x.is ∙ ap (declined 21) (sym k))
 
-    pub refused_formed : {n l : ℕ} (o : List ℕ) → length o ≡ m.room → a ≡ ran.Refused n l → Answered (plain_answer sheet text units flags m) m.room o (Refused n l)
+    pub refused_formed : {f : Refusal} (o : List ℕ) → length o ≡ m.room → a ≡ Err f → Answered (plain_answer sheet text units flags m) m.room o (Err f)
     unfolding RanBy plain_of
-    refused_formed {n} {l} o e q =
-        let x : parse_events text (units_or (read_units units)) flags (events_or (read_sheet text sheet)) ≡ refusal n l = (rw q at p).is in
+    refused_formed {f} o e q =
+        let x : parse_events text (units_or (read_units units)) flags (events_or (read_sheet text sheet)) ≡ refusal (number_of f.reason) f.line = (rw q at p).is in
         refused_as o e (formed_on x)

@@ -3,6 +3,7 @@ use Prim.Native.Nat.{ℕ, ◌+◌, ◌≤◌, ◌<◌}
 use mathlib.Core.Path.{◌≡◌, ap, sym, ◌∙◌}
 use mathlib.Core.List.{List}
 use native.Mathlib.Omega.{arith}
+use Rattle.std.specs.Prelude.{Result, Ok, Err}
 use borrow.Author.Tests.{le-leb, lt-leb}
 use lib.ListN.{length, take, drop}
 use lib.Seq.{take_at}
@@ -11,25 +12,26 @@ use Rattle.rules.specs.Answer.{answered, declined, hand_out}
 use Rattle.rules.proofs.Basics.{by_order}
 use Rattle.output.specs.Put.{Put}
 use Rattle.output.proofs.Puts.{keeps, put_room, put_no_room, put_fits}
-use Rattle.recipe.specs.declared.Answer.{Answer}
-use Rattle.recipe.specs.declared.Answer.TheVariants.{Page, Refused}
+use Rattle.refusals.specs.Told.{number_of}
+use Rattle.refusals.specs.declared.Reason.TheVariants.{NoRoom}
+use Rattle.refusals.specs.declared.Refusal.{Refusal}
 use Rattle.recipe.specs.Answers.{answer_of, used_of, page_or20, Answered}
 
-pub page_fits : (n room : ℕ) → n ≤ room → Page n ≡ page_or20 n room
+pub page_fits : (n room : ℕ) → n ≤ room → Ok n ≡ page_or20 n room
 unfolding page_or20
 page_fits n room h = rw (le-leb n room h)
 
-pub page_long : (n room : ℕ) → room < n → Refused 20 0 ≡ page_or20 n room
+pub page_long : (n room : ℕ) → room < n → Err (record { reason = NoRoom; line = 0 }) ≡ page_or20 n room
 unfolding page_or20
 page_long n room h = rw (lt-leb n room h)
 
 -- a refusal, whatever stands in the output
-pub refused_as : {a : rules.Answer} {room n l : ℕ} (o : List ℕ) → length o ≡ room → a ≡ declined n l → Answered a room o (Refused n l)
+pub refused_as : {a : rules.Answer} {room : ℕ} {f : Refusal} (o : List ℕ) → length o ≡ room → a ≡ declined (number_of f.reason) f.line → Answered a room o (Err f)
 unfolding answer_of used_of
 refused_as o e q = record { is = sym q; fits = omega arith; long = e }
 
 -- what stands in the output o of a page w, with the answer r
-pub record Handed (w o₀ o : List ℕ) (r : Answer) : Type 0 where
+pub record Handed (w o₀ o : List ℕ) (r : Result ℕ Refusal) : Type 0 where
   pub is : answer_of r o ≡ hand_out (length o₀) w
   pub fits : used_of r ≤ length o₀
   pub long : length o ≡ length o₀
@@ -57,5 +59,5 @@ module _ {w o₀ o : List ℕ} {n : ℕ} (p : Put w o₀ 0 o n) where
       rw (← page_long n (length o) k)
       record { is = rw (lt-leb (length w) (length o₀) h); fits = omega arith; long = keeps p }
 
-  pub page_handed : {r : Answer} → r ≡ page_or20 n (length o) → Handed w o₀ o r
+  pub page_handed : {r : Result ℕ Refusal} → r ≡ page_or20 n (length o) → Handed w o₀ o r
   page_handed {r} e = rw e (by_order (length w) (length o₀) fit misfit)

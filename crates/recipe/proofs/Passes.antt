@@ -3,6 +3,7 @@ use Prim.Native.Nat.{ℕ, ◌≤◌}
 use mathlib.Core.Path.{◌≡◌, ap, sym, ◌∙◌}
 use mathlib.Core.List.{List}
 use native.Mathlib.Omega.{arith}
+use Rattle.std.specs.Prelude.{Option, None, Some, Result, Ok, Err}
 use borrow.Author.Tests.{le-ltb}
 use lib.ListN.{length}
 use Rattle.rules.specs.Units.{read_units}
@@ -10,27 +11,23 @@ use Rattle.rules.specs.State.{Outcome, refusal}
 use Rattle.rules.specs.Pass.{parse_events, ended}
 use Rattle.rules.specs.Answer.{Lent, words_needed, bytes_needed, is_short, hand_out, written, collect_answer, events, events_or, read_sheet, units_or}
 use Rattle.letters.specs.Tables.{unicode_tables}
+use Rattle.refusals.specs.Told.{number_of}
+use Rattle.refusals.specs.declared.Refusal.{Refusal}
 use Rattle.inputs.specs.Inputs.{InputsChecked, GoodInputs, UnitsReady}
-use Rattle.inputs.specs.declared.Inputs.{Inputs}
-use Rattle.inputs.specs.declared.Inputs.TheVariants as inputs
 use Rattle.inputs.proofs.Answers.{told_good, told_refused, refused_collect, good_collect}
 use Rattle.model.specs.declared.Held.{Held}
 use Rattle.pass.specs.Walks as walks
 use Rattle.pass.specs.Walks.{RanRecipe, RanFailed, RanBy, RanAs}
-use Rattle.pass.specs.declared.Ran.{Ran}
-use Rattle.pass.specs.declared.Ran.TheVariants as ran
 use Rattle.page.specs.Pages.{RecipeGiven, RecipePut, FailedPut}
-use Rattle.recipe.specs.declared.Answer.{Answer}
-use Rattle.recipe.specs.declared.Answer.TheVariants.{Refused}
 use Rattle.recipe.specs.Answers.{page_or20, Given, Answered}
 use Rattle.recipe.proofs.Pages.{refused_as, Handed, page_handed}
 
 -- ---- before the pass
-module _ {sheet text units : List ℕ} {flags : ℕ} (m : Lent) {a : Inputs} (p : InputsChecked sheet text units flags m.words m.bytes a) where
-  pub inputs_refused : {n l : ℕ} (o : List ℕ) → length o ≡ m.room → a ≡ inputs.Refused n l → Answered (collect_answer sheet text units flags m) m.room o (Refused n l)
+module _ {sheet text units : List ℕ} {flags : ℕ} (m : Lent) {a : Result (Unit {0}) Refusal} (p : InputsChecked sheet text units flags m.words m.bytes a) where
+  pub inputs_refused : {f : Refusal} (o : List ℕ) → length o ≡ m.room → a ≡ Err f → Answered (collect_answer sheet text units flags m) m.room o (Err f)
   inputs_refused o e q = refused_as o e (refused_collect sheet text units flags m (told_refused (rw q at p)))
 
-  pub inputs_good : {t index : List ℕ} → t ≡ unicode_tables → UnitsReady units index a → a ≡ inputs.Good → Given t sheet text units index flags m
+  pub inputs_good : {t index : List ℕ} → t ≡ unicode_tables → UnitsReady units index a → a ≡ Ok tt → Given t sheet text units index flags m
   inputs_good e x q = record { tables = e; inputs = told_good (rw q at p); indexed = x.indexed q }
 
 -- ---- what the pass and the page are given
@@ -71,36 +68,36 @@ module _ {t sheet text units index : List ℕ} {flags : ℕ} {m : Lent} (g : Giv
       → collect_answer sheet text units flags m ≡ written m.room x
   passed_on e = good_collect sheet text units flags m g.inputs ∙ ap (written m.room) e
 
-  handed : {w o₀ o : List ℕ} {r : Answer} → length o₀ ≡ m.room → collect_answer sheet text units flags m ≡ hand_out m.room w
+  handed : {w o₀ o : List ℕ} {r : Result ℕ Refusal} → length o₀ ≡ m.room → collect_answer sheet text units flags m ≡ hand_out m.room w
       → Handed w o₀ o r → Answered (collect_answer sheet text units flags m) m.room o r
   handed {w} {o₀} {o} {r} e q h = record { is = h.is ∙ ap (λ (k : ℕ). hand_out k w) e ∙ sym q; fits = rw e at h.fits; long = h.long ∙ e }
 
-  module _ {w₀ w : List ℕ} {a : Ran}
+  module _ {w₀ w : List ℕ} {a : Result (Option Held) Refusal}
       (p : RanAs (units_or (read_units units)) flags sheet text (events_or (read_sheet text sheet)) w₀ w a) where
-    ran_recipe : {h : Held} → a ≡ ran.Recipe h
+    ran_recipe : {h : Held} → a ≡ Ok (Some h)
         → RanRecipe text (units_or (read_units units)) flags sheet (events_or (read_sheet text sheet)) w h
     unfolding RanBy
     ran_recipe q = (rw q at p).is
 
-    pub page_given : {h : Held} → length w₀ ≡ m.words → a ≡ ran.Recipe h → RecipeGiven t sheet text units index flags w h
+    pub page_given : {h : Held} → length w₀ ≡ m.words → a ≡ Ok (Some h) → RecipeGiven t sheet text units index flags w h
     page_given e q = record { tables = g.tables; inputs = good_fewer (p.long ∙ e); indexed = g.indexed; ran = ran_recipe q }
 
-    pub recipe_answered : {h : Held} {o₀ o : List ℕ} {n : ℕ} {r : Answer} → length o₀ ≡ m.room → a ≡ ran.Recipe h
+    pub recipe_answered : {h : Held} {o₀ o : List ℕ} {n : ℕ} {r : Result ℕ Refusal} → length o₀ ≡ m.room → a ≡ Ok (Some h)
         → RecipePut sheet text units flags o₀ o n → r ≡ page_or20 n (length o) → Answered (collect_answer sheet text units flags m) m.room o r
     unfolding written
     recipe_answered e q s k =
         let x = ran_recipe q in
         handed e (passed_on x.is) (page_handed (s.is (ended x.state) x.is) k)
 
-    pub failed_answered : {o₀ o : List ℕ} {n : ℕ} {r : Answer} → length o₀ ≡ m.room → a ≡ ran.Failed
+    pub failed_answered : {o₀ o : List ℕ} {n : ℕ} {r : Result ℕ Refusal} → length o₀ ≡ m.room → a ≡ Ok None
         → FailedPut sheet text o₀ o n → r ≡ page_or20 n (length o) → Answered (collect_answer sheet text units flags m) m.room o r
     unfolding written RanBy
     failed_answered e q s k =
         let x : RanFailed text (units_or (read_units units)) flags (events_or (read_sheet text sheet)) = (rw q at p).is in
         handed e (passed_on x.is) (page_handed (s.is (units_or (read_units units)) flags x.findings x.is) k)
 
-    pub refused_answered : {n l : ℕ} (o : List ℕ) → length o ≡ m.room → a ≡ ran.Refused n l → Answered (collect_answer sheet text units flags m) m.room o (Refused n l)
+    pub refused_answered : {f : Refusal} (o : List ℕ) → length o ≡ m.room → a ≡ Err f → Answered (collect_answer sheet text units flags m) m.room o (Err f)
     unfolding written RanBy
-    refused_answered {n} {l} o e q =
-        let x : parse_events text (units_or (read_units units)) flags (events_or (read_sheet text sheet)) ≡ refusal n l = (rw q at p).is in
+    refused_answered {f} o e q =
+        let x : parse_events text (units_or (read_units units)) flags (events_or (read_sheet text sheet)) ≡ refusal (number_of f.reason) f.line = (rw q at p).is in
         refused_as o e (passed_on x)

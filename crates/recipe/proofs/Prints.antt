@@ -3,6 +3,7 @@ use Prim.Native.Nat.{ℕ, zero, suc, ◌+◌, ◌/◌, ◌%◌, ◌≤◌}
 use mathlib.Core.Path.{◌≡◌, refl, ap, sym, ◌∙◌}
 use mathlib.Core.List.{List, [], ◌∷◌, ◌++◌}
 use native.Mathlib.Omega.{arith}
+use Rattle.std.specs.Prelude.{Result, Ok, Err}
 use lib.Dec.{ltb}
 use lib.ListN.{length, take, drop, length-append}
 use lib.Seq.{take_at, drop_at}
@@ -14,8 +15,8 @@ use Rattle.rules.proofs.Numbers.{escape_decimal}
 use Rattle.output.specs.Put.{Put, tabbed}
 use Rattle.output.proofs.Puts.{keeps, put_room, put_fits}
 use Rattle.output.proofs.Texts.{line_tabbed}
-use Rattle.recipe.specs.declared.Answer.{Answer}
-use Rattle.recipe.specs.declared.Answer.TheVariants.{Page, Refused}
+use Rattle.refusals.specs.Told.{number_of}
+use Rattle.refusals.specs.declared.Refusal.{Refusal}
 use Rattle.recipe.specs.Answers.{answer_of, used_of, PrintedAt}
 
 -- ---- the line of a refusal is short
@@ -45,22 +46,24 @@ refused_short n l =
     ))
 
 -- ---- the two ways
-module _ {r : Answer} {o₀ : List ℕ} where
-  pub page_printed : {n : ℕ} → used_of r ≤ length o₀ → r ≡ Page n → PrintedAt r o₀ o₀ n
+module _ {r : Result ℕ Refusal} {o₀ : List ℕ} where
+  pub page_printed : {n : ℕ} → used_of r ≤ length o₀ → r ≡ Ok n → PrintedAt r o₀ o₀ n
   unfolding used_of answer_of printed
   page_printed {n} h q = rw q record { is = refl; rest = refl; fits = rw q at h }
 
-  pub refusal_printed : {n l k : ℕ} {o : List ℕ} → 30 ≤ length o₀ → r ≡ Refused n l → Put (refused_line n l) o₀ 0 o k → PrintedAt r o₀ o k
+  pub refusal_printed : {f : Refusal} {n k : ℕ} {o : List ℕ} → 30 ≤ length o₀ → r ≡ Err f → n ≡ number_of f.reason → Put (refused_line n f.line) o₀ 0 o k → PrintedAt r o₀ o k
   unfolding answer_of printed
-  refusal_printed {n} {l} {k} {o} h q p =
-      let z : 0 + length (refused_line n l) ≤ length o₀ = omega (arith, refused_short n l) in
-      let e : k ≡ length (refused_line n l) = omega (arith, put_room p z) in
-      let f : k ≤ length o₀ = omega arith in
+  refusal_printed {f} {n} {k} {o} h q i t =
+      let s : List ℕ = refused_line (number_of f.reason) f.line in
+      let p : Put s o₀ 0 o k = rw i at t in
+      let z : 0 + length s ≤ length o₀ = omega (arith, refused_short (number_of f.reason) f.line) in
+      let e : k ≡ length s = omega (arith, put_room p z) in
+      let l : k ≤ length o₀ = omega arith in
       rw q
       record {
-        is = ap (take k) (put_fits p f) ∙ take_at (refused_line n l) (drop (0 + length (refused_line n l)) o₀) k (sym e);
+        is = ap (take k) (put_fits p l) ∙ take_at s (drop (0 + length s) o₀) k (sym e);
         rest =
-            ap (drop k) (put_fits p f) ∙ drop_at (refused_line n l) (drop (0 + length (refused_line n l)) o₀) k (sym e)
-            ∙ ap (λ (j : ℕ). drop j o₀) (let x : 0 + length (refused_line n l) ≡ k = omega (arith, e) in x);
+            ap (drop k) (put_fits p l) ∙ drop_at s (drop (0 + length s) o₀) k (sym e)
+            ∙ ap (λ (j : ℕ). drop j o₀) (let x : 0 + length s ≡ k = omega (arith, e) in x);
         fits = omega (arith, keeps p);
       }

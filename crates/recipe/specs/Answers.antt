@@ -1,23 +1,24 @@
 -- What an answer stands for, and what `collect` and `plain_form` leave in lent memory.
-use Rattle.std.specs.Prelude.{ℕ, ◌+◌, ◌*◌, ◌≤◌, ◌<◌, ◌≡◌, List, leb, length, take, drop}
+use Rattle.std.specs.Prelude.{ℕ, ◌+◌, ◌*◌, ◌≤◌, ◌<◌, ◌≡◌, List, leb, length, take, drop, Result, Ok, Err}
 use Rattle.rules.specs.Basic.{pick}
 use Rattle.rules.specs.Answer as rules
 use Rattle.rules.specs.Answer.{answered, declined, Lent, collect_answer, plain_answer, out_after, work_after, printed}
 use Rattle.letters.specs.Tables.{unicode_tables}
+use Rattle.refusals.specs.Told.{number_of}
+use Rattle.refusals.specs.declared.Reason.TheVariants.{NoRoom}
+use Rattle.refusals.specs.declared.Refusal.{Refusal}
 use Rattle.unit_index.specs.Index.{Indexed}
 use Rattle.inputs.specs.Inputs.{GoodInputs}
-use Rattle.recipe.specs.declared.Answer.{Answer}
-use Rattle.recipe.specs.declared.Answer.TheVariants.{Page, Refused}
 
 -- the bytes at the front of the output, or a refusal's number and line
-unfoldable pub answer_of : Answer → List ℕ → rules.Answer
-answer_of (Page n) out = answered (take n out)
-answer_of (Refused n l) out = declined n l
+unfoldable pub answer_of : Result ℕ Refusal → List ℕ → rules.Answer
+answer_of (Ok n) out = answered (take n out)
+answer_of (Err f) out = declined (number_of f.reason) f.line
 
 -- how many bytes of the output an answer hands out
-unfoldable pub used_of : Answer → ℕ
-used_of (Page n) = n
-used_of (Refused n l) = 0
+unfoldable pub used_of : Result ℕ Refusal → ℕ
+used_of (Ok n) = n
+used_of (Err f) = 0
 
 -- the answer in one number: a page's length, or a refusal's number times 2^32 and its line
 unfoldable pub code_of : rules.Answer → ℕ
@@ -25,9 +26,9 @@ code_of (answered bytes) = length bytes
 code_of (declined n l) = n * 4294967296 + l
 
 -- the same of an answer as the code has it
-unfoldable pub answer_code : Answer → ℕ
-answer_code (Page n) = n
-answer_code (Refused n l) = n * 4294967296 + l
+unfoldable pub answer_code : Result ℕ Refusal → ℕ
+answer_code (Ok n) = n
+answer_code (Err f) = number_of f.reason * 4294967296 + f.line
 
 -- the half of that number that holds a length counts no further: of a longer output only the front is used
 unfoldable pub usable_of : ℕ → ℕ
@@ -50,8 +51,8 @@ lent_of words bytes out = lengths words (length bytes) out
 -- ---- before memory is cleared
 
 -- a page of n bytes, unless it is longer than the output ("20 answer longer than the space lent")
-unfoldable pub page_or20 : ℕ → ℕ → Answer
-page_or20 n room = pick (leb n room) (Page n) (Refused 20 0)
+unfoldable pub page_or20 : ℕ → ℕ → Result ℕ Refusal
+page_or20 n room = pick (leb n room) (Ok n) (Err (record { reason = NoRoom; line = 0 }))
 
 -- what the pass and the page are given
 pub record Given (t sheet text units index : List ℕ) (flags : ℕ) (m : Lent) : Type 0 where
@@ -60,7 +61,7 @@ pub record Given (t sheet text units index : List ℕ) (flags : ℕ) (m : Lent) 
   pub indexed : Indexed units index
 
 -- the answer a of the rules, of an output that may hold anything past it
-pub record Answered (a : rules.Answer) (room : ℕ) (out : List ℕ) (r : Answer) : Type 0 where
+pub record Answered (a : rules.Answer) (room : ℕ) (out : List ℕ) (r : Result ℕ Refusal) : Type 0 where
   pub is : answer_of r out ≡ a
   pub fits : used_of r ≤ room
   pub long : length out ≡ room
@@ -71,7 +72,7 @@ pub record Answered (a : rules.Answer) (room : ℕ) (out : List ℕ) (r : Answer
 -- rules say. Ruled out: a program that answers a page rightly and leaves names of the recipe behind it in the output or in
 -- work memory (`out`, `words`); one that refuses a sheet with too many ingredients by 20, because the output is short, where
 -- the rules refuse it by 17 (`is`).
-pub record AnswerLeft (a : rules.Answer) (m : Lent) (w b o : List ℕ) (r : Answer) : Type 0 where
+pub record AnswerLeft (a : rules.Answer) (m : Lent) (w b o : List ℕ) (r : Result ℕ Refusal) : Type 0 where
   pub is : answer_of r o ≡ a
   pub fits : used_of r ≤ length o
   pub out : o ≡ out_after m.room a
@@ -88,16 +89,16 @@ pub record Coded (a : rules.Answer) (m : Lent) (w b o : List ℕ) (r : ℕ) : Ty
   pub bytes : b ≡ work_after m.bytes
 
 -- what `collect` leaves
-abbrev pub Collected : List ℕ → List ℕ → List ℕ → ℕ → Lent → List ℕ → List ℕ → List ℕ → Answer → Type 0
+abbrev pub Collected : List ℕ → List ℕ → List ℕ → ℕ → Lent → List ℕ → List ℕ → List ℕ → Result ℕ Refusal → Type 0
 Collected sheet text units flags m w b o r = AnswerLeft (collect_answer sheet text units flags m) m w b o r
 
 -- what `plain_form` leaves
-abbrev pub PlainFormed : List ℕ → List ℕ → List ℕ → ℕ → Lent → List ℕ → List ℕ → List ℕ → Answer → Type 0
+abbrev pub PlainFormed : List ℕ → List ℕ → List ℕ → ℕ → Lent → List ℕ → List ℕ → List ℕ → Result ℕ Refusal → Type 0
 PlainFormed sheet text units flags m w b o r = AnswerLeft (plain_answer sheet text units flags m) m w b o r
 
 -- what the programs print of an answer r in the output o₀: n bytes at the front of o; the rest is as it was. Ruled out: a program
 -- that prints the page's bytes behind a refusal's line (`is`); one that lets a refusal's line run over what stood past it (`rest`).
-pub record PrintedAt (r : Answer) (o₀ o : List ℕ) (n : ℕ) : Type 0 where
+pub record PrintedAt (r : Result ℕ Refusal) (o₀ o : List ℕ) (n : ℕ) : Type 0 where
   pub is : take n o ≡ printed (answer_of r o₀)
   pub rest : drop n o ≡ drop n o₀
   pub fits : n ≤ length o

@@ -1,12 +1,12 @@
 -- Demand 3 of the program: what `plain_form` hands out, in the words of the rules' `PlainForm`. proofs/Demand3.antt proves
 -- it of every answer that meets the contract of `plain_form`.
-use Rattle.std.specs.Prelude.{ℕ, ◌≤◌, ◌≡◌, List, false, length}
+use Rattle.std.specs.Prelude.{ℕ, ◌≤◌, ◌≡◌, List, false, length, Result}
 use Rattle.rules.specs.State.{State}
 use Rattle.rules.specs.Page.{recipe_part, recipe_page}
 use Rattle.rules.specs.Answer as rules
 use Rattle.rules.specs.Answer.{answered, declined, Lent, is_short, hand_out, collect_answer, plain_answer}
 use Rattle.rules.specs.PlainForm.{Iff, EveryLine, IsPlain, events_of, Demanded, Declined}
-use Rattle.recipe.specs.declared.Answer.{Answer}
+use Rattle.refusals.specs.declared.Refusal.{Refusal}
 use Rattle.recipe.specs.Answers.{answer_of}
 
 -- `collect` with the memory m answers both sheets with a page, or 20 where its page is longer than the output; the two pages
@@ -19,7 +19,7 @@ pub record SameCollected (form sheet text units : List ℕ) (flags : ℕ) (m : L
   pub above : recipe_part state ≡ recipe_part other_state
 
 -- r is the answer with the memory m, o the output after it
-module _ (sheet text units : List ℕ) (flags : ℕ) (m : Lent) (o : List ℕ) (r : Answer) where
+module _ (sheet text units : List ℕ) (flags : ℕ) (m : Lent) (o : List ℕ) (r : Result ℕ Refusal) where
   -- these bytes are handed out
   abbrev pub Hands : List ℕ → Type 0
   Hands form = answer_of r o ≡ answered form

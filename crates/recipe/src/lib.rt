@@ -9,27 +9,23 @@ ghost use Rattle.page.specs.Pages.{RecipeGiven};
 ghost use Rattle.recipe.specs.Answers.{used_of, answer_code, usable_of, usable_lent, lengths, lent_of, page_or20, Given, Answered, Collected, PlainFormed, Coded, PrintedAt};
 ghost use Rattle.recipe.specs.Forms.{tells17, form_given};
 
-use inputs::Inputs;
 use model::Held;
-use pass::Ran;
-use plain_walk::Formed;
+use refusals::{Reason, Refusal};
 
-#[derive(Clone, Copy)]
-pub enum Answer {
-    // The length of the page, or of the form.
-    Page(usize),
-    // A refusal's number and line.
-    Refused(u32, u32),
-}
+// The length of the page or of the form at the front of the output, or a refusal.
+pub type Answer = Result<usize, Refusal>;
 
 // A page that was written, or 20 where it did not fit.
 fn hand_out(n: usize, room: usize) -> Answer
     ensures { result ≡ page_or20 n room }
 {
     if n <= room {
-        return Answer::Page(n);
+        return Ok(n);
     }
-    Answer::Refused(20, 0)
+    Err(Refusal {
+        reason: Reason::NoRoom,
+        line: 0,
+    })
 }
 
 // The pass, then the page.
@@ -47,16 +43,15 @@ fn pass_and_write(
     requires { Given t.now sheet.now text.now units.now index.now flags (lengths words.old bytes out.old) }
     ensures { Answered (collect_answer sheet.now text.now units.now flags (lengths words.old bytes out.old)) (length out.old) out.new result }
 {
-    match pass::run(t, sheet, text, units, index, flags, words) {
-        Ran::Recipe(h) => {
+    match pass::run(t, sheet, text, units, index, flags, words)? {
+        Some(h) => {
             let n = page::recipe_page(t, sheet, text, units, index, flags, words, h, out);
             hand_out(n, out.len())
         }
-        Ran::Failed => {
+        None => {
             let n = page::failed_page(sheet, text, out);
             hand_out(n, out.len())
         }
-        Ran::Refused(n, l) => Answer::Refused(n, l),
     }
 }
 
@@ -75,10 +70,8 @@ fn collected(
     requires { (t.now ≡ unicode_tables) × (length index.old ≡ 2305) }
     ensures { Answered (collect_answer sheet.now text.now units.now flags (lengths words.old bytes out.old)) (length out.old) out.new result }
 {
-    match inputs::check_inputs(sheet, text, units, index, flags, words.len(), bytes) {
-        Inputs::Refused(n, l) => Answer::Refused(n, l),
-        Inputs::Good => pass_and_write(t, sheet, text, units, index, flags, words, bytes, out),
-    }
+    inputs::check_inputs(sheet, text, units, index, flags, words.len(), bytes)?;
+    pass_and_write(t, sheet, text, units, index, flags, words, bytes, out)
 }
 
 // How many bytes of the output an answer hands out.
@@ -86,8 +79,8 @@ fn used(r: Answer) -> usize
     ensures { result ≡ used_of r }
 {
     match r {
-        Answer::Page(n) => n,
-        Answer::Refused(n, l) => 0,
+        Ok(n) => n,
+        Err(_) => 0,
     }
 }
 
@@ -132,7 +125,7 @@ fn error_line(sheet: &[u8], text: &[u8]) -> u32
     let mut at = 0;
     let mut number: u32 = 1;
     while at < sheet.len() {
-        let sheet::LineEnd::At(end) = sheet::line_end(sheet, at) else {
+        let Some(end) = sheet::line_end(sheet, at) else {
             return 0;
         };
         let v = known_events::event_of(&sheet[at..end]);
@@ -146,13 +139,12 @@ fn error_line(sheet: &[u8], text: &[u8]) -> u32
 }
 
 // Whether a pass was refused by 17.
-fn tells_17(r: Ran) -> bool
+fn tells_17(r: Result<Option<Held>, Refusal>) -> bool
     ensures { result ≡ tells17 r }
 {
     match r {
-        Ran::Recipe(h) => false,
-        Ran::Failed => false,
-        Ran::Refused(n, l) => n == 17,
+        Ok(_) => false,
+        Err(f) => matches!(f.reason, Reason::OverLimits),
     }
 }
 
@@ -171,7 +163,10 @@ fn give_form(
     ensures { Answered (form_answer text.now units.now flags (length out.old) form.now) (length out.old) out.new result }
 {
     if tells_17(pass::run(t, form, text, units, index, flags, words)) {
-        return Answer::Refused(24, 0);
+        return Err(Refusal {
+            reason: Reason::LongForm,
+            line: 0,
+        });
     }
     let n = output::put_bytes(out, 0, form);
     hand_out(n, out.len())
@@ -193,7 +188,7 @@ fn write_form(
     requires { RecipeGiven t.now sheet.now text.now units.now index.now flags words.old h × (65536 ≤ length bytes.old) }
     ensures { Answered (form_given sheet.now text.now units.now flags (length out.old)) (length out.old) out.new result }
 {
-    match plain_walk::plain_form_lines(
+    let n = plain_walk::plain_form_lines(
         t,
         sheet,
         text,
@@ -202,15 +197,12 @@ fn write_form(
         words,
         h,
         &mut bytes[0..65536],
-    ) {
-        Formed::Fault(n, l) => Answer::Refused(n, l),
-        Formed::Length(n) => {
-            if 65536 < n {
-                return Answer::Refused(24u32, 0);
-            }
-            give_form(t, &bytes[0..n], text, units, index, flags, words, out)
-        }
+    )?;
+    if 65536 < n {
+        let reason = Reason::LongForm;
+        return Err(Refusal { reason, line: 0 });
     }
+    give_form(t, &bytes[0..n], text, units, index, flags, words, out)
 }
 
 // The pass, then the form.
@@ -228,10 +220,12 @@ fn pass_and_form(
     requires { Given t.now sheet.now text.now units.now index.now flags (lent_of words.old bytes.old out.old) }
     ensures { Answered (plain_answer sheet.now text.now units.now flags (lent_of words.old bytes.old out.old)) (length out.old) out.new result }
 {
-    match pass::run(t, sheet, text, units, index, flags, words) {
-        Ran::Recipe(h) => write_form(t, sheet, text, units, index, flags, words, h, bytes, out),
-        Ran::Failed => Answer::Refused(21, error_line(sheet, text)),
-        Ran::Refused(k, l) => Answer::Refused(k, l),
+    match pass::run(t, sheet, text, units, index, flags, words)? {
+        Some(h) => write_form(t, sheet, text, units, index, flags, words, h, bytes, out),
+        None => Err(Refusal {
+            reason: Reason::ErrorLine,
+            line: error_line(sheet, text),
+        }),
     }
 }
 
@@ -250,10 +244,8 @@ fn formed(
     requires { (t.now ≡ unicode_tables) × (length index.old ≡ 2305) }
     ensures { Answered (plain_answer sheet.now text.now units.now flags (lent_of words.old bytes.old out.old)) (length out.old) out.new result }
 {
-    match inputs::check_inputs(sheet, text, units, index, flags, words.len(), bytes.len()) {
-        Inputs::Refused(n, l) => Answer::Refused(n, l),
-        Inputs::Good => pass_and_form(t, sheet, text, units, index, flags, words, bytes, out),
-    }
+    inputs::check_inputs(sheet, text, units, index, flags, words.len(), bytes.len())?;
+    pass_and_form(t, sheet, text, units, index, flags, words, bytes, out)
 }
 
 // The plain form of a sheet, with its text, its units and flags, at the front of `out`; or a refusal.
@@ -286,25 +278,19 @@ pub fn print_answer(r: Answer, out: &mut [u8]) -> usize
     ensures { PrintedAt r out.old out.new result }
 {
     match r {
-        Answer::Page(n) => n,
-        Answer::Refused(n, l) => output::write_refusal(out, n, l),
+        Ok(n) => n,
+        Err(f) => output::write_refusal(out, f.reason.number(), f.line),
     }
 }
 
 // ---- for C and Rust (include/recipe.h)
 
-fn wide(n: u32) -> u64
-    ensures { result ≡ n }
-{
-    n as u64
-}
-
 fn code(r: Answer) -> u64
     ensures { result ≡ answer_code r }
 {
     match r {
-        Answer::Page(n) => n as u64,
-        Answer::Refused(n, l) => wide(n) * 4294967296 + wide(l),
+        Ok(n) => n as u64,
+        Err(f) => (f.reason.number() as u64) * 4294967296 + (f.line as u64),
     }
 }
 

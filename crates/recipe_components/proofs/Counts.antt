@@ -4,31 +4,33 @@ use mathlib.Core.Path.{◌≡◌, refl, sym, subst, ◌∙◌}
 use mathlib.Core.List.{List}
 use mathlib.Core.Bool.{Bool, true, false}
 use native.Mathlib.Omega.{arith}
+use Rattle.std.specs.Prelude.{Option, None, Some, Result, Ok, Err}
 use native.Mathlib.Numerals.{add-one}
 use lib.Dec.{leb, ltb}
 use borrow.Author.Tests.{le-leb, lt-leb, lt-ltb}
 use Rattle.rules.specs.Basic.{pick}
+use Rattle.refusals.specs.declared.Reason.TheVariants.{NoRoom}
+use Rattle.refusals.specs.declared.Refusal.{Refusal}
 use Rattle.model.specs.declared.Held.{Held}
 use Rattle.component_records.specs.Records.{no_component, component_in, records_in}
 use Rattle.component_records.specs.Links.{is_own, own_at, own_count}
 use Rattle.component_records.specs.declared.Component.{Component}
 use Rattle.component_records.proofs.Pairs.{count_snoc}
-use Rattle.recipe_components.specs.declared.Components.{Components}
-use Rattle.recipe_components.specs.declared.Components.TheVariants.{Recipe, NoRecipe, Refused}
+use Rattle.recipe_components.specs.declared.ComponentCounts.{ComponentCounts}
 use Rattle.recipe_components.specs.Components.{TableRoom}
-use Rattle.recipe_components.specs.Tables.{ingredients_of, cookware_of, OwnCounted, is_room_for, counts_or20}
+use Rattle.recipe_components.specs.Tables.{ingredients_of, cookware_of, OwnCounted, is_room_for, row_counts, counts_or20}
 
 -- ---- the variants of an answer
-module _ {r : Components} where
-  pub count_recipe : {i c ip cp : ℕ} → r ≡ Recipe i c ip cp → (i ≡ ingredients_of r) × (c ≡ cookware_of r)
+module _ {r : Result (Option ComponentCounts) Refusal} where
+  pub count_recipe : {o : Option ComponentCounts} {c : ComponentCounts} → r ≡ Ok o → o ≡ Some c → (c.ingredients ≡ ingredients_of r) × (c.cookware ≡ cookware_of r)
   unfolding ingredients_of cookware_of
-  count_recipe q = (rw q, rw q)
+  count_recipe q e = (rw (q, e), rw (q, e))
 
-  pub count_none : r ≡ NoRecipe → (0 ≡ ingredients_of r) × (0 ≡ cookware_of r)
+  pub count_none : {o : Option ComponentCounts} → r ≡ Ok o → o ≡ None → (0 ≡ ingredients_of r) × (0 ≡ cookware_of r)
   unfolding ingredients_of cookware_of
-  count_none q = (rw q, rw q)
+  count_none q e = (rw (q, e), rw (q, e))
 
-  pub count_refused : {n l : ℕ} → r ≡ Refused n l → (0 ≡ ingredients_of r) × (0 ≡ cookware_of r)
+  pub count_refused : {f : Refusal} → r ≡ Err f → (0 ≡ ingredients_of r) × (0 ≡ cookware_of r)
   unfolding ingredients_of cookware_of
   count_refused q = (rw q, rw q)
 
@@ -84,15 +86,15 @@ module _ (count pairs : ℕ) (m : TableRoom) where
 
 module _ {w : List ℕ} (h : Held) {i j : ℕ} (o : OwnCounted w 0 h.counts.ingredients i) (p : OwnCounted w 6156 h.counts.cookware j) (is cs : TableRoom) where
   pub both_fit_lem : {a b : Bool} → a ≡ is_room_for h.counts.ingredients i is → a ≡ true → b ≡ is_room_for h.counts.cookware j cs → b ≡ true
-      → Recipe h.counts.ingredients h.counts.cookware i j ≡ counts_or20 w h is cs
-  unfolding counts_or20
+      → Ok (Some (record { ingredients = h.counts.ingredients; cookware = h.counts.cookware; ingredient_pairs = i; cookware_pairs = j })) ≡ counts_or20 w h is cs
+  unfolding counts_or20 row_counts
   both_fit_lem ea ta eb tb = rw (sym o.is, sym p.is, sym ea ∙ ta, sym eb ∙ tb)
 
-  pub first_short_lem : {a : Bool} → a ≡ is_room_for h.counts.ingredients i is → a ≡ false → Refused 20 0 ≡ counts_or20 w h is cs
+  pub first_short_lem : {a : Bool} → a ≡ is_room_for h.counts.ingredients i is → a ≡ false → Err (record { reason = NoRoom; line = 0 }) ≡ counts_or20 w h is cs
   unfolding counts_or20
   first_short_lem ea ta = rw (sym o.is, sym ea ∙ ta)
 
   pub second_short_lem : {a b : Bool} → a ≡ is_room_for h.counts.ingredients i is → a ≡ true → b ≡ is_room_for h.counts.cookware j cs → b ≡ false
-      → Refused 20 0 ≡ counts_or20 w h is cs
+      → Err (record { reason = NoRoom; line = 0 }) ≡ counts_or20 w h is cs
   unfolding counts_or20
   second_short_lem ea ta eb tb = rw (sym o.is, sym p.is, sym ea ∙ ta, sym eb ∙ tb)

@@ -2,12 +2,14 @@
 use Prim.Native.Nat.{ℕ, ◌-◌}
 use mathlib.Core.Path.{◌≡◌, sym, ap, ◌∙◌}
 use mathlib.Core.List.{List}
+use Rattle.std.specs.Prelude.{Option, Result}
 use lib.ListN.{length, replicate}
 use Rattle.rules.specs.Model.{Kind, Entry}
 use Rattle.rules.specs.Answer.{work_after}
+use Rattle.refusals.specs.declared.Refusal.{Refusal}
 use Rattle.component_records.specs.Records.{records_in}
 use Rattle.component_records.specs.declared.Component.{Component}
-use Rattle.recipe_components.specs.declared.Components.{Components}
+use Rattle.recipe_components.specs.declared.ComponentCounts.{ComponentCounts}
 use Rattle.recipe_components.specs.Components.{TableRoom, Room, TableLent, ComponentsLeft}
 use Rattle.recipe_components.specs.Tables.{ingredients_of, cookware_of, Laid, RowsOf, RowsCollected}
 
@@ -16,7 +18,7 @@ table_lent_lem : {k : Kind} {sheet w : List ℕ} {es : List Entry} {from n : ℕ
 table_lent_lem {w = w} {from = from} {n = n} x l =
     record { records = records_in w from n; are = x.records; all = rw (sym x.count) l.all; pairs = rw (sym x.pairs) l.pairs }
 
-pub all_left : {sheet text units : List ℕ} {flags : ℕ} {m : Room} {w w' : List ℕ} {is : List Component} {ips : List ℕ} {cs : List Component} {cps : List ℕ} {r : Components}
+pub all_left : {sheet text units : List ℕ} {flags : ℕ} {m : Room} {w w' : List ℕ} {is : List Component} {ips : List ℕ} {cs : List Component} {cps : List ℕ} {r : Result (Option ComponentCounts) Refusal}
     → RowsCollected sheet text units flags m w r → Laid w 0 (ingredients_of r) m.ingredients is ips → Laid w 6156 (cookware_of r) m.cookware cs cps
     → w' ≡ replicate (length w) 0 → ComponentsLeft sheet text units flags m w' is ips cs cps r
 unfolding work_after

@@ -4,6 +4,7 @@ use mathlib.Core.Path.{◌≡◌, refl, sym, ap, ◌∙◌}
 use mathlib.Core.List.{List, []}
 use mathlib.Core.Bool.{Bool, true, false, ◌&&◌, ◌||◌}
 use native.Mathlib.Omega.{arith}
+use Rattle.std.specs.Prelude.{Option, None, Some, Result, Ok, Err}
 use lib.Dec.{leb, ltb}
 use lib.ListN.{length, take, drop}
 use borrow.Author.Tests.{leb-true, le-ltb}
@@ -19,9 +20,10 @@ use Rattle.rules.proofs.Basics.{pick_either, no_some, and_left, and_right}
 use Rattle.rules.proofs.Referrers.{Linked, walk_linked}
 use Rattle.rules.proofs.LinkedRecipe.{own_references}
 use Rattle.letters.specs.Tables.{unicode_tables}
+use Rattle.refusals.specs.Told.{number_of}
+use Rattle.refusals.specs.declared.Reason.TheVariants.{NoRoom}
+use Rattle.refusals.specs.declared.Refusal.{Refusal}
 use Rattle.inputs.specs.Inputs.{InputsChecked, UnitsReady}
-use Rattle.inputs.specs.declared.Inputs.{Inputs}
-use Rattle.inputs.specs.declared.Inputs.TheVariants as inputs
 use Rattle.inputs.proofs.Answers.{told_good, told_refused, refused_outcome}
 use Rattle.model.specs.Blank.{blank, blank_tables}
 use Rattle.model.specs.Memory.{windows_of, state_of, state_in, Sound}
@@ -32,12 +34,9 @@ use Rattle.component_records.specs.Records.{records_in}
 use Rattle.component_records.specs.Links.{pairs_of, pairs_from, own_count, Linkable}
 use Rattle.pass.specs.Walks as walks
 use Rattle.pass.specs.Walks.{RanRecipe, RanFailed, RanBy, RanAs}
-use Rattle.pass.specs.declared.Ran.{Ran}
-use Rattle.pass.specs.declared.Ran.TheVariants as ran
-use Rattle.recipe_components.specs.declared.Components.{Components}
-use Rattle.recipe_components.specs.declared.Components.TheVariants.{Recipe, NoRecipe, Refused}
-use Rattle.recipe_components.specs.Components.{RecordsOf, table_pairs, TableRoom, Room, table_fits, both_fit, counts_of, answer_of, table_lent, outcome_of}
-use Rattle.recipe_components.specs.Tables.{ingredients_of, cookware_of, Ready, is_room_for, counts_or20, RowsOf, RowsCollected, Given}
+use Rattle.recipe_components.specs.declared.ComponentCounts.{ComponentCounts}
+use Rattle.recipe_components.specs.Components.{RecordsOf, table_pairs, TableRoom, Room, table_fits, both_fit, counts_of, answer_of, told_answer, table_lent, outcome_of}
+use Rattle.recipe_components.specs.Tables.{ingredients_of, cookware_of, Ready, is_room_for, row_counts, counts_or20, RowsOf, RowsCollected, Given}
 use Rattle.recipe_components.proofs.Rows.{table_in, table_records, table_linkable, table_pairs_lem, table_own}
 
 -- ---- no rows
@@ -57,7 +56,7 @@ no_ready w from m =
     }
 
 module _ (sheet text units : List ℕ) (flags : ℕ) (m : Room) {w : List ℕ} (long : length w ≡ m.words) where
-  empty : (r : Components) → ingredients_of r ≡ 0 → cookware_of r ≡ 0 → r ≡ answer_of m (outcome_of sheet text units flags m) → ((k : Kind) → table_lent m k (outcome_of sheet text units flags m) ≡ []) → RowsCollected sheet text units flags m w r
+  empty : (r : Result (Option ComponentCounts) Refusal) → ingredients_of r ≡ 0 → cookware_of r ≡ 0 → told_answer r ≡ answer_of m (outcome_of sheet text units flags m) → ((k : Kind) → table_lent m k (outcome_of sheet text units flags m) ≡ []) → RowsCollected sheet text units flags m w r
   empty r i c a t =
       record {
         answer = a;
@@ -68,17 +67,17 @@ module _ (sheet text units : List ℕ) (flags : ℕ) (m : Room) {w : List ℕ} (
         cookware_ready = rw c (no_ready w 6156 m.cookware);
       }
 
-  pub refused_rows : {n l : ℕ} → outcome_of sheet text units flags m ≡ refusal n l → RowsCollected sheet text units flags m w (Refused n l)
-  unfolding ingredients_of cookware_of answer_of table_lent
-  refused_rows {n} {l} e = empty (Refused n l) refl refl (rw e) (λ k. rw e)
+  pub refused_rows : {f : Refusal} → outcome_of sheet text units flags m ≡ refusal (number_of f.reason) f.line → RowsCollected sheet text units flags m w (Err f)
+  unfolding ingredients_of cookware_of answer_of told_answer table_lent
+  refused_rows {f} e = empty (Err f) refl refl (rw e) (λ k. rw e)
 
-  pub none_rows : (fs : List Finding) → outcome_of sheet text units flags m ≡ no_recipe fs → RowsCollected sheet text units flags m w NoRecipe
-  unfolding ingredients_of cookware_of answer_of table_lent
-  none_rows fs e = empty NoRecipe refl refl (rw e) (λ k. rw e)
+  pub none_rows : (fs : List Finding) → outcome_of sheet text units flags m ≡ no_recipe fs → RowsCollected sheet text units flags m w (Ok None)
+  unfolding ingredients_of cookware_of answer_of told_answer table_lent
+  none_rows fs e = empty (Ok None) refl refl (rw e) (λ k. rw e)
 
-  pub full_rows : (st : State) → outcome_of sheet text units flags m ≡ recipe st → both_fit m st ≡ false → RowsCollected sheet text units flags m w (Refused 20 0)
-  unfolding ingredients_of cookware_of answer_of table_lent
-  full_rows st e b = empty (Refused 20 0) refl refl (rw (e, b)) (λ k. rw (e, b))
+  pub full_rows : (st : State) → outcome_of sheet text units flags m ≡ recipe st → both_fit m st ≡ false → RowsCollected sheet text units flags m w (Err (record { reason = NoRoom; line = 0 }))
+  unfolding ingredients_of cookware_of answer_of told_answer table_lent
+  full_rows st e b = empty (Err (record { reason = NoRoom; line = 0 })) refl refl (rw (e, b)) (λ k. rw (e, b))
 
 -- ---- a recipe
 
@@ -173,16 +172,16 @@ module _ {text : List ℕ} {us : List NamedUnit} {flags : ℕ} {sheet : List ℕ
     unfolding both_fit
     both_same = rw (fits_same ingredients_held m.ingredients, fits_same cookware_held m.cookware)
 
-    counts_same : counts_of (ended st) ≡ Recipe h.counts.ingredients h.counts.cookware (own_count (records_in w 0 h.counts.ingredients)) (own_count (records_in w 6156 h.counts.cookware))
-    unfolding counts_of
+    counts_same : counts_of (ended st) ≡ row_counts w h
+    unfolding counts_of row_counts
     counts_same = rw (ingredients_held.long, cookware_held.long, ingredients_held.own, cookware_held.own)
 
-    fit_rows : (is_room_for h.counts.ingredients (own_count (records_in w 0 h.counts.ingredients)) m.ingredients && is_room_for h.counts.cookware (own_count (records_in w 6156 h.counts.cookware)) m.cookware) ≡ true → RowsCollected sheet text' units flags' m w (Recipe h.counts.ingredients h.counts.cookware (own_count (records_in w 0 h.counts.ingredients)) (own_count (records_in w 6156 h.counts.cookware)))
-    unfolding answer_of table_lent ingredients_of cookware_of
+    fit_rows : (is_room_for h.counts.ingredients (own_count (records_in w 0 h.counts.ingredients)) m.ingredients && is_room_for h.counts.cookware (own_count (records_in w 6156 h.counts.cookware)) m.cookware) ≡ true → RowsCollected sheet text' units flags' m w (Ok (Some (row_counts w h)))
+    unfolding answer_of told_answer row_counts table_lent ingredients_of cookware_of
     fit_rows q =
         let b : both_fit m (ended st) ≡ true = both_same ∙ q in
         record {
-          answer = rw (o, b) (sym counts_same);
+          answer = rw (o, b) (ap (λ (x : ComponentCounts). Ok (Some x)) (sym counts_same));
           long = long;
           ingredients = rw (o, b) (rows_are ingredients_held);
           cookware = rw (o, b) (rows_are cookware_held);
@@ -206,14 +205,14 @@ enough_words n = rw (le-ltb 65536 65536 (omega arith)) (or_false (ltb n words_ne
     or_false true = refl
     or_false false = refl
 
-module _ {sheet text units : List ℕ} {flags : ℕ} (m : Room) {a : Inputs} (p : InputsChecked sheet text units flags m.words 65536 a) where
-  pub inputs_refused : {n l : ℕ} {w : List ℕ} → length w ≡ m.words → a ≡ inputs.Refused n l → RowsCollected sheet text units flags m w (Refused n l)
+module _ {sheet text units : List ℕ} {flags : ℕ} (m : Room) {a : Result (Unit {0}) Refusal} (p : InputsChecked sheet text units flags m.words 65536 a) where
+  pub inputs_refused : {f : Refusal} {w : List ℕ} → length w ≡ m.words → a ≡ Err f → RowsCollected sheet text units flags m w (Err f)
   unfolding outcome_of
   inputs_refused long q =
       refused_rows sheet text units flags m long
       (rw (enough_words m.words) at (refused_outcome sheet text units flags (record { words = m.words; bytes = 65536; room = 0 }) (told_refused (rw q at p))))
 
-  pub inputs_good : {t index : List ℕ} → t ≡ unicode_tables → UnitsReady units index a → a ≡ inputs.Good → Given t sheet text units index flags m
+  pub inputs_good : {t index : List ℕ} → t ≡ unicode_tables → UnitsReady units index a → a ≡ Ok tt → Given t sheet text units index flags m
   inputs_good e x q = record { tables = e; inputs = told_good (rw q at p); indexed = x.indexed q }
 
 -- ---- after the pass
@@ -232,26 +231,26 @@ module _ {t sheet text units index : List ℕ} {flags : ℕ} {m : Room} (g : Giv
   unfolding outcome_of
   outcome_is e = rw (le-ltb m.words words_needed g.inputs.words_enough) (g.inputs.collects ∙ e)
 
-  module _ {w₀ w : List ℕ} {a : Ran} (long : length w₀ ≡ m.words) (p : RanAs (units_or (read_units units)) flags sheet text (events_or (read_sheet text sheet)) w₀ w a) where
-    pub recipe_rows : {h : Held} {r : Components} → a ≡ ran.Recipe h → r ≡ counts_or20 w h m.ingredients m.cookware → RowsCollected sheet text units flags m w r
+  module _ {w₀ w : List ℕ} {a : Result (Option Held) Refusal} (long : length w₀ ≡ m.words) (p : RanAs (units_or (read_units units)) flags sheet text (events_or (read_sheet text sheet)) w₀ w a) where
+    pub recipe_rows : {h : Held} {r : Result (Option ComponentCounts) Refusal} → a ≡ Ok (Some h) → r ≡ counts_or20 w h m.ingredients m.cookware → RowsCollected sheet text units flags m w r
     unfolding RanBy
     recipe_rows {h} q e =
         let x : RanRecipe text (units_or (read_units units)) flags sheet (events_or (read_sheet text sheet)) w h = (rw q at p).is in
         rw e (counted_rows x text units flags m (p.long ∙ long) (outcome_is x.is))
 
-    pub failed_rows : a ≡ ran.Failed → RowsCollected sheet text units flags m w NoRecipe
+    pub failed_rows : a ≡ Ok None → RowsCollected sheet text units flags m w (Ok None)
     unfolding RanBy
     failed_rows q =
         let x : RanFailed text (units_or (read_units units)) flags (events_or (read_sheet text sheet)) = (rw q at p).is in
         none_rows sheet text units flags m (p.long ∙ long) x.findings (outcome_is x.is)
 
-    pub stopped_rows : {n l : ℕ} → a ≡ ran.Refused n l → RowsCollected sheet text units flags m w (Refused n l)
+    pub stopped_rows : {f : Refusal} → a ≡ Err f → RowsCollected sheet text units flags m w (Err f)
     unfolding RanBy
-    stopped_rows {n} {l} q =
-        let x : parse_events text (units_or (read_units units)) flags (events_or (read_sheet text sheet)) ≡ refusal n l = (rw q at p).is in
+    stopped_rows {f} q =
+        let x : parse_events text (units_or (read_units units)) flags (events_or (read_sheet text sheet)) ≡ refusal (number_of f.reason) f.line = (rw q at p).is in
         refused_rows sheet text units flags m (p.long ∙ long) (outcome_is x)
 
 -- the words hold what the pass says
-pub recipe_sound : {us : List NamedUnit} {flags : ℕ} {sheet text : List ℕ} {es : List Event} {w₀ w : List ℕ} {a : Ran} {h : Held} → RanAs us flags sheet text es w₀ w a → a ≡ ran.Recipe h → Sound w h
+pub recipe_sound : {us : List NamedUnit} {flags : ℕ} {sheet text : List ℕ} {es : List Event} {w₀ w : List ℕ} {a : Result (Option Held) Refusal} {h : Held} → RanAs us flags sheet text es w₀ w a → a ≡ Ok (Some h) → Sound w h
 unfolding RanBy
 recipe_sound {us} {flags} {sheet} {text} {es} {w = w} {h = h} p q = let x : RanRecipe text us flags sheet es w h = (rw q at p).is in x.kept.sound

@@ -3,7 +3,7 @@ use Prim.Native.Nat.{ℕ, suc, ◌+◌, ◌*◌}
 use mathlib.Core.Path.{◌≡◌, refl, sym, ap, ◌∙◌}
 use mathlib.Core.List.{List, [], ◌∷◌, ◌++◌, append_assoc}
 use mathlib.Core.Bool.{Bool, true, false, ◌&&◌}
-use mathlib.Core.Option.{some}
+use Rattle.std.specs.Prelude.{Option, None, Some, Result, Ok, Err}
 use native.Mathlib.Nat.{zero-add}
 use native.Mathlib.Omega.{arith}
 use lib.Dec.{eqb, ltb}
@@ -21,9 +21,8 @@ use Rattle.rules.proofs.LinkedRecipe.{collection_linked, is_own_reference, own_r
 use Rattle.model.specs.Rows.{referrers_in, referrers_from}
 use Rattle.model.proofs.Searches.{referrers_oldest}
 use Rattle.component_records.specs.declared.Component.{Component}
-use Rattle.recipe_components.specs.declared.Components.{Components}
-use Rattle.recipe_components.specs.declared.Components.TheVariants.{Recipe, NoRecipe, Refused}
-use Rattle.recipe_components.specs.Components.{pair_of, table_pairs, Room, both_fit, counts_of, answer_of, table_lent, outcome_of, ComponentsLeft}
+use Rattle.recipe_components.specs.declared.ComponentCounts.{ComponentCounts}
+use Rattle.recipe_components.specs.Components.{pair_of, table_pairs, Room, both_fit, counts_of, answer_of, told_answer, table_lent, outcome_of, ComponentsLeft}
 
 -- ---- two numbers a pair
 
@@ -78,7 +77,7 @@ table_referrers k d (e ∷ es) rest =
     ∙ entry_pairs k d es rest (λ rest'. table_referrers k d es rest') e.relation
 
 -- the pairs of a table, whatever stands after them: the referrers of a definition, oldest first, are those that the rules keep
-pub pairs_referrers : (k : Kind) (es : List Entry) (rest : List ℕ) → Linked k es → (d : ℕ) (e : Entry) → entry_at d es ≡ some e → is_definition e.relation ≡ true
+pub pairs_referrers : (k : Kind) (es : List Entry) (rest : List ℕ) → Linked k es → (d : ℕ) (e : Entry) → entry_at d es ≡ Some e → is_definition e.relation ≡ true
     → referrers_from (table_pairs k es ++ rest) d 0 (own_references k es) ≡ referrers e.relation
 pairs_referrers k es rest l d e q p = go e.relation refl p
   where
@@ -90,57 +89,50 @@ pairs_referrers k es rest l d e q p = go e.relation refl p
 
 -- ---- of every recipe that `collect_components` lends
 
-unfoldable is_recipe : Components → Bool
-is_recipe (Recipe i c ip cp) = true
-is_recipe NoRecipe = false
-is_recipe (Refused n l) = false
+module _ {n : ComponentCounts} where
+  no_counts : {P : Type 0} {r : ℕ × ℕ} → Ok (Some n) ≡ Err r → P
+  no_counts q = absurd (let z : ◌≡◌ {A = ℕ} 0 1 = cc in omega arith)
 
-unfoldable ingredient_pairs_in : Components → ℕ
-ingredient_pairs_in (Recipe i c ip cp) = ip
-ingredient_pairs_in NoRecipe = 0
-ingredient_pairs_in (Refused n l) = 0
+  same_counts : {k : ComponentCounts} → ◌≡◌ {A = Result (Option ComponentCounts) (ℕ × ℕ)} (Ok (Some n)) (Ok (Some k)) → n ≡ k
+  same_counts q = cc
 
-unfoldable cookware_pairs_in : Components → ℕ
-cookware_pairs_in (Recipe i c ip cp) = cp
-cookware_pairs_in NoRecipe = 0
-cookware_pairs_in (Refused n l) = 0
-
-module _ (m : Room) (st : State) {i c ip cp : ℕ} (a : Recipe i c ip cp ≡ answer_of m (recipe st)) where
+module _ (m : Room) (st : State) {n : ComponentCounts} (a : Ok (Some n) ≡ answer_of m (recipe st)) where
   all_fits : both_fit m st ≡ true
-  unfolding answer_of is_recipe
+  unfolding answer_of
   all_fits = go (both_fit m st) a
     where
-      go : (b : Bool) → Recipe i c ip cp ≡ pick b (counts_of st) (Refused 20 0) → b ≡ true
+      go : (b : Bool) → ◌≡◌ {A = Result (Option ComponentCounts) (ℕ × ℕ)} (Ok (Some n)) (pick b (Ok (Some (counts_of st))) (Err (20, 0))) → b ≡ true
       go true q = refl
-      go false q = no_truth (sym (ap is_recipe q))
+      go false q = no_counts q
 
-  counts_are : Recipe i c ip cp ≡ counts_of st
+  counts_are : n ≡ counts_of st
   unfolding answer_of
-  counts_are = a ∙ rw all_fits
+  counts_are = same_counts (a ∙ rw all_fits)
 
-  pairs_counted : (ip ≡ own_references ingredient (table_of ingredient st)) × (cp ≡ own_references cookware (table_of cookware st))
-  unfolding counts_of ingredient_pairs_in cookware_pairs_in
-  pairs_counted = (ap ingredient_pairs_in counts_are, ap cookware_pairs_in counts_are)
+  pairs_counted : (n.ingredient_pairs ≡ own_references ingredient (table_of ingredient st)) × (n.cookware_pairs ≡ own_references cookware (table_of cookware st))
+  unfolding counts_of
+  pairs_counted = (ap (λ (c : ComponentCounts). c.ingredient_pairs) counts_are, ap (λ (c : ComponentCounts). c.cookware_pairs) counts_are)
 
-module _ {sheet text units : List ℕ} {flags : ℕ} {m : Room} {w : List ℕ} {is : List Component} {ips : List ℕ} {cs : List Component} {cps : List ℕ} {i c ip cp : ℕ}
-    (x : ComponentsLeft sheet text units flags m w is ips cs cps (Recipe i c ip cp)) (st : State) (o : outcome_of sheet text units flags m ≡ recipe st) where
+module _ {sheet text units : List ℕ} {flags : ℕ} {m : Room} {w : List ℕ} {is : List Component} {ips : List ℕ} {cs : List Component} {cps : List ℕ} {n : ComponentCounts}
+    (x : ComponentsLeft sheet text units flags m w is ips cs cps (Ok (Some n))) (st : State) (o : outcome_of sheet text units flags m ≡ recipe st) where
   collects : collection sheet text units flags ≡ recipe st
   unfolding outcome_of
   collects = pick_either (λ (y : Outcome). y ≡ recipe st → collection sheet text units flags ≡ recipe st) (ltb m.words words_needed) _ _ (λ b q. no_recipe_lem q) (λ b q. q) o
 
-  answered : Recipe i c ip cp ≡ answer_of m (recipe st)
+  answered : Ok (Some n) ≡ answer_of m (recipe st)
+  unfolding told_answer
   answered = x.answer ∙ ap (answer_of m) o
 
   lent : (k : Kind) → table_lent m k (outcome_of sheet text units flags m) ≡ table_of k st
   unfolding table_lent
   lent k = rw (o, all_fits m st answered)
 
-  pub ingredient_referrers : (d : ℕ) (e : Entry) → entry_at d (table_of ingredient st) ≡ some e → is_definition e.relation ≡ true → referrers_from ips d 0 ip ≡ referrers e.relation
+  pub ingredient_referrers : (d : ℕ) (e : Entry) → entry_at d (table_of ingredient st) ≡ Some e → is_definition e.relation ≡ true → referrers_from ips d 0 n.ingredient_pairs ≡ referrers e.relation
   ingredient_referrers d e q p =
       rw (x.ingredients.pairs, lent ingredient, (pairs_counted m st answered).0)
       (pairs_referrers ingredient (table_of ingredient st) _ (collection_linked sheet text units flags st collects ingredient) d e q p)
 
-  pub cookware_referrers : (d : ℕ) (e : Entry) → entry_at d (table_of cookware st) ≡ some e → is_definition e.relation ≡ true → referrers_from cps d 0 cp ≡ referrers e.relation
+  pub cookware_referrers : (d : ℕ) (e : Entry) → entry_at d (table_of cookware st) ≡ Some e → is_definition e.relation ≡ true → referrers_from cps d 0 n.cookware_pairs ≡ referrers e.relation
   cookware_referrers d e q p =
       rw (x.cookware.pairs, lent cookware, (pairs_counted m st answered).1)
       (pairs_referrers cookware (table_of cookware st) _ (collection_linked sheet text units flags st collects cookware) d e q p)

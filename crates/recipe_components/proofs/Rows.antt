@@ -3,7 +3,7 @@ use Prim.Native.Nat.{ℕ, zero, suc, ◌+◌, ◌*◌, ◌≤◌, ◌<◌}
 use mathlib.Core.Path.{◌≡◌, refl, sym, ap, ◌∙◌}
 use mathlib.Core.List.{List, [], ◌∷◌, ◌++◌}
 use mathlib.Core.Bool.{Bool, true, false}
-use mathlib.Core.Option.{some}
+use Rattle.std.specs.Prelude.{Some}
 use native.Mathlib.Omega.{arith}
 use lib.ListN.{length, get_or, take, drop}
 use lib.Seq.{take-take}
@@ -136,7 +136,7 @@ module _ (k : Kind) (sheet w : List ℕ) (from size : ℕ) (ps : List ℕ) (m n 
   unfolding component_in
   row_in i l = ap (λ (x : List ℕ). component_of (row_of x)) (sym (mid_take (i * 12) 12 size (drop from w) (omega arith)))
 
-  entry_is : (i : ℕ) (e : Entry) → i < n → entry_at i es ≡ some e → e ≡ entry_in k sheet (take size (drop from w)) ps m i
+  entry_is : (i : ℕ) (e : Entry) → i < n → entry_at i es ≡ Some e → e ≡ entry_in k sheet (take size (drop from w)) ps m i
   entry_is i e l q = some_inj (sym q ∙ entries_at k sheet (take size (drop from w)) ps m i n l)
 
   pub table_records : EachRow (Fits k sheet) (take size (drop from w)) n → RecordsOf k sheet es (records_in w from n)
@@ -147,7 +147,7 @@ module _ (k : Kind) (sheet w : List ℕ) (from size : ℕ) (ps : List ℕ) (m n 
         at = at;
       }
     where
-      at : (i : ℕ) (e : Entry) → entry_at i es ≡ some e → RecordOf k sheet e (get_or (records_in w from n) i no_component)
+      at : (i : ℕ) (e : Entry) → entry_at i es ≡ Some e → RecordOf k sheet e (get_or (records_in w from n) i no_component)
       at i e q =
           let l : i < n = omega (arith, entry_below i es e q, entries_length k sheet (take size (drop from w)) ps m n) in
           rw (get_or_records w from n i l, row_in i l, entry_is i e l q)

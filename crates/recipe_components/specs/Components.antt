@@ -1,7 +1,6 @@
 -- What `collect_components` answers and lends, read off the rules: how many ingredients and pieces of cookware the recipe has,
 -- a record for each, and the pairs of a definition and its referrer.
-use Rattle.std.specs.Prelude.{ℕ, ◌-◌, ◌*◌, ◌≤◌, ◌≡◌, List, [], ◌∷◌, ◌++◌, Bool, true, false, ◌&&◌, leb, ltb, length, get_or, replicate}
-use Rattle.std.proofs.Math.Option.{some}
+use Rattle.std.specs.Prelude.{ℕ, ◌-◌, ◌*◌, ◌≤◌, ◌≡◌, List, [], ◌∷◌, ◌++◌, Bool, true, false, ◌&&◌, leb, ltb, length, get_or, replicate, Option, None, Some, Result, Ok, Err}
 use Rattle.std.proofs.Math.Seq.{slice}
 use Rattle.rules.specs.Basic.{pick, on_some}
 use Rattle.rules.specs.Text.{retain}
@@ -13,6 +12,8 @@ use Rattle.rules.specs.State.{State, table_of, Outcome, recipe, no_recipe, refus
 use Rattle.rules.specs.Answer.{words_needed, collection, work_after}
 use Rattle.rules.proofs.Referrers.{is_own}
 use Rattle.rules.proofs.LinkedRecipe.{own_references}
+use Rattle.refusals.specs.Told.{told_of}
+use Rattle.refusals.specs.declared.Refusal.{Refusal}
 use Rattle.model.specs.Rows.{component_of_line}
 use Rattle.model.specs.Fits.{is_of_kind, WholeLine}
 use Rattle.model.specs.declared.Target.TheVariants.{Ingredient, Step, Section}
@@ -20,8 +21,7 @@ use Rattle.model.specs.declared.Relation.TheVariants.{Definition, Reference}
 use Rattle.model.specs.declared.RelationRecord.{RelationRecord}
 use Rattle.component_records.specs.Records.{no_component}
 use Rattle.component_records.specs.declared.Component.{Component}
-use Rattle.recipe_components.specs.declared.Components.{Components}
-use Rattle.recipe_components.specs.declared.Components.TheVariants.{Recipe, NoRecipe, Refused}
+use Rattle.recipe_components.specs.declared.ComponentCounts.{ComponentCounts}
 
 -- ---- records
 
@@ -55,12 +55,12 @@ pub record RecordOf (k : Kind) (sheet : List ℕ) (e : Entry) (c : Component) : 
   pub name_at : c.line_at ≤ c.name_at
   pub name : c.name_at ≤ c.name_end
   pub name_end : c.name_end ≤ c.line_end
-  pub is_name : on_some (retain 0) (content_of (name_in sheet c)) ≡ some e.name
+  pub is_name : on_some (retain 0) (content_of (name_in sheet c)) ≡ Some e.name
 
 -- the records of a table, oldest first
 pub record RecordsOf (k : Kind) (sheet : List ℕ) (es : List Entry) (cs : List Component) : Type 0 where
   pub long : length cs ≡ length es
-  pub at : (i : ℕ) (e : Entry) → entry_at i es ≡ some e → RecordOf k sheet e (get_or cs i no_component)
+  pub at : (i : ℕ) (e : Entry) → entry_at i es ≡ Some e → RecordOf k sheet e (get_or cs i no_component)
 
 -- ---- pairs: a definition's index and that of an entry of the same table that refers to it, in the order of the referrers.
 -- `own_references` counts them, `is_own` tells a reference to the same table
@@ -94,16 +94,25 @@ both_fit m st = table_fits ingredient m.ingredients (table_of ingredient st) && 
 
 -- ---- the answer
 
-unfoldable pub counts_of : State → Components
+unfoldable pub counts_of : State → ComponentCounts
 counts_of st =
-    Recipe (length (table_of ingredient st)) (length (table_of cookware st)) (own_references ingredient (table_of ingredient st))
-    (own_references cookware (table_of cookware st))
+    record {
+      ingredients = length (table_of ingredient st);
+      cookware = length (table_of cookware st);
+      ingredient_pairs = own_references ingredient (table_of ingredient st);
+      cookware_pairs = own_references cookware (table_of cookware st);
+    }
 
--- "20 answer longer than the space lent"
-unfoldable pub answer_of : Room → Outcome → Components
-answer_of m (recipe st) = pick (both_fit m st) (counts_of st) (Refused 20 0)
-answer_of m (no_recipe fs) = NoRecipe
-answer_of m (refusal n l) = Refused n l
+-- the counts of a recipe, none of no recipe, or a refusal's number and line; "20 answer longer than the space lent"
+unfoldable pub answer_of : Room → Outcome → Result (Option ComponentCounts) (ℕ × ℕ)
+answer_of m (recipe st) = pick (both_fit m st) (Ok (Some (counts_of st))) (Err (20, 0))
+answer_of m (no_recipe fs) = Ok None
+answer_of m (refusal n l) = Err (n, l)
+
+-- the same of an answer as the code has it
+unfoldable pub told_answer : Result (Option ComponentCounts) Refusal → Result (Option ComponentCounts) (ℕ × ℕ)
+told_answer (Ok o) = Ok o
+told_answer (Err f) = Err (told_of f)
 
 -- the table that is lent: none where the answer is no recipe
 unfoldable pub table_lent : Room → Kind → Outcome → List Entry
@@ -127,8 +136,8 @@ pub record TableLent (k : Kind) (sheet : List ℕ) (es : List Entry) (m : TableR
 -- The answer is that of the rules, and every record and word that was lent is said. Ruled out: a program that lends the
 -- records of a recipe that it refuses by 20 (`ingredients`: there the table lent is empty); one that lends a reference as a
 -- definition, or to another entry (`RecordOf.relation`); one that leaves rows of the recipe in work memory (`words`).
-pub record ComponentsLeft (sheet text units : List ℕ) (flags : ℕ) (m : Room) (w : List ℕ) (is : List Component) (ips : List ℕ) (cs : List Component) (cps : List ℕ) (r : Components) : Type 0 where
-  pub answer : r ≡ answer_of m (outcome_of sheet text units flags m)
+pub record ComponentsLeft (sheet text units : List ℕ) (flags : ℕ) (m : Room) (w : List ℕ) (is : List Component) (ips : List ℕ) (cs : List Component) (cps : List ℕ) (r : Result (Option ComponentCounts) Refusal) : Type 0 where
+  pub answer : told_answer r ≡ answer_of m (outcome_of sheet text units flags m)
   pub ingredients : TableLent ingredient sheet (table_lent m ingredient (outcome_of sheet text units flags m)) m.ingredients is ips
   pub cookware : TableLent cookware sheet (table_lent m cookware (outcome_of sheet text units flags m)) m.cookware cs cps
   pub words : w ≡ work_after m.words

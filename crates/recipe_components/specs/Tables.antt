@@ -1,5 +1,5 @@
 -- What the rows of a table in work memory are to the records and pairs that are lent.
-use Rattle.std.specs.Prelude.{ℕ, ◌+◌, ◌-◌, ◌*◌, ◌≤◌, ◌<◌, ◌≡◌, List, ◌++◌, Bool, ◌&&◌, leb, length, replicate}
+use Rattle.std.specs.Prelude.{ℕ, ◌+◌, ◌-◌, ◌*◌, ◌≤◌, ◌<◌, ◌≡◌, List, ◌++◌, Bool, ◌&&◌, leb, length, replicate, Option, None, Some, Result, Ok, Err}
 use Rattle.rules.specs.Basic.{pick}
 use Rattle.rules.specs.Model.{Kind, ingredient, cookware, Entry}
 use Rattle.letters.specs.Tables.{unicode_tables}
@@ -9,21 +9,22 @@ use Rattle.model.specs.declared.Held.{Held}
 use Rattle.component_records.specs.Records.{no_component, records_in}
 use Rattle.component_records.specs.Links.{pairs_of, own_count, Linkable}
 use Rattle.component_records.specs.declared.Component.{Component}
-use Rattle.recipe_components.specs.declared.Components.{Components}
-use Rattle.recipe_components.specs.declared.Components.TheVariants.{Recipe, NoRecipe, Refused}
-use Rattle.recipe_components.specs.Components.{RecordsOf, table_pairs, TableRoom, Room, answer_of, table_lent, outcome_of}
+use Rattle.refusals.specs.declared.Reason.TheVariants.{NoRoom}
+use Rattle.refusals.specs.declared.Refusal.{Refusal}
+use Rattle.recipe_components.specs.declared.ComponentCounts.{ComponentCounts}
+use Rattle.recipe_components.specs.Components.{RecordsOf, table_pairs, TableRoom, Room, answer_of, told_answer, table_lent, outcome_of}
 
 -- ---- how many rows an answer has
 
-unfoldable pub ingredients_of : Components → ℕ
-ingredients_of (Recipe i c ip cp) = i
-ingredients_of NoRecipe = 0
-ingredients_of (Refused n l) = 0
+unfoldable pub ingredients_of : Result (Option ComponentCounts) Refusal → ℕ
+ingredients_of (Ok (Some c)) = c.ingredients
+ingredients_of (Ok None) = 0
+ingredients_of (Err f) = 0
 
-unfoldable pub cookware_of : Components → ℕ
-cookware_of (Recipe i c ip cp) = c
-cookware_of NoRecipe = 0
-cookware_of (Refused n l) = 0
+unfoldable pub cookware_of : Result (Option ComponentCounts) Refusal → ℕ
+cookware_of (Ok (Some c)) = c.cookware
+cookware_of (Ok None) = 0
+cookware_of (Err f) = 0
 
 -- ---- n rows from a word on
 
@@ -55,15 +56,24 @@ pub record OwnCounted (w : List ℕ) (from n r : ℕ) : Type 0 where
 unfoldable pub is_room_for : ℕ → ℕ → TableRoom → Bool
 is_room_for n p m = leb n m.records && leb (p * 2) m.pairs
 
--- the counts of the rows, or 20 where some of it does not fit
-unfoldable pub counts_or20 : List ℕ → Held → TableRoom → TableRoom → Components
+-- the counts of the rows
+unfoldable pub row_counts : List ℕ → Held → ComponentCounts
+row_counts w h =
+    record {
+      ingredients = h.counts.ingredients;
+      cookware = h.counts.cookware;
+      ingredient_pairs = own_count (records_in w 0 h.counts.ingredients);
+      cookware_pairs = own_count (records_in w 6156 h.counts.cookware);
+    }
+
+-- the same, or 20 where some of it does not fit
+unfoldable pub counts_or20 : List ℕ → Held → TableRoom → TableRoom → Result (Option ComponentCounts) Refusal
 counts_or20 w h i c =
     pick
     (is_room_for h.counts.ingredients (own_count (records_in w 0 h.counts.ingredients)) i
     && is_room_for h.counts.cookware (own_count (records_in w 6156 h.counts.cookware)) c)
-    (Recipe h.counts.ingredients h.counts.cookware (own_count (records_in w 0 h.counts.ingredients))
-    (own_count (records_in w 6156 h.counts.cookware)))
-    (Refused 20 0)
+    (Ok (Some (row_counts w h)))
+    (Err (record { reason = NoRoom; line = 0 }))
 
 -- ---- the rows that the pass leaves
 
@@ -73,8 +83,8 @@ pub record RowsOf (k : Kind) (sheet : List ℕ) (es : List Entry) (w : List ℕ)
   pub records : RecordsOf k sheet es (records_in w from n)
   pub pairs : pairs_of (records_in w from n) ≡ table_pairs k es
 
-pub record RowsCollected (sheet text units : List ℕ) (flags : ℕ) (m : Room) (w : List ℕ) (r : Components) : Type 0 where
-  pub answer : r ≡ answer_of m (outcome_of sheet text units flags m)
+pub record RowsCollected (sheet text units : List ℕ) (flags : ℕ) (m : Room) (w : List ℕ) (r : Result (Option ComponentCounts) Refusal) : Type 0 where
+  pub answer : told_answer r ≡ answer_of m (outcome_of sheet text units flags m)
   pub long : length w ≡ m.words
   pub ingredients : RowsOf ingredient sheet (table_lent m ingredient (outcome_of sheet text units flags m)) w 0 (ingredients_of r)
   pub cookware : RowsOf cookware sheet (table_lent m cookware (outcome_of sheet text units flags m)) w 6156 (cookware_of r)

@@ -8,37 +8,28 @@ ghost use Rattle.recipe_components.specs.Components.{ComponentsLeft};
 ghost use Rattle.recipe_components.specs.Tables.{ingredients_of, cookware_of, OwnCounted, room_for, room_of, is_room_for, counts_or20, Given, RowsCollected, Ready, Laid};
 
 use component_records::Component;
-use inputs::Inputs;
 use model::Held;
-use pass::Ran;
+use refusals::{Reason, Refusal};
 
+// How many ingredients, pieces of cookware, and pairs of each kind a recipe has.
 #[derive(Clone, Copy)]
-pub enum Components {
-    // How many ingredients, pieces of cookware, and pairs of each kind.
-    Recipe {
-        ingredients: usize,
-        cookware: usize,
-        ingredient_pairs: usize,
-        cookware_pairs: usize,
-    },
-    // An `error` line: there is no recipe.
-    NoRecipe,
-    // The number of the refusal, and of the line.
-    Refused(u32, u32),
+pub struct ComponentCounts {
+    pub ingredients: usize,
+    pub cookware: usize,
+    pub ingredient_pairs: usize,
+    pub cookware_pairs: usize,
 }
+
+// The counts of a recipe; `None`: an `error` line, there is no recipe; or a refusal.
+pub type Components = Result<Option<ComponentCounts>, Refusal>;
 
 fn ingredients_of(r: Components) -> usize
     ensures { result ≡ ingredients_of r }
 {
     match r {
-        Components::Recipe {
-            ingredients,
-            cookware,
-            ingredient_pairs,
-            cookware_pairs,
-        } => ingredients,
-        Components::NoRecipe => 0,
-        Components::Refused(n, l) => 0,
+        Ok(Some(c)) => c.ingredients,
+        Ok(None) => 0,
+        Err(_) => 0,
     }
 }
 
@@ -46,14 +37,9 @@ fn cookware_of(r: Components) -> usize
     ensures { result ≡ cookware_of r }
 {
     match r {
-        Components::Recipe {
-            ingredients,
-            cookware,
-            ingredient_pairs,
-            cookware_pairs,
-        } => cookware,
-        Components::NoRecipe => 0,
-        Components::Refused(n, l) => 0,
+        Ok(Some(c)) => c.cookware,
+        Ok(None) => 0,
+        Err(_) => 0,
     }
 }
 
@@ -112,16 +98,18 @@ fn recipe_counts(
     let c = own_references(words, 6156, h.counts.cookware);
     if table_fits(h.counts.ingredients, i, ingredients, ingredient_pairs) {
         if table_fits(h.counts.cookware, c, cookware, cookware_pairs) {
-            return Components::Recipe {
+            return Ok(Some(ComponentCounts {
                 ingredients: h.counts.ingredients,
                 cookware: h.counts.cookware,
                 ingredient_pairs: i,
                 cookware_pairs: c,
-            };
+            }));
         }
-        return Components::Refused(20, 0);
     }
-    Components::Refused(20, 0)
+    Err(Refusal {
+        reason: Reason::NoRoom,
+        line: 0,
+    })
 }
 
 // The pass; its rows stay in the words.
@@ -141,8 +129,8 @@ fn pass_rows(
     requires { Given t.now sheet.now text.now units.now index.now flags (room_of (length words.old) ingredients ingredient_pairs cookware cookware_pairs) }
     ensures { RowsCollected sheet.now text.now units.now flags (room_of (length words.old) ingredients ingredient_pairs cookware cookware_pairs) words.new result }
 {
-    match pass::run(t, sheet, text, units, index, flags, words) {
-        Ran::Recipe(h) => recipe_counts(
+    match pass::run(t, sheet, text, units, index, flags, words)? {
+        Some(h) => recipe_counts(
             words,
             h,
             ingredients,
@@ -150,8 +138,7 @@ fn pass_rows(
             cookware,
             cookware_pairs,
         ),
-        Ran::Failed => Components::NoRecipe,
-        Ran::Refused(n, l) => Components::Refused(n, l),
+        None => Ok(None),
     }
 }
 
@@ -170,7 +157,7 @@ fn collect_rows(
     ensures { RowsCollected sheet.now text.now units.now flags (room_of (length words.old) ingredients ingredient_pairs cookware cookware_pairs) words.new result }
 {
     let mut index = [0u32; 2305];
-    match inputs::check_inputs(
+    inputs::check_inputs(
         sheet,
         text,
         units,
@@ -178,25 +165,21 @@ fn collect_rows(
         flags,
         words.len(),
         inputs::BYTES,
-    ) {
-        Inputs::Refused(n, l) => Components::Refused(n, l),
-        Inputs::Good => {
-            let t = letters::unicode_tables();
-            pass_rows(
-                &t,
-                sheet,
-                text,
-                units,
-                &index,
-                flags,
-                words,
-                ingredients,
-                ingredient_pairs,
-                cookware,
-                cookware_pairs,
-            )
-        }
-    }
+    )?;
+    let t = letters::unicode_tables();
+    pass_rows(
+        &t,
+        sheet,
+        text,
+        units,
+        &index,
+        flags,
+        words,
+        ingredients,
+        ingredient_pairs,
+        cookware,
+        cookware_pairs,
+    )
 }
 
 // ---- records

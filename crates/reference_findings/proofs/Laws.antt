@@ -3,48 +3,39 @@ use Prim.Native.Nat.{ℕ, ◌+◌, ◌<◌}
 use mathlib.Core.Path.{◌≡◌, refl, ap, sym, ◌∙◌}
 use mathlib.Core.Bool.{Bool, true, false, ◌&&◌, not}
 use mathlib.Core.List.{List, [], ◌∷◌, ◌++◌}
-use mathlib.Core.Option.{Option, none, some}
+use Rattle.std.specs.Prelude.{Option, None, Some}
+use Rattle.std.specs.Option as option
 use Rattle.rules.proofs.Basics.{no_some, some_inj}
 use Rattle.rules.specs.Basic.{pick, is_some, on_some, when}
 use Rattle.rules.specs.Event as rules
 use Rattle.rules.specs.Finding.{Finding, diag, found}
 use Rattle.rules.specs.Modes.{is_steps, is_reference}
+use Rattle.rules.specs.Model as model
 use Rattle.rules.specs.Model.{Entry, definition, both, any_beyond, with_ref, inherits}
 use Rattle.rules.specs.Reference.{Earlier, is_explicit, treat_as_reference, redundant_new, redundant_ref, conflict_or_missing, reference_findings}
 use Rattle.parts.specs.Views.{span_in}
 use Rattle.parts.specs.declared.Span.{Span}
 use Rattle.components.specs.Views.{modifiers_in}
 use Rattle.components.specs.declared.Modifiers.{Modifiers}
-use Rattle.model.specs.Memory.{Sound, define_of, duplicate_of}
-use Rattle.model.specs.declared.Define.{Define}
-use Rattle.model.specs.declared.Duplicate.{Duplicate}
+use Rattle.model.specs.Memory.{Sound}
+use Rattle.sheet.specs.declared.Define.{Define}
+use Rattle.sheet.specs.declared.Duplicate.{Duplicate}
 use Rattle.model.specs.declared.Held.{Held}
 use Rattle.checks.specs.Reports.{Reported, nothing}
 use Rattle.checks.proofs.Reports.{reported_seq, reported_sound}
 use Rattle.checks.proofs.Laws.{none_found, said, when_room}
-use Rattle.lookup.specs.Names.{kind_of}
 use Rattle.lookup.specs.References.{modes_of, TreatedAs}
-use Rattle.reference_findings.specs.declared.Old.{Old}
-use Rattle.reference_findings.specs.declared.Old.TheVariants.{Of, Nothing}
-use Rattle.reference_findings.specs.Reports.{old_in, hands_down, SameAs, NewAs, RedundantNew, RedundantRef, ConflictOrMissing, ReferenceReported}
+use Rattle.lookup.proofs.References.{found_in, some_on}
+use Rattle.reference_findings.specs.Reports.{hands_down, SameAs, NewAs, RedundantNew, RedundantRef, ConflictOrMissing, ReferenceReported}
+use Rattle.sheet.specs.Words.{define_of, duplicate_of}
+use Rattle.model.specs.Kinds.{kind_of}
+use Rattle.model.specs.declared.Kind.{Kind}
+use Rattle.model.specs.declared.Kind.TheVariants.{Ingredient, Cookware}
 
 -- ---- the definition
 
-pub there_of : (o : Old) (m : Modifiers) → o ≡ Of m → true ≡ is_some (old_in o)
-unfolding is_some old_in
-there_of o m e = rw e
-
-pub there_nothing : (o : Old) → o ≡ Nothing → false ≡ is_some (old_in o)
-unfolding is_some old_in
-there_nothing o e = rw e
-
-some_on : {A B : Type 0} (f : A → B) (o : Option A) → is_some (on_some f o) ≡ is_some o
-unfolding is_some on_some
-some_on f none = refl
-some_on f (some a) = refl
-
-pub same_found : {same : Option Earlier} {old : Old} {b : Bool} → SameAs same old → b ≡ is_some (old_in old) → is_some same ≡ b
-same_found {same} s e = sym (some_on hands_down same) ∙ ap is_some s.is ∙ sym e
+pub same_found : {same : Option Earlier} {old : Option Modifiers} {b : Bool} → SameAs same old → b ≡ option.is_some old → is_some same ≡ b
+same_found {same} {old} s e = sym (some_on hands_down same) ∙ ap is_some s.is ∙ some_on modifiers_in old ∙ sym (found_in old) ∙ sym e
 
 -- ---- modifiers
 
@@ -56,20 +47,14 @@ and_true : (b : Bool) → (b && true) ≡ b
 and_true true = refl
 and_true false = refl
 
-module _ (i : Bool) (d : Modifiers) where
-  pub handed_ingredient : i ≡ true → modifiers_in (record { recipe = d.recipe; reference = false; hidden = d.hidden; opt = d.opt; new = false }) ≡ both (modifiers_in d) (inherits (kind_of i))
+module _ {k : Kind} {r : Bool} (d : Modifiers) where
+  pub handed_ingredient : k ≡ Ingredient → r ≡ d.recipe → modifiers_in (record { recipe = r; reference = false; hidden = d.hidden; opt = d.opt; new = false }) ≡ both (modifiers_in d) (inherits (kind_of k))
   unfolding modifiers_in both inherits
-  handed_ingredient e = rw (e, and_true d.recipe, and_false d.reference, and_true d.hidden, and_true d.opt, and_false d.new)
+  handed_ingredient e f = rw (e, f, and_true d.recipe, and_false d.reference, and_true d.hidden, and_true d.opt, and_false d.new)
 
-  pub handed_cookware : i ≡ false → modifiers_in (record { recipe = false; reference = false; hidden = d.hidden; opt = d.opt; new = false }) ≡ both (modifiers_in d) (inherits (kind_of i))
+  pub handed_cookware : k ≡ Cookware → r ≡ false → modifiers_in (record { recipe = r; reference = false; hidden = d.hidden; opt = d.opt; new = false }) ≡ both (modifiers_in d) (inherits (kind_of k))
   unfolding modifiers_in both inherits
-  handed_cookware e = rw (e, and_false d.recipe, and_false d.reference, and_true d.hidden, and_true d.opt, and_false d.new)
-
-pub beyond_not : (a b : Bool) → a ≡ true → not b ≡ (a && not b)
-beyond_not a b e = rw e
-
-pub beyond_none : (a b : Bool) → a ≡ false → false ≡ (a && not b)
-beyond_none a b e = rw e
+  handed_cookware e f = rw (e, f, and_false d.recipe, and_false d.reference, and_true d.hidden, and_true d.opt, and_false d.new)
 
 module _ (a b : Modifiers) {p : Bool} where
   pub beyond_recipe : p ≡ (a.recipe && not b.recipe) → p ≡ true → true ≡ any_beyond (modifiers_in a) (with_ref (modifiers_in b))
@@ -134,36 +119,36 @@ when_true : (b : Bool) (f : Finding) → b ≡ true → when b f ≡ f ∷ []
 unfolding when
 when_true b f e = rw e
 
-old_of : {old : Old} (d : Modifiers) → old ≡ Of d → old_in old ≡ some (modifiers_in d)
-unfolding old_in
+old_of : {old : Option Modifiers} (d : Modifiers) → old ≡ Some d → on_some modifiers_in old ≡ Some (modifiers_in d)
+unfolding on_some
 old_of d o = rw o
 
-by_missing : (same : Option Earlier) → on_some hands_down same ≡ none → same ≡ none
+by_missing : (same : Option Earlier) → on_some hands_down same ≡ None → same ≡ None
 unfolding on_some
-by_missing none e = refl
-by_missing (some d) e = no_some (sym e)
+by_missing None e = refl
+by_missing (Some d) e = no_some (sym e)
 
-handed : (i : Bool) {m : Modifiers} {span at : Span} (d b : Modifiers) → modifiers_in b ≡ both (modifiers_in d) (inherits (kind_of i)) → {y : Bool} → y ≡ any_beyond (modifiers_in m) (with_ref (modifiers_in b))
-    → (define : Define) (duplicate : Duplicate) (e : Entry) (same : Option Earlier) → NewAs e m span at → on_some hands_down same ≡ some (modifiers_in d)
-    → conflict_or_missing (modes_of define duplicate) e (inherits (kind_of i)) same ≡ when y (diag 13 (span_in at ∷ []) (not m.reference))
+handed : (i : model.Kind) {m : Modifiers} {span at : Span} (d b : Modifiers) → modifiers_in b ≡ both (modifiers_in d) (inherits i) → {y : Bool} → y ≡ any_beyond (modifiers_in m) (with_ref (modifiers_in b))
+    → (define : Define) (duplicate : Duplicate) (e : Entry) (same : Option Earlier) → NewAs e m span at → on_some hands_down same ≡ Some (modifiers_in d)
+    → conflict_or_missing (modes_of define duplicate) e (inherits i) same ≡ when y (diag 13 (span_in at ∷ []) (not m.reference))
 unfolding conflict_or_missing is_explicit on_some hands_down
-handed i d b eb ey define duplicate e none en z = no_some z
-handed i d b eb ey define duplicate e (some x) en z =
+handed i d b eb ey define duplicate e None en z = no_some z
+handed i d b eb ey define duplicate e (Some x) en z =
     let inner : x.entry.modifiers ≡ modifiers_in d = some_inj z in
     rw (inner, en.is_at, en.is_modifiers, ← eb, ← ey) (unfold modifiers_in in refl)
 
-module _ {i : Bool} {m : Modifiers} {span at : Span} {old : Old} {w₀ : List ℕ} {h₀ : Held} where
-  pub missing : {w : List ℕ} {h : Held} → old ≡ Nothing → Reported (diag 14 (span_in span ∷ []) (not m.reference) ∷ []) w₀ h₀ w h → ConflictOrMissing i m span at old w₀ h₀ w h
+module _ {i : model.Kind} {m : Modifiers} {span at : Span} {old : Option Modifiers} {w₀ : List ℕ} {h₀ : Held} where
+  pub missing : {w : List ℕ} {h : Held} → old ≡ None → Reported (diag 14 (span_in span ∷ []) (not m.reference) ∷ []) w₀ h₀ w h → ConflictOrMissing i m span at old w₀ h₀ w h
   missing o r = record { is = λ define duplicate e same en es. said (by define duplicate e same en (by_missing same (es.is ∙ empty))) r }
     where
-      empty : old_in old ≡ none
-      empty = unfold old_in in rw o
+      empty : on_some modifiers_in old ≡ None
+      empty = unfold on_some in rw o
 
-      by : (define : Define) (duplicate : Duplicate) (e : Entry) (same : Option Earlier) → NewAs e m span at → same ≡ none
-          → conflict_or_missing (modes_of define duplicate) e (inherits (kind_of i)) same ≡ diag 14 (span_in span ∷ []) (not m.reference) ∷ []
+      by : (define : Define) (duplicate : Duplicate) (e : Entry) (same : Option Earlier) → NewAs e m span at → same ≡ None
+          → conflict_or_missing (modes_of define duplicate) e (inherits i) same ≡ diag 14 (span_in span ∷ []) (not m.reference) ∷ []
       by define duplicate e same en z = unfold conflict_or_missing is_explicit modifiers_in in rw (z, en.is_span, en.is_modifiers)
 
-  module _ (d b : Modifiers) (o : old ≡ Of d) (eb : modifiers_in b ≡ both (modifiers_in d) (inherits (kind_of i))) {y : Bool} (ey : y ≡ any_beyond (modifiers_in m) (with_ref (modifiers_in b))) where
+  module _ (d b : Modifiers) (o : old ≡ Some d) (eb : modifiers_in b ≡ both (modifiers_in d) (inherits i)) {y : Bool} (ey : y ≡ any_beyond (modifiers_in m) (with_ref (modifiers_in b))) where
     pub conflicts : {w : List ℕ} {h : Held} → y ≡ true → Reported (diag 13 (span_in at ∷ []) (not m.reference) ∷ []) w₀ h₀ w h → ConflictOrMissing i m span at old w₀ h₀ w h
     conflicts t r = record { is = λ define duplicate e same en es. said (handed i d b eb ey define duplicate e same en (es.is ∙ old_of d o) ∙ when_true _ _ t) r }
 
@@ -178,23 +163,23 @@ ref_of n = unfold modifiers_in in ap (λ (z : rules.Modifiers). z.ref) n.is_modi
 new_of : {e : Entry} {m : Modifiers} {span at : Span} → NewAs e m span at → e.modifiers.new ≡ m.new
 new_of n = unfold modifiers_in in ap (λ (z : rules.Modifiers). z.new) n.is_modifiers
 
-first : (i : Bool) {m : Modifiers} {span at : Span} {old : Old} (define : Define) (duplicate : Duplicate) {is_found : Bool} → is_found ≡ is_some (old_in old) → m.new ≡ false
+first : (i : model.Kind) {m : Modifiers} {span at : Span} {old : Option Modifiers} (define : Define) (duplicate : Duplicate) {is_found : Bool} → is_found ≡ option.is_some old → m.new ≡ false
     → {y : Bool} → TreatedAs define duplicate m.reference is_found y → (e : Entry) (same : Option Earlier) → NewAs e m span at → SameAs same old
-    → reference_findings (modes_of define duplicate) e (inherits (kind_of i)) same
-    ≡ redundant_ref (modes_of define duplicate) e ++ pick y (conflict_or_missing (modes_of define duplicate) e (inherits (kind_of i)) same) []
+    → reference_findings (modes_of define duplicate) e (inherits i) same
+    ≡ redundant_ref (modes_of define duplicate) e ++ pick y (conflict_or_missing (modes_of define duplicate) e (inherits i) same) []
 first i define duplicate ef n z e same en es =
-    opened ∙ ap (λ (b : Bool). redundant_ref (modes_of define duplicate) e ++ pick b (conflict_or_missing (modes_of define duplicate) e (inherits (kind_of i)) same) []) (sym (z.is e same (ref_of en) (same_found es ef)))
+    opened ∙ ap (λ (b : Bool). redundant_ref (modes_of define duplicate) e ++ pick b (conflict_or_missing (modes_of define duplicate) e (inherits i) same) []) (sym (z.is e same (ref_of en) (same_found es ef)))
   where
-    opened : reference_findings (modes_of define duplicate) e (inherits (kind_of i)) same
-        ≡ redundant_ref (modes_of define duplicate) e ++ pick (treat_as_reference (modes_of define duplicate) e same) (conflict_or_missing (modes_of define duplicate) e (inherits (kind_of i)) same) []
+    opened : reference_findings (modes_of define duplicate) e (inherits i) same
+        ≡ redundant_ref (modes_of define duplicate) e ++ pick (treat_as_reference (modes_of define duplicate) e same) (conflict_or_missing (modes_of define duplicate) e (inherits i) same) []
     opened = unfold reference_findings in rw (new_of en, n)
 
-module _ {i : Bool} {m : Modifiers} {span at : Span} {old : Old} {w₀ : List ℕ} {h₀ : Held} where
+module _ {i : model.Kind} {m : Modifiers} {span at : Span} {old : Option Modifiers} {w₀ : List ℕ} {h₀ : Held} where
   pub new_with_ref : {w : List ℕ} {h : Held} → m.new ≡ true → m.reference ≡ true → Reported (found 10 (span_in at) ∷ []) w₀ h₀ w h → ReferenceReported i m span at old w₀ h₀ w h
   unfolding reference_findings is_explicit
   new_with_ref n t r = record { is = λ e same en es. said (rw (new_of en, n, ref_of en, t, en.is_at)) r }
 
-  module _ {is_found : Bool} (ef : is_found ≡ is_some (old_in old)) where
+  module _ {is_found : Bool} (ef : is_found ≡ option.is_some old) where
     pub new_alone : {w : List ℕ} {h : Held} → m.new ≡ true → m.reference ≡ false → RedundantNew h₀.define h₀.duplicate is_found at w₀ h₀ w h → ReferenceReported i m span at old w₀ h₀ w h
     unfolding reference_findings is_explicit
     new_alone n t r = record { is = λ e same en es. said (rw (new_of en, n, ref_of en, t)) (r.is e same en.is_at (same_found es ef)) }
@@ -211,13 +196,13 @@ some_entry : Bool → Span → Entry
 some_entry x at =
     record {
       name = [];
-      path = none;
-      alias = none;
-      quantity = none;
-      note = none;
+      path = None;
+      alias = None;
+      quantity = None;
+      note = None;
       modifiers = record { recipe = false; ref = x; hidden = false; opt = false; new = false };
       relation = definition false [];
-      source = record { span = span_in at; quantity = none; note = none; modifiers_span = span_in at };
+      source = record { span = span_in at; quantity = None; note = None; modifiers_span = span_in at };
     }
 
 module _ {define : Define} {duplicate : Duplicate} {x : Bool} {at : Span} {w₀ w : List ℕ} {h₀ h : Held} (r : RedundantRef define duplicate x at w₀ h₀ w h) where

@@ -1,33 +1,25 @@
 -- What the findings 10 to 14 of a new component leave in work memory.
-use Rattle.std.specs.Prelude.{ℕ, ◌≡◌, Bool, List}
-use Rattle.std.proofs.Math.Option.{Option, none, some}
+use Rattle.std.specs.Prelude.{ℕ, ◌≡◌, Bool, List, Option}
 use Rattle.rules.specs.Basic.{is_some, on_some}
 use Rattle.rules.specs.Event as rules
-use Rattle.rules.specs.Model.{Entry, inherits}
+use Rattle.rules.specs.Model.{Kind, Entry, inherits}
 use Rattle.rules.specs.Reference.{Earlier, redundant_new, redundant_ref, conflict_or_missing, reference_findings}
 use Rattle.parts.specs.Views.{span_in}
 use Rattle.parts.specs.declared.Span.{Span}
 use Rattle.components.specs.Views.{modifiers_in}
 use Rattle.components.specs.declared.Modifiers.{Modifiers}
-use Rattle.model.specs.declared.Define.{Define}
-use Rattle.model.specs.declared.Duplicate.{Duplicate}
+use Rattle.sheet.specs.declared.Define.{Define}
+use Rattle.sheet.specs.declared.Duplicate.{Duplicate}
 use Rattle.model.specs.declared.Held.{Held}
 use Rattle.checks.specs.Reports.{Reported}
-use Rattle.lookup.specs.Names.{kind_of}
 use Rattle.lookup.specs.References.{modes_of}
-use Rattle.reference_findings.specs.declared.Old.{Old}
-use Rattle.reference_findings.specs.declared.Old.TheVariants.{Of, Nothing}
-
-unfoldable pub old_in : Old → Option rules.Modifiers
-old_in (Of m) = some (modifiers_in m)
-old_in Nothing = none
 
 -- the modifiers of what the search found
 unfoldable pub hands_down : Earlier → rules.Modifiers
 hands_down d = d.entry.modifiers
 
-pub record SameAs (same : Option Earlier) (old : Old) : Type 0 where
-  pub is : on_some hands_down same ≡ old_in old
+pub record SameAs (same : Option Earlier) (old : Option Modifiers) : Type 0 where
+  pub is : on_some hands_down same ≡ on_some modifiers_in old
 
 -- a new entry with the modifiers and spans
 pub record NewAs (e : Entry) (m : Modifiers) (span at : Span) : Type 0 where
@@ -44,11 +36,11 @@ pub record RedundantRef (define : Define) (duplicate : Duplicate) (explicit : Bo
   pub is : (e : Entry) → e.source.modifiers_span ≡ span_in at → e.modifiers.ref ≡ explicit → Reported (redundant_ref (modes_of define duplicate) e) w₀ h₀ w h
 
 -- 13 and 14; the modes do not matter
-pub record ConflictOrMissing (is_ingredient : Bool) (m : Modifiers) (span at : Span) (old : Old) (w₀ : List ℕ) (h₀ : Held) (w : List ℕ) (h : Held) : Type 0 where
+pub record ConflictOrMissing (k : Kind) (m : Modifiers) (span at : Span) (old : Option Modifiers) (w₀ : List ℕ) (h₀ : Held) (w : List ℕ) (h : Held) : Type 0 where
   pub is : (define : Define) (duplicate : Duplicate) (e : Entry) (same : Option Earlier) → NewAs e m span at → SameAs same old
-      → Reported (conflict_or_missing (modes_of define duplicate) e (inherits (kind_of is_ingredient)) same) w₀ h₀ w h
+      → Reported (conflict_or_missing (modes_of define duplicate) e (inherits k) same) w₀ h₀ w h
 
 -- 10 to 14
-pub record ReferenceReported (is_ingredient : Bool) (m : Modifiers) (span at : Span) (old : Old) (w₀ : List ℕ) (h₀ : Held) (w : List ℕ) (h : Held) : Type 0 where
+pub record ReferenceReported (k : Kind) (m : Modifiers) (span at : Span) (old : Option Modifiers) (w₀ : List ℕ) (h₀ : Held) (w : List ℕ) (h : Held) : Type 0 where
   pub is : (e : Entry) (same : Option Earlier) → NewAs e m span at → SameAs same old
-      → Reported (reference_findings (modes_of h₀.define h₀.duplicate) e (inherits (kind_of is_ingredient)) same) w₀ h₀ w h
+      → Reported (reference_findings (modes_of h₀.define h₀.duplicate) e (inherits k) same) w₀ h₀ w h

@@ -3,26 +3,19 @@
 #![tactic(auto)]
 
 ghost use Rattle.std.specs.Prelude.{◌≡◌, ◌&&◌, not, [], ◌∷◌, ◌+◌, ◌<◌};
-ghost use Rattle.rules.specs.Basic.{is_some};
 ghost use Rattle.rules.specs.Finding.{diag};
 ghost use Rattle.rules.specs.Model.{both, any_beyond, with_ref, inherits};
 ghost use Rattle.parts.specs.Views.{span_in};
 ghost use Rattle.components.specs.Views.{modifiers_in};
 ghost use Rattle.model.specs.Memory.{Sound};
 ghost use Rattle.checks.specs.Reports.{Reported};
-ghost use Rattle.lookup.specs.Names.{kind_of};
-ghost use Rattle.reference_findings.specs.Reports.{old_in, RedundantNew, RedundantRef, ConflictOrMissing, ReferenceReported};
+ghost use Rattle.reference_findings.specs.Reports.{RedundantNew, RedundantRef, ConflictOrMissing, ReferenceReported};
+ghost use Rattle.model.specs.Kinds.{kind_of};
 
 use components::Modifiers;
-use model::{Define, Duplicate, Held};
+use model::{Held, Kind};
 use parts::Span;
-
-// The modifiers of the definition that the search found.
-#[derive(Clone, Copy)]
-pub enum Old {
-    Of(Modifiers),
-    Nothing,
-}
+use sheet::{Define, Duplicate};
 
 // A finding with one span.
 pub fn push_one(words: &mut [u32], h: Held, code: u32, s: Span, implicit: bool) -> Held
@@ -33,38 +26,21 @@ pub fn push_one(words: &mut [u32], h: Held, code: u32, s: Span, implicit: bool) 
     memory::push_finding(words, h, x)
 }
 
-fn is_there(old: Old) -> bool
-    ensures { result ≡ is_some (old_in old) }
-{
-    match old {
-        Old::Of(_) => true,
-        Old::Nothing => false,
-    }
-}
-
 // ---- modifiers
 
 // The modifiers that a definition hands down.
-pub fn handed_down(is_ingredient: bool, d: Modifiers) -> Modifiers
-    ensures { modifiers_in result ≡ both (modifiers_in d) (inherits (kind_of is_ingredient)) }
+pub fn handed_down(kind: Kind, d: Modifiers) -> Modifiers
+    ensures { modifiers_in result ≡ both (modifiers_in d) (inherits (kind_of kind)) }
 {
-    let hidden = d.hidden;
-    let opt = d.opt;
-    if is_ingredient {
-        let recipe = d.recipe;
-        return Modifiers {
-            recipe,
-            reference: false,
-            hidden,
-            opt,
-            new: false,
-        };
-    }
+    let recipe = match kind {
+        Kind::Ingredient => d.recipe,
+        Kind::Cookware => false,
+    };
     Modifiers {
-        recipe: false,
+        recipe,
         reference: false,
-        hidden,
-        opt,
+        hidden: d.hidden,
+        opt: d.opt,
         new: false,
     }
 }
@@ -72,10 +48,7 @@ pub fn handed_down(is_ingredient: bool, d: Modifiers) -> Modifiers
 fn beyond(a: bool, b: bool) -> bool
     ensures { result ≡ (a && not b) }
 {
-    if a {
-        return !b;
-    }
-    false
+    a && !b
 }
 
 // Whether some of `a` but REF is not in `b`.
@@ -148,20 +121,20 @@ fn redundant_ref(
 fn conflict_or_missing(
     words: &mut [u32],
     h: Held,
-    is_ingredient: bool,
+    kind: Kind,
     m: Modifiers,
     span: Span,
     at: Span,
-    old: Old,
+    old: Option<Modifiers>,
 ) -> Held
     requires { Sound words.old h × (h.counts.findings < 1544) }
-    ensures { ConflictOrMissing is_ingredient m span at old words.old h words.new result }
+    ensures { ConflictOrMissing (kind_of kind) m span at old words.old h words.new result }
 {
     let implicit = !m.reference;
     match old {
-        Old::Nothing => push_one(words, h, 14, span, implicit),
-        Old::Of(d) => {
-            let b = handed_down(is_ingredient, d);
+        None => push_one(words, h, 14, span, implicit),
+        Some(d) => {
+            let b = handed_down(kind, d);
             if any_beyond(m, b) {
                 return push_one(words, h, 13, at, implicit);
             }
@@ -174,18 +147,18 @@ fn conflict_or_missing(
 pub fn reference_findings(
     words: &mut [u32],
     h: Held,
-    is_ingredient: bool,
+    kind: Kind,
     m: Modifiers,
     span: Span,
     at: Span,
-    old: Old,
+    old: Option<Modifiers>,
 ) -> Held
     requires { Sound words.old h × (h.counts.findings + 1 < 1544) }
-    ensures { ReferenceReported is_ingredient m span at old words.old h words.new result }
+    ensures { ReferenceReported (kind_of kind) m span at old words.old h words.new result }
 {
     let define = h.define;
     let duplicate = h.duplicate;
-    let is_found = is_there(old);
+    let is_found = old.is_some();
     let explicit = m.reference;
     if m.new {
         if explicit {
@@ -195,7 +168,7 @@ pub fn reference_findings(
     }
     let k = redundant_ref(words, h, define, duplicate, explicit, at);
     if lookup::treat_as_reference(define, duplicate, explicit, is_found) {
-        return conflict_or_missing(words, k, is_ingredient, m, span, at, old);
+        return conflict_or_missing(words, k, kind, m, span, at, old);
     }
     k
 }

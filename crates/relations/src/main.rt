@@ -9,19 +9,18 @@ ghost use Rattle.unit_index.specs.Index.{Indexed};
 ghost use Rattle.inputs.specs.Inputs.{GoodInputs};
 ghost use Rattle.model.specs.Memory.{Sound};
 
-use inputs::Inputs;
-use model::{Held, RelationRecord};
-use pass::Ran;
+use model::{Held, Kind, RelationRecord};
+use refusals::Refusal;
 use std::io;
-use stored_cases::{Case, Stored, part};
+use stored_cases::{Case, part};
 
 // ---- components
 
-fn put_word(out: &mut [u8], is_ingredient: bool) -> usize {
-    if is_ingredient {
-        return output::put_bytes(out, 0, b"ingredient");
+fn put_word(out: &mut [u8], kind: Kind) -> usize {
+    match kind {
+        Kind::Ingredient => output::put_bytes(out, 0, b"ingredient"),
+        Kind::Cookware => output::put_bytes(out, 0, b"cookware"),
     }
-    output::put_bytes(out, 0, b"cookware")
 }
 
 // Its kind, index and relation as a line.
@@ -31,14 +30,14 @@ fn show_component(
     m: usize,
     r: RelationRecord,
     index: u32,
-    is_ingredient: bool,
+    kind: Kind,
 ) -> io::Result<()>
     requires { (m ≤ 513) × (m * 2 ≤ length pairs.now) }
 {
     let mut out = host::buffer();
-    let a = put_word(&mut out, is_ingredient);
+    let a = put_word(&mut out, kind);
     let b = output::put_number(&mut out, a, index);
-    let c = entry_lines::put_relation(&mut out, b, pairs, m, r, index, is_ingredient);
+    let c = entry_lines::put_relation(&mut out, b, pairs, m, r, index, kind);
     let n = output::put_byte(&mut out, c, b'\n');
     rt.write_all(part(&out, 0, n))
 }
@@ -49,7 +48,7 @@ fn show_components(
     n: usize,
     pairs: &[u32],
     m: usize,
-    is_ingredient: bool,
+    kind: Kind,
 ) -> io::Result<()>
     requires { (n ≤ 513) × (n * 12 ≤ length rows.now) × (m ≤ 513) × (m * 2 ≤ length pairs.now) }
 {
@@ -57,7 +56,7 @@ fn show_components(
     while i < n {
         let row = model::row_at(rows, i);
         let relation = row.relation;
-        show_component(rt, pairs, m, relation, i as u32, is_ingredient)?;
+        show_component(rt, pairs, m, relation, i as u32, kind)?;
         i += 1;
     }
     Ok(())
@@ -72,7 +71,7 @@ fn show_both(rt: &impl Print, words: &[u32], h: Held) -> io::Result<()>
         h.counts.ingredients,
         &words[9240..10266],
         h.counts.ingredient_pairs,
-        true,
+        Kind::Ingredient,
     )?;
     show_components(
         rt,
@@ -80,7 +79,7 @@ fn show_both(rt: &impl Print, words: &[u32], h: Held) -> io::Result<()>
         h.counts.cookware,
         &words[10266..10780],
         h.counts.cookware_pairs,
-        false,
+        Kind::Cookware,
     )
 }
 
@@ -116,9 +115,9 @@ fn show_counts(rt: &impl Print, h: Held) -> io::Result<()>
     rt.write_all(b"\n")
 }
 
-fn show_refusal(rt: &impl Print, number: u32, line: u32) -> io::Result<()> {
+fn show_refusal(rt: &impl Print, f: Refusal) -> io::Result<()> {
     let mut out = host::buffer();
-    let n = output::write_refusal(&mut out, number, line);
+    let n = output::write_refusal(&mut out, f.reason.number(), f.line);
     rt.write_all(part(&out, 0, n))
 }
 
@@ -137,12 +136,12 @@ fn run(
     requires { (t.now ≡ unicode_tables) × GoodInputs sheet.now text.now units.now flags (length words.old) 65536 × Indexed units.now index.now }
 {
     match pass::run(t, sheet, text, units, index, flags, words) {
-        Ran::Recipe(h) => {
+        Ok(Some(h)) => {
             show_counts(rt, h)?;
             show_both(rt, words, h)
         }
-        Ran::Failed => rt.write_all(b"no recipe\n"),
-        Ran::Refused(n, l) => show_refusal(rt, n, l),
+        Ok(None) => rt.write_all(b"no recipe\n"),
+        Err(f) => show_refusal(rt, f),
     }
 }
 
@@ -167,8 +166,8 @@ fn check_and_run(
         words.len(),
         inputs::BYTES,
     ) {
-        Inputs::Refused(n, l) => show_refusal(rt, n, l),
-        Inputs::Good => run(rt, t, sheet, text, units, &index, flags, words),
+        Err(f) => show_refusal(rt, f),
+        Ok(()) => run(rt, t, sheet, text, units, &index, flags, words),
     }
 }
 
@@ -190,7 +189,7 @@ fn relate_all(rt: &impl Print, t: &[u32], s: &[u8], words: &mut [u32]) -> io::Re
 {
     let mut at = 0;
     while at < s.len() {
-        let Stored::At(c) = stored_cases::case_at(s, at) else {
+        let Some(c) = stored_cases::case_at(s, at) else {
             return Ok(());
         };
         relate(rt, t, s, c, words)?;

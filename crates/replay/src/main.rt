@@ -7,9 +7,10 @@
 ghost use Rattle.std.specs.Prelude.{◌≡◌, length};
 
 use recipe::Answer;
+use refusals::Refusal;
 use std::io;
 use std::rt::Files;
-use stored_cases::{Case, Stored, part, show, starts};
+use stored_cases::{Case, part, show, starts};
 
 // Places in a list of counts: all pages or forms, refused by 1 to 24, pages without a recipe, forms other than the sheet, all
 // cases, those that differ.
@@ -22,10 +23,6 @@ const CHANGED: usize = 26;
 const CASES: usize = 27;
 
 const DIFFERENT: usize = 28;
-
-fn long(n: u32) -> usize {
-    n as usize
-}
 
 fn add(counts: &mut [u64; 29], i: usize) {
     if i < 29 {
@@ -70,8 +67,8 @@ fn zero_bytes(s: &[u8]) -> bool {
 // How many bytes of the output an answer hands out.
 fn used(r: Answer) -> usize {
     match r {
-        Answer::Page(n) => n,
-        Answer::Refused(n, l) => 0,
+        Ok(n) => n,
+        Err(_) => 0,
     }
 }
 
@@ -90,16 +87,16 @@ fn is_cleared(r: Answer, words: &[u32], bytes: &[u8], out: &[u8]) -> bool {
 
 // ---- a case
 
-fn is_refusal(number: u32, line: u32, stored: &[u8]) -> bool {
+fn is_refusal(f: Refusal, stored: &[u8]) -> bool {
     let mut out = host::buffer();
-    let n = output::write_refusal(&mut out, number, line);
+    let n = output::write_refusal(&mut out, f.reason.number(), f.line);
     sheet::same_bytes(part(&out, 0, n), stored)
 }
 
 fn is_stored(r: Answer, out: &[u8], stored: &[u8]) -> bool {
     match r {
-        Answer::Page(n) => sheet::same_bytes(part(out, 0, n), stored),
-        Answer::Refused(n, l) => is_refusal(n, l, stored),
+        Ok(n) => sheet::same_bytes(part(out, 0, n), stored),
+        Err(f) => is_refusal(f, stored),
     }
 }
 
@@ -117,25 +114,21 @@ fn count_form(form: &[u8], sheet: &[u8], counts: &mut [u64; 29]) {
     }
 }
 
-fn count_refused(number: u32, counts: &mut [u64; 29]) {
-    if 1 <= number {
-        if number <= 24 {
-            add(counts, long(number));
-        }
-    }
+fn count_refused(f: Refusal, counts: &mut [u64; 29]) {
+    add(counts, f.reason.number() as usize);
 }
 
 fn count_answer(plain: bool, r: Answer, sheet: &[u8], out: &[u8], counts: &mut [u64; 29]) {
     add(counts, CASES);
     match r {
-        Answer::Page(n) => {
+        Ok(n) => {
             if plain {
                 count_form(part(out, 0, n), sheet, counts);
                 return;
             }
             count_page(out, counts);
         }
-        Answer::Refused(n, l) => count_refused(n, counts),
+        Err(f) => count_refused(f, counts),
     }
 }
 
@@ -216,7 +209,7 @@ fn replay_all(
 ) {
     let mut at = 0;
     while at < s.len() {
-        let Stored::At(c) = stored_cases::case_at(s, at) else {
+        let Some(c) = stored_cases::case_at(s, at) else {
             add(counts, DIFFERENT);
             return;
         };

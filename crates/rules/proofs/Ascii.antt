@@ -3,7 +3,7 @@ use Prim.Native.Nat.{ℕ, ◌+◌, ◌*◌, ◌%◌, ◌≤◌, ◌<◌}
 use mathlib.Core.Path.{◌≡◌, refl, sym, ◌∙◌}
 use mathlib.Core.List.{List, [], ◌∷◌}
 use mathlib.Core.Bool.{Bool, true, false, ◌&&◌}
-use mathlib.Core.Option.{Option, none, some}
+use Rattle.std.specs.Prelude.{Option, None, Some}
 use native.Mathlib.Omega.{arith}
 use lib.Dec.{ltb}
 use borrow.Author.Tests.{ltb-true, ne_eqb}
@@ -38,8 +38,8 @@ pub char_beyond : (a : ℕ) (s : List ℕ) → 128 ≤ a → 128 ≤ char_or (fi
 char_beyond a s l = go (first_of a s) refl
   where
     go : (o : Option ℕ) → first_of a s ≡ o → 128 ≤ char_or o
-    go none e = unfold char_or in omega arith
-    go (some c) e = unfold char_or in begins_beyond (begins a s c e) l
+    go None e = unfold char_or in omega arith
+    go (Some c) e = unfold char_or in begins_beyond (begins a s c e) l
 
 pub chars_beyond : (a : ℕ) (s : List ℕ) → 128 ≤ a → Beyond (chars (a ∷ s))
 unfolding chars chars_from

@@ -2,7 +2,7 @@
 use Prim.Native.Nat.{ℕ, ◌≤◌, ◌<◌}
 use mathlib.Core.Path.{◌≡◌, refl}
 use mathlib.Core.Bool.{Bool, true, false, ◌&&◌}
-use mathlib.Core.Option.{none, some}
+use Rattle.std.specs.Prelude.{None, Some}
 use native.Mathlib.Omega.{arith}
 use lib.Dec.{leb}
 use borrow.Author.Tests.{leb-true, leb-false, le-leb, lt-leb}
@@ -14,13 +14,13 @@ pick_either P true x y p q = p refl
 pick_either P false x y p q = q refl
 
 -- what cannot be
-pub no_some : {A : Type 0} {P : Type 0} {a : A} → none ≡ some a → P
+pub no_some : {A : Type 0} {P : Type 0} {a : A} → None ≡ Some a → P
 no_some e = absurd (let z : ◌≡◌ {A = ℕ} 0 1 = cc in omega arith)
 
 pub no_truth : {P : Type 0} → false ≡ true → P
 no_truth e = absurd (let z : ◌≡◌ {A = ℕ} 0 1 = cc in omega arith)
 
-pub some_inj : {A : Type 0} {a b : A} → some a ≡ some b → a ≡ b
+pub some_inj : {A : Type 0} {a b : A} → Some a ≡ Some b → a ≡ b
 some_inj e = cc
 
 pub and_left : (a b : Bool) → (a && b) ≡ true → a ≡ true

@@ -3,7 +3,7 @@ use Prim.Native.Nat.{ℕ, zero, suc, pred, ◌+◌, ◌*◌, ◌%◌, ◌≤◌,
 use mathlib.Core.Path.{◌≡◌, refl, sym, ◌∙◌}
 use mathlib.Core.List.{List, [], ◌∷◌, ◌++◌}
 use mathlib.Core.Bool.{Bool, true, false, ◌&&◌, and-false}
-use mathlib.Core.Option.{Option, some}
+use Rattle.std.specs.Prelude.{Option, Some}
 use native.Mathlib.Omega.{arith}
 use lib.Dec.{eqb, leb}
 use lib.ListN.{length, get_or}
@@ -111,7 +111,7 @@ pub data Begins : ℕ → List ℕ → ℕ → Type 0 where
       → Begins a (b ∷ d ∷ g ∷ s) (a % 8 * 262144 + b % 64 * 4096 + d % 64 * 64 + g % 64)
 
 -- it is what `first_of` finds
-pub first_some : {a : ℕ} {s : List ℕ} {c : ℕ} → Begins a s c → first_of a s ≡ some c
+pub first_some : {a : ℕ} {s : List ℕ} {c : ℕ} → Begins a s c → first_of a s ≡ Some c
 unfolding first_of sized
 first_some (one {a} h) = rw (size_1 a h)
 first_some (two {a} h g q) = rw (size_2 a h g, q)
@@ -141,10 +141,10 @@ begins_4 a (b ∷ []) h g q l m = no_later l
 begins_4 a (b ∷ d ∷ []) h g q l m = no_later m
 begins_4 a (b ∷ d ∷ e ∷ s) h g q l m = four h g q l m
 
-begins_as : {a v c : ℕ} {s : List ℕ} → some v ≡ some c → Begins a s v → Begins a s c
+begins_as : {a v c : ℕ} {s : List ℕ} → Some v ≡ Some c → Begins a s v → Begins a s c
 begins_as {a} {v} {c} q h = let e : v ≡ c = some_inj q in rw (sym e) h
 
-pub begins : (a : ℕ) (s : List ℕ) (c : ℕ) → first_of a s ≡ some c → Begins a s c
+pub begins : (a : ℕ) (s : List ℕ) (c : ℕ) → first_of a s ≡ Some c → Begins a s c
 unfolding first_of size_of sized
 begins a s c =
     pick_either P (leb a 127) _ _ (λ b q. begins_as q (one (leb-true a 127 b)))
@@ -165,10 +165,10 @@ begins a s c =
     (λ n4 q. no_some q))))
   where
     P : ℕ → Type 0
-    P n = sized n a s ≡ some c → Begins a s c
+    P n = sized n a s ≡ Some c → Begins a s c
 
     Q : Option ℕ → Type 0
-    Q o = o ≡ some c → Begins a s c
+    Q o = o ≡ Some c → Begins a s c
 
 -- what stands after a character does not matter
 pub begins_more : {a : ℕ} {s : List ℕ} {c : ℕ} (t : List ℕ) → Begins a s c → Begins a (s ++ t) c

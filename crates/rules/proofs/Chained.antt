@@ -3,7 +3,7 @@ use Prim.Native.Nat.{ℕ}
 use mathlib.Core.Path.{◌≡◌, refl, sym, ap, ◌∙◌, subst}
 use mathlib.Core.List.{List, [], ◌∷◌}
 use mathlib.Core.Bool.{Bool, true, false}
-use mathlib.Core.Option.{Option, none, some}
+use Rattle.std.specs.Prelude.{Option, None, Some}
 use lib.Dec.{eqb}
 use lib.ListN.{length}
 use Rattle.rules.specs.Event.{Component, Intermediate, Event}
@@ -29,12 +29,12 @@ fits_unmarked f a o e q = go e.modifiers.ref refl
     go true p = no_truth (rw p at q)
     go false p = p
 
-pub found_definition : {es : List Entry} (f : List ℕ) (a o : Bool) (d : Earlier) → Sound es → same_name_in f a o es ≡ some d → is_definition d.entry.relation ≡ true
+pub found_definition : {es : List Entry} (f : List ℕ) (a o : Bool) (d : Earlier) → Sound es → same_name_in f a o es ≡ Some d → is_definition d.entry.relation ≡ true
 unfolding same_name_in
 found_definition f a o d sound_none q = no_some q
 found_definition f a o d (sound_more {e} {es} h s) q = go (found_definition f a o d s) (fits f a o e) refl
   where
-    go : (same_name_in f a o es ≡ some d → is_definition d.entry.relation ≡ true) → (b : Bool) → fits f a o e ≡ b → is_definition d.entry.relation ≡ true
+    go : (same_name_in f a o es ≡ Some d → is_definition d.entry.relation ≡ true) → (b : Bool) → fits f a o e ≡ b → is_definition d.entry.relation ≡ true
     go ih true p =
         let i : record { index = length es; entry = e } ≡ d = some_inj (rw p at q) in
         ap (λ (x : Earlier). is_definition x.entry.relation) (sym i) ∙ h (fits_unmarked f a o e p)
@@ -53,15 +53,15 @@ set_sound i n (sound_more {e} {es} h s) =
 
 referred_sound : {es : List Entry} (o : Option Earlier) → Sound es → Sound (referred o es)
 unfolding referred
-referred_sound none s = s
-referred_sound (some d) s = set_sound d.index _ s
+referred_sound None s = s
+referred_sound (Some d) s = set_sound d.index _ s
 
 -- a reference goes to what the search found
-pub refers_same : (m : Modes) (new : Entry) (same : Option Earlier) (d : Earlier) → refers_to m new same ≡ some d → same ≡ some d
+pub refers_same : (m : Modes) (new : Entry) (same : Option Earlier) (d : Earlier) → refers_to m new same ≡ Some d → same ≡ Some d
 unfolding refers_to
 refers_same m new same d =
-    pick_either (λ (o : Option Earlier). o ≡ some d → same ≡ some d) new.modifiers.new _ _ (λ b q. no_some q)
-    (λ b. pick_either (λ (o : Option Earlier). o ≡ some d → same ≡ some d) (treat_as_reference m new same) _ _ (λ c q. q) (λ c q. no_some q))
+    pick_either (λ (o : Option Earlier). o ≡ Some d → same ≡ Some d) new.modifiers.new _ _ (λ b q. no_some q)
+    (λ b. pick_either (λ (o : Option Earlier). o ≡ Some d → same ≡ Some d) (treat_as_reference m new same) _ _ (λ c q. q) (λ c q. no_some q))
 
 -- ---- what a line makes
 
@@ -72,13 +72,13 @@ pub record SoundMade (m : Made) : Type 0 where
 entry_sound : (k : Kind) (new : Entry) (o : Option Earlier) → is_definition new.relation ≡ true → (as_referring k o new).modifiers.ref ≡ false
     → is_definition (as_referring k o new).relation ≡ true
 unfolding as_referring set_relation set_modifiers with_ref
-entry_sound k new none h q = h
-entry_sound k new (some d) h q = no_truth (sym q)
+entry_sound k new None h q = h
+entry_sound k new (Some d) h q = no_truth (sym q)
 
 to_sound : (m : Modes) (new : Entry) (es : List Entry) (o : Option Earlier) → Sound es → refers_to m new (found_same new es) ≡ o → refers_to_reference o ≡ false
 unfolding refers_to_reference found_same same_name_of
-to_sound m new es none s q = refl
-to_sound m new es (some d) s q = rw (found_definition _ _ _ d s (refers_same m new _ d q))
+to_sound m new es None s q = refl
+to_sound m new es (Some d) s q = rw (found_definition _ _ _ d s (refers_same m new _ d q))
 
 new_definition : (k : Kind) (c : Component) (st : State) → is_definition (new_entry k c st).relation ≡ true
 unfolding new_entry entry_of entry_with is_definition
@@ -114,7 +114,7 @@ module _ (text : List ℕ) (units : List NamedUnit) (flags : ℕ) where
       record { entry_is = entry_sound k (new_entry k c st) _ (new_definition k c st); to_is = to_sound st.modes (new_entry k c st) (table_of k st) _ s refl }
 
   -- an intermediate reference has REF
-  intermediate_sound : (c : Component) (i : Intermediate) (st : State) → c.modifiers.ref ≡ true → SoundMade (make_ingredient units flags c (some i) st)
+  intermediate_sound : (c : Component) (i : Intermediate) (st : State) → c.modifiers.ref ≡ true → SoundMade (make_ingredient units flags c (Some i) st)
   unfolding make_ingredient made_intermediate set_relation new_entry entry_of entry_with refers_to_reference
   intermediate_sound c i st r = record { entry_is = λ q. no_truth (sym q ∙ r); to_is = refl }
 

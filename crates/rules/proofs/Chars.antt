@@ -3,7 +3,7 @@ use Prim.Native.Nat.{ℕ, zero, suc, pred, ◌+◌, ◌≤◌, ◌<◌}
 use mathlib.Core.Path.{◌≡◌, refl, sym, ap, ◌∙◌}
 use mathlib.Core.List.{List, [], ◌∷◌, ◌++◌}
 use mathlib.Core.Bool.{Bool, true, ◌&&◌, not}
-use mathlib.Core.Option.{Option, none, some}
+use Rattle.std.specs.Prelude.{Option, None, Some}
 use native.Mathlib.Nat.{le_of_suc-le-suc, not-suc-le-zero, add-zero}
 use native.Mathlib.Omega.{arith}
 use lib.ListN.{length, drop}
@@ -26,8 +26,8 @@ well_fault at zero (a ∷ s) = go (well_fault (suc at) (pred (size_of a)) s) (fi
   where
     go : not (is_some (fault_from (suc at) (pred (size_of a)) s)) ≡ well_from (pred (size_of a)) s → (o : Option ℕ)
         → not (is_some (fault_or at o (fault_from (suc at) (pred (size_of a)) s))) ≡ (is_some o && well_from (pred (size_of a)) s)
-    go ih none = unfold fault_or is_some in refl
-    go ih (some c) = unfold fault_or is_some in ih
+    go ih None = unfold fault_or is_some in refl
+    go ih (Some c) = unfold fault_or is_some in ih
 
 pub well_utf8 : (s : List ℕ) → is_utf8 s ≡ well_from 0 s
 unfolding is_utf8 first_fault
@@ -82,8 +82,8 @@ unfolding well_from is_some
 starts a s q = go (first_of a s) refl (and_left _ _ q)
   where
     go : (o : Option ℕ) → first_of a s ≡ o → is_some o ≡ true → Starts a s
-    go none e t = unfold is_some in no_truth t
-    go (some c) e t = record { char = c; is = begins a s c e; rest = and_right (is_some (first_of a s)) _ q }
+    go None e t = unfold is_some in no_truth t
+    go (Some c) e t = record { char = c; is = begins a s c e; rest = and_right (is_some (first_of a s)) _ q }
 
 -- ---- an ASCII byte
 
@@ -99,8 +99,8 @@ pub fits : (a : ℕ) (s : List ℕ) → followers a (first_of a s) ≤ length s
 fits a s = go (first_of a s) refl
   where
     go : (o : Option ℕ) → first_of a s ≡ o → followers a o ≤ length s
-    go none e = unfold followers in omega arith
-    go (some c) e = unfold followers in begins_fits (begins a s c e)
+    go None e = unfold followers in omega arith
+    go (Some c) e = unfold followers in begins_fits (begins a s c e)
 
 -- an ASCII byte parts a text, whatever bytes stand before and after it
 split_from : (k b : ℕ) (p q : List ℕ) → k ≤ length p → b < 128 → chars_from k (p ++ (b ∷ q)) ≡ chars_from k p ++ (b ∷ chars q)
@@ -125,8 +125,8 @@ well_split zero b (a ∷ p) q l h = rw (first_ascii a b p q h) (go (λ g. well_s
 
     go : (pred (size_of a) ≤ length p → W (p ++ (b ∷ q)) ≡ (W p && well_from 0 q)) → (o : Option ℕ) → first_of a p ≡ o
         → (is_some o && W (p ++ (b ∷ q))) ≡ (is_some o && W p && well_from 0 q)
-    go ih none e = unfold is_some in refl
-    go ih (some c) e = unfold is_some in ih (begins_fits (begins a p c e))
+    go ih None e = unfold is_some in refl
+    go ih (Some c) e = unfold is_some in ih (begins_fits (begins a p c e))
 
 pub utf8_split : (p q : List ℕ) (b : ℕ) → b < 128 → is_utf8 (p ++ (b ∷ q)) ≡ (is_utf8 p && is_utf8 q)
 utf8_split p q b h = rw (well_utf8 (p ++ (b ∷ q)), well_utf8 p, well_utf8 q) (well_split 0 b p q (omega arith) h)

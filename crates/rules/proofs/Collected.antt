@@ -3,7 +3,7 @@ use Prim.Native.Nat.{ℕ, suc, ◌+◌}
 use mathlib.Core.Path.{◌≡◌, refl, sym, ap, ◌∙◌}
 use mathlib.Core.List.{List, [], ◌∷◌, ◌++◌}
 use mathlib.Core.Bool.{Bool, true, false}
-use mathlib.Core.Option.{Option, none, some}
+use Rattle.std.specs.Prelude.{Option, None, Some}
 use native.Mathlib.Omega.{arith}
 use lib.Dec.{ltb}
 use lib.ListN.{length}
@@ -27,7 +27,7 @@ pub record Begins (text units : List ℕ) (flags : ℕ) : Type 0 where
   pub text_short : ltb 65535 (length text) ≡ false
   pub units_short : ltb 16384 (length units) ≡ false
   pub utf8 : is_utf8 text ≡ true
-  pub known : read_units units ≡ some (units_or (read_units units))
+  pub known : read_units units ≡ Some (units_or (read_units units))
   pub once : name_twice (units_or (read_units units)) ≡ false
   pub flags_good : ltb 7 flags ≡ false
 
@@ -62,15 +62,15 @@ collected sheet text units flags =
 
     by_units : ltb 65536 (length sheet) ≡ false → ltb 65535 (length text) ≡ false → ltb 16384 (length units) ≡ false → is_utf8 text ≡ true
         → (u : Option (List NamedUnit)) → read_units units ≡ u → P (with_units text flags sheet u)
-    by_units b1 b2 b3 b4 none eu q = no_truth q
-    by_units b1 b2 b3 b4 (some us) eu q0 =
+    by_units b1 b2 b3 b4 None eu q = no_truth q
+    by_units b1 b2 b3 b4 (Some us) eu q0 =
         pick_either P (name_twice us) _ _ (λ b q. no_truth q)
         (λ b5. pick_either P (ltb 7 flags) _ _ (λ b q. no_truth q)
         (λ b6. by_read b1 (record {
           text_short = b2;
           units_short = b3;
           utf8 = b4;
-          known = eu ∙ ap (λ (o : Option (List NamedUnit)). some (units_or o)) (sym eu);
+          known = eu ∙ ap (λ (o : Option (List NamedUnit)). Some (units_or o)) (sym eu);
           once = ap (λ (o : Option (List NamedUnit)). name_twice (units_or o)) eu ∙ b5;
           flags_good = b6;
         }) us (read_sheet text sheet) refl)) q0

@@ -3,7 +3,7 @@ use Prim.Native.Nat.{ℕ, ◌+◌, ◌/◌, ◌%◌, ◌≤◌, ◌<◌}
 use mathlib.Core.Path.{◌≡◌, refl, sym, ap, ◌∙◌}
 use mathlib.Core.List.{List, [], ◌∷◌, ◌++◌}
 use mathlib.Core.Bool.{Bool, true, false}
-use mathlib.Core.Option.{Option, none, some}
+use Rattle.std.specs.Prelude.{Option, None, Some}
 use native.Mathlib.Omega.{arith}
 use lib.Dec.{eqb, ltb}
 use borrow.Author.Tests.{ltb-true, eqb-true, eqb-false, ne_eqb}
@@ -73,9 +73,9 @@ utf8_escape u w = rw (encode_chars u w) at (escape_scalars (chars_scalars u))
 
 -- what t stands for is UTF-8
 abbrev Safe : List ℕ → Type 0
-Safe t = (u : List ℕ) → unescape t ≡ some u → is_utf8 u ≡ true
+Safe t = (u : List ℕ) → unescape t ≡ Some u → is_utf8 u ≡ true
 
-pub unescape_plain : (c : ℕ) (s : List ℕ) → (c ≡ 92 → ⊥) → unescape (c ∷ s) ≡ onto (some c) (unescape s)
+pub unescape_plain : (c : ℕ) (s : List ℕ) → (c ≡ 92 → ⊥) → unescape (c ∷ s) ≡ onto (Some c) (unescape s)
 unfolding unescape onto
 unescape_plain c [] n = rw (ne_eqb c 92 n)
 unescape_plain c (d ∷ s) n = rw (ne_eqb c 92 n)
@@ -88,27 +88,27 @@ unescape_pair d s = refl
 record Kept (w t u : List ℕ) : Type 0 where
   rest : List ℕ
   is : u ≡ w ++ rest
-  after : unescape t ≡ some rest
+  after : unescape t ≡ Some rest
 
 record Joined (c : Option ℕ) (v : Option (List ℕ)) (u : List ℕ) : Type 0 where
   head : ℕ
   tail : List ℕ
-  first : c ≡ some head
-  then : v ≡ some tail
+  first : c ≡ Some head
+  then : v ≡ Some tail
   is : u ≡ head ∷ tail
 
-joined : (c : Option ℕ) (v : Option (List ℕ)) (u : List ℕ) → onto c v ≡ some u → Joined c v u
+joined : (c : Option ℕ) (v : Option (List ℕ)) (u : List ℕ) → onto c v ≡ Some u → Joined c v u
 unfolding onto
-joined none v u q = no_some q
-joined (some c) none u q = no_some q
-joined (some c) (some s) u q = record { head = c; tail = s; first = refl; then = refl; is = sym (some_inj q) }
+joined None v u q = no_some q
+joined (Some c) None u q = no_some q
+joined (Some c) (Some s) u q = record { head = c; tail = s; first = refl; then = refl; is = sym (some_inj q) }
 
-kept_byte : (c : ℕ) (t u : List ℕ) → (c ≡ 92 → ⊥) → unescape (c ∷ t) ≡ some u → Kept (c ∷ []) t u
+kept_byte : (c : ℕ) (t u : List ℕ) → (c ≡ 92 → ⊥) → unescape (c ∷ t) ≡ Some u → Kept (c ∷ []) t u
 kept_byte c t u n q =
-    let j = joined (some c) (unescape t) u (sym (unescape_plain c t n) ∙ q) in
+    let j = joined (Some c) (unescape t) u (sym (unescape_plain c t n) ∙ q) in
     record { rest = j.tail; is = j.is ∙ ap (λ (x : ℕ). x ∷ j.tail) (sym (some_inj j.first)); after = j.then }
 
-kept : {w : List ℕ} (t u : List ℕ) → Highs w → unescape (w ++ t) ≡ some u → Kept w t u
+kept : {w : List ℕ} (t u : List ℕ) → Highs w → unescape (w ++ t) ≡ Some u → Kept w t u
 kept t u highs_none q = record { rest = u; is = refl; after = q }
 kept t u (highs_more {a} {s} h g) q =
     let k = kept_byte a (s ++ t) u (λ e. omega arith) q in
@@ -122,7 +122,7 @@ safe_none u q = rw (← some_inj q) utf8_none
 safe_step : (c : ℕ) (t : List ℕ) → Scalar c → Safe t → (c ≡ 92 → Safe (c ∷ t)) → Safe (encode_char c ++ t)
 safe_step c t h f b u q = by_order c 127 low high
   where
-    byte : c < 128 → (x : Bool) → eqb c 92 ≡ x → unescape (c ∷ t) ≡ some u → is_utf8 u ≡ true
+    byte : c < 128 → (x : Bool) → eqb c 92 ≡ x → unescape (c ∷ t) ≡ Some u → is_utf8 u ≡ true
     byte l true e q = b (eqb-true c 92 e) u q
     byte l false e q =
         let k = kept_byte c t u (eqb-false c 92 e) q in
@@ -137,23 +137,23 @@ safe_step c t h f b u q = by_order c 127 low high
         rw k.is (utf8_char c k.rest h ∙ f k.rest k.after)
 
 -- what an escape stands for is ASCII
-escaped_ascii : (d e : ℕ) → escaped d ≡ some e → e < 128
+escaped_ascii : (d e : ℕ) → escaped d ≡ Some e → e < 128
 unfolding escaped
 escaped_ascii d e =
     pick_either P (eqb d 92) _ _ (λ _. of 92 (omega arith))
     (λ _. pick_either P (eqb d 116) _ _ (λ _. of 9 (omega arith)) (λ _. pick_either P (eqb d 110) _ _ (λ _. of 10 (omega arith)) (λ _ q. no_some q)))
   where
     P : Option ℕ → Type 0
-    P o = o ≡ some e → e < 128
+    P o = o ≡ Some e → e < 128
 
-    of : (x : ℕ) → x < 128 → some x ≡ some e → e < 128
+    of : (x : ℕ) → x < 128 → Some x ≡ Some e → e < 128
     of x h q = let k : x ≡ e = some_inj q in omega arith
 
-escaped_high : (d : ℕ) → 128 ≤ d → escaped d ≡ none
+escaped_high : (d : ℕ) → 128 ≤ d → escaped d ≡ None
 unfolding escaped
 escaped_high d h = rw (ne_eqb d 92 (λ e. omega arith), ne_eqb d 116 (λ e. omega arith), ne_eqb d 110 (λ e. omega arith))
 
-high_pair : {w : List ℕ} (t u : List ℕ) → Highs w → (w ≡ [] → ⊥) → unescape (92 ∷ (w ++ t)) ≡ some u → is_utf8 u ≡ true
+high_pair : {w : List ℕ} (t u : List ℕ) → Highs w → (w ≡ [] → ⊥) → unescape (92 ∷ (w ++ t)) ≡ Some u → is_utf8 u ≡ true
 high_pair t u highs_none n q = absurd (n refl)
 high_pair t u (highs_more {a} {s} h g) n q =
     let j = joined (escaped a) (unescape (s ++ t)) u (sym (unescape_pair a (s ++ t)) ∙ q) in
@@ -164,7 +164,7 @@ safe_pair d t h f u q = by_order d 127 low (λ l. high_pair t u (encode_highs d 
   where
     low : d ≤ 127 → is_utf8 u ≡ true
     low l =
-        let q2 : unescape (92 ∷ d ∷ t) ≡ some u = rw (encode_1 d (omega arith)) at q in
+        let q2 : unescape (92 ∷ d ∷ t) ≡ Some u = rw (encode_1 d (omega arith)) at q in
         let j = joined (escaped d) (unescape t) u (sym (unescape_pair d t) ∙ q2) in
         rw j.is (utf8_ascii j.head j.tail (escaped_ascii d j.head j.first) ∙ f j.tail j.then)
 
@@ -178,5 +178,5 @@ safe (scalars_more {c} h scalars_none) = safe_step c [] h safe_none (λ e u q. u
 safe (scalars_more {c} h (scalars_more {c = d} {s} k g)) =
     safe_step c (encode_char d ++ encode s) h (safe (scalars_more k g)) (λ e. rw e (safe_pair d (encode s) k (safe g)))
 
-pub utf8_unescape : (f u : List ℕ) → is_utf8 f ≡ true → unescape f ≡ some u → is_utf8 u ≡ true
+pub utf8_unescape : (f u : List ℕ) → is_utf8 f ≡ true → unescape f ≡ Some u → is_utf8 u ≡ true
 utf8_unescape f u w q = safe (chars_scalars f) u (rw (encode_chars f w) q)

@@ -3,7 +3,7 @@ use Prim.Native.Nat.{ℕ, suc, ◌+◌}
 use mathlib.Core.Path.{◌≡◌, refl, sym, ap, ◌∙◌, subst}
 use mathlib.Core.List.{List, [], ◌∷◌, ◌++◌, reverse, reverse_aux}
 use mathlib.Core.Bool.{Bool, true, false}
-use mathlib.Core.Option.{Option, none, some}
+use Rattle.std.specs.Prelude.{Option, None, Some}
 use native.Mathlib.Omega.{arith}
 use lib.ListN.{length}
 use Rattle.rules.specs.Basic.{pick, any}
@@ -119,8 +119,8 @@ module _ (text : List ℕ) (units : List NamedUnit) (flags : ℕ) where
 
       by : NoFaults text units flags (trace (suc line) t.after es) → (o : Option ℕ) → plain_fault units flags st e ≡ o → LineFault flags earlier e o
           → NoFaults text units flags (trace line st (e ∷ es))
-      by ih none q (clear x) = subst (NoFaults text units flags) (sym (trace_on line e es st t)) (no_fault q ih)
-      by ih (some n) q (faulty x) = no_both p x
+      by ih None q (clear x) = subst (NoFaults text units flags) (sym (trace_on line e es st t)) (no_fault q ih)
+      by ih (Some n) q (faulty x) = no_both p x
 
   module _ (whole : Answer) where
     unless_on : (line : ℕ) (e : Event) (es : List Event) (st : State) (t : Takes line e st)
@@ -156,8 +156,8 @@ module _ (text : List ℕ) (units : List NamedUnit) (flags : ℕ) where
 
         by : Found (e ∷ earlier) (suc line) es (unless_faulty units flags whole (trace (suc line) t.after es)) → (o : Option ℕ) → LineFault flags earlier e o
             → Found earlier line (e ∷ es) (fault_or line o (unless_faulty units flags whole (trace (suc line) t.after es)))
-        by ih none (clear x) = found_later earlier line e es x ih
-        by ih (some n) (faulty x) =
+        by ih None (clear x) = found_later earlier line e es x ih
+        by ih (Some n) (faulty x) =
             let z : line + length {A = Event} [] ≡ line = omega arith in
             subst (λ (k : ℕ). Found earlier line (e ∷ es) (declined n k)) z (first_at [] es e refl every_none x)
 
@@ -177,8 +177,8 @@ module _ (text : List ℕ) (units : List NamedUnit) (flags : ℕ) where
 
         by : (o : Option ℕ) → LineFault flags earlier e o
             → fault_or line o (unless_faulty units flags whole (trace (suc line) t.after rest)) ≡ declined n (line + length {A = Event} [])
-        by none (clear x) = no_both x f
-        by (some m) (faulty x) = unfold fault_or in (ap (λ (k : ℕ). declined k line) (one_fault x f) ∙ ap (declined n) (sym z))
+        by None (clear x) = no_both x f
+        by (Some m) (faulty x) = unfold fault_or in (ap (λ (k : ℕ). declined k line) (one_fault x f) ∙ ap (declined n) (sym z))
     fault_at (x ∷ before) earlier line n e rest st end w h (every_more p c) f =
         unless_on line x (before ++ (e ∷ rest)) st t
         ∙ by (fault_at before (x ∷ earlier) (suc line) n e rest t.after end (walk_on line x (before ++ (e ∷ rest)) st end t w)
@@ -194,5 +194,5 @@ module _ (text : List ℕ) (units : List NamedUnit) (flags : ℕ) where
         by : unless_faulty units flags whole (trace (suc line) t.after (before ++ (e ∷ rest))) ≡ declined n (suc line + length before) → (o : Option ℕ)
             → LineFault flags earlier x o
             → fault_or line o (unless_faulty units flags whole (trace (suc line) t.after (before ++ (e ∷ rest)))) ≡ declined n (line + length (x ∷ before))
-        by ih none (clear y) = unfold fault_or in (ih ∙ ap (declined n) z)
-        by ih (some m) (faulty y) = no_both p y
+        by ih None (clear y) = unfold fault_or in (ih ∙ ap (declined n) z)
+        by ih (Some m) (faulty y) = no_both p y

@@ -3,7 +3,7 @@ use Prim.Native.Nat.{ℕ}
 use mathlib.Core.Path.{◌≡◌, refl, sym, ap, ◌∙◌, subst}
 use mathlib.Core.List.{List, [], ◌∷◌}
 use mathlib.Core.Bool.{Bool, true, false, not}
-use mathlib.Core.Option.{Option, none, some}
+use Rattle.std.specs.Prelude.{Option, None, Some}
 use native.Mathlib.Omega.{arith}
 use borrow.Author.Tests.{eq-eqb, ne_eqb}
 use Rattle.rules.specs.Basic.{pick, on_some}
@@ -25,8 +25,8 @@ use Rattle.rules.proofs.Known.{Agrees, Knows, KnowsStep, no_entry_lem, text_entr
 use Rattle.rules.proofs.KnownStep.{entry_ingredient, entry_cookware, entry_timer, component_knows}
 
 pub data LineFault (flags : ℕ) (earlier : List Event) (e : Event) : Option ℕ → Type 0 where
-  clear : IsClear flags earlier e → LineFault flags earlier e none
-  faulty : {n : ℕ} → Faulty flags earlier e n → LineFault flags earlier e (some n)
+  clear : IsClear flags earlier e → LineFault flags earlier e None
+  faulty : {n : ℕ} → Faulty flags earlier e n → LineFault flags earlier e (Some n)
 
 text_unlisted : (m : DefineMode) → is_text m ≡ true → is_components m ≡ false
 unfolding is_text is_components
@@ -38,7 +38,7 @@ text_unlisted mode_text q = refl
 no_next : {P : Type 0} {n : ℕ} {st : State} → stop n ≡ next st → P
 no_next q = absurd (let z : ◌≡◌ {A = ℕ} 0 1 = cc in omega arith)
 
-marked_none : (c : Component) (o : Option Earlier) → c.modifiers.ref ≡ true → implicit_of c o ≡ none
+marked_none : (c : Component) (o : Option Earlier) → c.modifiers.ref ≡ true → implicit_of c o ≡ None
 unfolding implicit_of
 marked_none c o r = rw r
 
@@ -52,7 +52,7 @@ module _ (text : List ℕ) (units : List NamedUnit) (flags : ℕ) (earlier : Lis
   agrees o q = subst (λ (x : Open). Agrees x (is_text st.modes.define)) q h.block
 
   -- a line that changes neither modes nor entries
-  still : (e : Event) → mode_key e ≡ none → entry_of_line e ≡ no_entry → (after : State) → after.modes ≡ st.modes
+  still : (e : Event) → mode_key e ≡ None → entry_of_line e ≡ no_entry → (after : State) → after.modes ≡ st.modes
       → after.tables.ingredients ≡ st.tables.ingredients → after.tables.cookware ≡ st.tables.cookware
       → Agrees after.place.block (is_text st.modes.define)
       → Knows flags (e ∷ earlier) after
@@ -131,7 +131,7 @@ module _ (text : List ℕ) (units : List NamedUnit) (flags : ℕ) (earlier : Lis
   -- ---- faults
 
   -- a line that is no component
-  no_component_lem : (e : Event) → is_component_line e ≡ false → entry_in (define_at flags earlier) e ≡ no_entry → LineFault flags earlier e none
+  no_component_lem : (e : Event) → is_component_line e ≡ false → entry_in (define_at flags earlier) e ≡ no_entry → LineFault flags earlier e None
   unfolding implicit_at implicit_by
   no_component_lem e q x = clear (record { unlisted = λ c. no_truth (sym q ∙ c); last = λ u p. no_some (rw x at p) })
 
@@ -140,10 +140,10 @@ module _ (text : List ℕ) (units : List NamedUnit) (flags : ℕ) (earlier : Lis
     mode_unlisted = ap is_components (sym h.define) ∙ unl
 
     -- a component that is no implicit reference
-    not_implicit : implicit_at flags earlier e ≡ none → LineFault flags earlier e none
+    not_implicit : implicit_at flags earlier e ≡ None → LineFault flags earlier e None
     not_implicit q = clear (record { unlisted = λ c. mode_unlisted; last = λ u p. no_some (sym q ∙ p) })
 
-    no_line : entry_in (define_at flags earlier) e ≡ no_entry → implicit_at flags earlier e ≡ none
+    no_line : entry_in (define_at flags earlier) e ≡ no_entry → implicit_at flags earlier e ≡ None
     unfolding implicit_at implicit_by
     no_line x = rw x
 
@@ -156,7 +156,7 @@ module _ (text : List ℕ) (units : List NamedUnit) (flags : ℕ) (earlier : Lis
       unfolding last_of_name last_by
       last_is = rw x
 
-      ref_explicit : c.modifiers.ref ≡ true → implicit_at flags earlier e ≡ none
+      ref_explicit : c.modifiers.ref ≡ true → implicit_at flags earlier e ≡ None
       ref_explicit r = implicit_is ∙ (unfold implicit_target in rw r)
 
       link_fault : {a b : Option Earlier} {u v : Option Unmarked} → Links a b u v → implicit_at flags earlier e ≡ u → last_of_name flags earlier e ≡ v
@@ -169,7 +169,7 @@ module _ (text : List ℕ) (units : List NamedUnit) (flags : ℕ) (earlier : Lis
       link_fault (other_link {d = d} {l = l} {u = u} {v = v} lt g) p q new table s =
           rw (s, ne_eqb d.index l.index (λ z. omega arith)) (faulty (not_last mode_unlisted u p differs))
         where
-          differs : last_of_name flags earlier e ≡ some u → ⊥
+          differs : last_of_name flags earlier e ≡ Some u → ⊥
           differs r = let z : v ≡ u = some_inj (sym q ∙ r) in let y : v.place ≡ u.place = ap (λ (w : Unmarked). w.place) z in omega arith
 
       name_fault : LineFault flags earlier e (implicit_fault (new_entry j c st) (table_of j st) (implicit_of c (made_by_name units flags j c st).refers_to))
@@ -178,7 +178,7 @@ module _ (text : List ℕ) (units : List NamedUnit) (flags : ℕ) (earlier : Lis
         where
           go : (b : Bool) → c.modifiers.ref ≡ b
               → LineFault flags earlier e (implicit_fault (new_entry j c st) (table_of j st)
-              (pick b none (refers_to st.modes (new_entry j c st) (found_same (new_entry j c st) (table_of j st)))))
+              (pick b None (refers_to st.modes (new_entry j c st) (found_same (new_entry j c st) (table_of j st)))))
           go true r = unfold implicit_fault in not_implicit (ref_explicit r)
           go false r = link_fault (line_links j c st (unmarked flags j earlier) r (h.tables j)) implicit_is last_is (new_entry j c st) (table_of j st) refl
 
@@ -187,11 +187,11 @@ module _ (text : List ℕ) (units : List NamedUnit) (flags : ℕ) (earlier : Lis
   unfolding entry_in
   entry_here j c e q t = rw (sym h.define, t, q)
 
-  no_15 : (c : Component) (i : Intermediate) (s : Step) (after : State) → unless_fault (intermediate_fault c (some i)) s ≡ next after → c.modifiers.ref ≡ true
+  no_15 : (c : Component) (i : Intermediate) (s : Step) (after : State) → unless_fault (intermediate_fault c (Some i)) s ≡ next after → c.modifiers.ref ≡ true
   unfolding intermediate_fault unless_fault
   no_15 c i s after = go c.modifiers.ref
     where
-      go : (b : Bool) → unless_fault (pick {X = Option ℕ} (not b) (some 15) (pick i.value.negative (some 16) none)) s ≡ next after → b ≡ true
+      go : (b : Bool) → unless_fault (pick {X = Option ℕ} (not b) (Some 15) (pick i.value.negative (Some 16) None)) s ≡ next after → b ≡ true
       go true q = refl
       go false q = no_next q
 
@@ -200,23 +200,23 @@ module _ (text : List ℕ) (units : List NamedUnit) (flags : ℕ) (earlier : Lis
   unfolding mark_fault implicit_ingredient implicit_cookware make_cookware on_component
   mark_fault_lem (cookware_event c) is after t unl q =
       name_fault (inside (component_event (cookware_event c))) unl cookware c (entry_here cookware c (inside (component_event (cookware_event c))) (entry_cookware c) t)
-  mark_fault_lem (ingredient_event c none) is after t unl q =
+  mark_fault_lem (ingredient_event c None) is after t unl q =
       unfold make_ingredient in
-      name_fault (inside (component_event (ingredient_event c none))) unl ingredient c
-      (entry_here ingredient c (inside (component_event (ingredient_event c none))) (entry_ingredient c none) t)
-  mark_fault_lem (ingredient_event c (some i)) is after t unl q = by
+      name_fault (inside (component_event (ingredient_event c None))) unl ingredient c
+      (entry_here ingredient c (inside (component_event (ingredient_event c None))) (entry_ingredient c None) t)
+  mark_fault_lem (ingredient_event c (Some i)) is after t unl q = by
     where
       e : Event
-      e = inside (component_event (ingredient_event c (some i)))
+      e = inside (component_event (ingredient_event c (Some i)))
 
       r : c.modifiers.ref ≡ true
       r = no_15 c i _ after q
 
-      clean : LineFault flags earlier e none
-      clean = not_implicit e unl (ref_explicit e unl ingredient c (entry_here ingredient c e (entry_ingredient c (some i)) t) r)
+      clean : LineFault flags earlier e None
+      clean = not_implicit e unl (ref_explicit e unl ingredient c (entry_here ingredient c e (entry_ingredient c (Some i)) t) r)
 
       by : LineFault flags earlier e (implicit_fault (new_entry ingredient c st) (table_of ingredient st)
-          (implicit_of c (make_ingredient units flags c (some i) st).refers_to))
+          (implicit_of c (make_ingredient units flags c (Some i) st).refers_to))
       by =
           subst (λ (o : Option Earlier). LineFault flags earlier e (implicit_fault (new_entry ingredient c st) (table_of ingredient st) o)) (sym (marked_none c _ r))
           (unfold implicit_fault in clean)

@@ -3,7 +3,7 @@ use Prim.Native.Nat.{ℕ}
 use mathlib.Core.Path.{◌≡◌, refl, sym, ap, ◌∙◌}
 use mathlib.Core.List.{List, [], ◌∷◌, ◌++◌, append_assoc}
 use mathlib.Core.Bool.{true, false}
-use mathlib.Core.Option.{Option, none, some}
+use Rattle.std.specs.Prelude.{Option, None, Some}
 use lib.Dec.{eqb}
 use borrow.Author.Tests.{eqb-true}
 use Rattle.rules.specs.Basic.{tab, lf, backslash, on_first, split_at, join_by, each}
@@ -34,23 +34,23 @@ pub data AllWithout (b : ℕ) : List (List ℕ) → Type 0 where
 
 -- ---- escapes
 
-pub unescape_one : (c : ℕ) (t : List ℕ) → eqb c backslash ≡ false → unescape (c ∷ t) ≡ onto (some c) (unescape t)
+pub unescape_one : (c : ℕ) (t : List ℕ) → eqb c backslash ≡ false → unescape (c ∷ t) ≡ onto (Some c) (unescape t)
 unfolding unescape onto
 unescape_one c [] q = rw q
 unescape_one c (d ∷ t) q = rw q
 
-char_read : (c : ℕ) (t : List ℕ) → unescape (escape_char c ++ t) ≡ onto (some c) (unescape t)
+char_read : (c : ℕ) (t : List ℕ) → unescape (escape_char c ++ t) ≡ onto (Some c) (unescape t)
 unfolding escape_char unescape escaped
 char_read c t =
-    pick_either P (eqb c backslash) _ _ (λ b. ap (λ (x : ℕ). onto (some x) (unescape t)) (sym (eqb-true c 92 b)))
-    (λ n1. pick_either P (eqb c tab) _ _ (λ b. ap (λ (x : ℕ). onto (some x) (unescape t)) (sym (eqb-true c 9 b)))
-    (λ n2. pick_either P (eqb c lf) _ _ (λ b. ap (λ (x : ℕ). onto (some x) (unescape t)) (sym (eqb-true c 10 b)))
+    pick_either P (eqb c backslash) _ _ (λ b. ap (λ (x : ℕ). onto (Some x) (unescape t)) (sym (eqb-true c 92 b)))
+    (λ n1. pick_either P (eqb c tab) _ _ (λ b. ap (λ (x : ℕ). onto (Some x) (unescape t)) (sym (eqb-true c 9 b)))
+    (λ n2. pick_either P (eqb c lf) _ _ (λ b. ap (λ (x : ℕ). onto (Some x) (unescape t)) (sym (eqb-true c 10 b)))
     (λ n3. unescape_one c t n1)))
   where
     P : List ℕ → Type 0
-    P l = unescape (l ++ t) ≡ onto (some c) (unescape t)
+    P l = unescape (l ++ t) ≡ onto (Some c) (unescape t)
 
-pub unescape_escape : (s : List ℕ) → unescape (escape s) ≡ some s
+pub unescape_escape : (s : List ℕ) → unescape (escape s) ≡ Some s
 unfolding escape unescape onto
 unescape_escape [] = refl
 unescape_escape (c ∷ s) = char_read c (escape s) ∙ rw (unescape_escape s)
@@ -87,17 +87,17 @@ escape_plain (without_more {c} p f) (without_more q g) (without_more r h) = rw (
 record Read (o : Option ℕ) (p : Option (List ℕ)) (s : List ℕ) : Type 0 where
   head : ℕ
   tail : List ℕ
-  first : o ≡ some head
-  others : p ≡ some tail
+  first : o ≡ Some head
+  others : p ≡ Some tail
   is : s ≡ head ∷ tail
 
-read : (o : Option ℕ) (p : Option (List ℕ)) (s : List ℕ) → onto o p ≡ some s → Read o p s
+read : (o : Option ℕ) (p : Option (List ℕ)) (s : List ℕ) → onto o p ≡ Some s → Read o p s
 unfolding onto
-read none p s e = no_some e
-read (some c) none s e = no_some e
-read (some c) (some t) s e = record { head = c; tail = t; first = refl; others = refl; is = sym (some_inj e) }
+read None p s e = no_some e
+read (Some c) None s e = no_some e
+read (Some c) (Some t) s e = record { head = c; tail = t; first = refl; others = refl; is = sym (some_inj e) }
 
-letter_back : (d x : ℕ) → escaped d ≡ some x → escape_char x ≡ backslash ∷ d ∷ []
+letter_back : (d x : ℕ) → escaped d ≡ Some x → escape_char x ≡ backslash ∷ d ∷ []
 unfolding escaped escape_char
 letter_back d x =
     pick_either P (eqb d backslash) _ _ (λ b e. back backslash (some_inj e) (ap (λ (y : ℕ). backslash ∷ y ∷ []) (sym (eqb-true d 92 b))))
@@ -106,23 +106,23 @@ letter_back d x =
     (λ n3 e. no_some e)))
   where
     P : Option ℕ → Type 0
-    P o = o ≡ some x → escape_char x ≡ backslash ∷ d ∷ []
+    P o = o ≡ Some x → escape_char x ≡ backslash ∷ d ∷ []
 
     back : (y : ℕ) → y ≡ x → escape_char y ≡ backslash ∷ d ∷ [] → escape_char x ≡ backslash ∷ d ∷ []
     back y q e = rw q at e
 
 -- a field as it stands in a sheet is the escaped form of its text
-pub escape_unescape : (f : List ℕ) {s : List ℕ} → Without tab f → Without lf f → unescape f ≡ some s → escape s ≡ f
+pub escape_unescape : (f : List ℕ) {s : List ℕ} → Without tab f → Without lf f → unescape f ≡ Some s → escape s ≡ f
 unfolding unescape escape
 escape_unescape [] {s} t l e = let q : s ≡ [] = sym (some_inj e) in rw q
 escape_unescape (c ∷ []) {s} (without_more q t) (without_more r l) e =
-    pick_either (λ (o : Option (List ℕ)). o ≡ some s → escape s ≡ c ∷ []) (eqb c backslash) _ _ (λ b e. no_some e)
+    pick_either (λ (o : Option (List ℕ)). o ≡ Some s → escape s ≡ c ∷ []) (eqb c backslash) _ _ (λ b e. no_some e)
     (λ n e. let u : s ≡ c ∷ [] = sym (some_inj e) in rw (u, char_itself c n q r)) e
 escape_unescape (c ∷ d ∷ f) {s} (without_more q (without_more q' t)) (without_more r (without_more r' l)) e =
-    pick_either (λ (o : Option (List ℕ)). o ≡ some s → escape s ≡ c ∷ d ∷ f) (eqb c backslash) _ _
+    pick_either (λ (o : Option (List ℕ)). o ≡ Some s → escape s ≡ c ∷ d ∷ f) (eqb c backslash) _ _
     (λ b e. let u = read (escaped d) (unescape f) s e in
     rw (u.is, letter_back d u.head u.first, escape_unescape f t l u.others, eqb-true c 92 b))
-    (λ n e. let u = read (some c) (unescape (d ∷ f)) s e in
+    (λ n e. let u = read (Some c) (unescape (d ∷ f)) s e in
     let h : u.head ≡ c = sym (some_inj u.first) in
     rw (u.is, h, char_itself c n q r, escape_unescape (d ∷ f) (without_more q' t) (without_more r' l) u.others))
     e

@@ -3,7 +3,7 @@ use Prim.Native.Nat.{ℕ, suc}
 use mathlib.Core.Path.{◌≡◌, refl, sym, ap, ◌∙◌, subst}
 use mathlib.Core.List.{List, [], ◌∷◌}
 use mathlib.Core.Bool.{Bool, true, false, ◌&&◌}
-use mathlib.Core.Option.{Option, none, some}
+use Rattle.std.specs.Prelude.{Option, None, Some}
 use Rattle.rules.specs.Basic.{pick}
 use Rattle.rules.specs.Words.{step_kind, text_kind, DefineMode, mode_all, duplicate_new}
 use Rattle.rules.specs.Event.{Component, Intermediate, ComponentEvent, ingredient_event, cookware_event, timer_event, Between, meta_event, section_event, start_event, Inside, end_event, text_event, component_event, Event, between, inside, parser_event}
@@ -25,9 +25,9 @@ use Rattle.rules.proofs.SimWalk.{NoFaults, no_line, no_fault, Went, went}
 use Rattle.rules.proofs.Quiet.{Quiet, quiet_none, quiet_more, meta_heeded}
 
 -- in the first modes what has no REF refers to nothing
-no_reference : (e : Entry) (same : Option Earlier) → e.modifiers.ref ≡ false → refers_to first_modes e same ≡ none
+no_reference : (e : Entry) (same : Option Earlier) → e.modifiers.ref ≡ false → refers_to first_modes e same ≡ None
 unfolding refers_to treat_as_reference is_explicit first_modes is_steps is_reference
-no_reference e same q = pick_either (λ (o : Option Earlier). o ≡ none) e.modifiers.new _ _ (λ b. refl) (λ b. rw q)
+no_reference e same q = pick_either (λ (o : Option Earlier). o ≡ None) e.modifiers.new _ _ (λ b. refl) (λ b. rw q)
 
 abbrev is_text_mode : Open → Bool
 is_text_mode no_block = false
@@ -46,21 +46,21 @@ module _ (text : List ℕ) (units : List NamedUnit) (flags : ℕ) where
     abbrev M : Open → State
     M o = made mode_all duplicate_new md s n o k t fs
 
-    no_name : (j : Kind) (o : Open) (c : Component) → implicit_of c (made_by_name units flags j c (M o)).refers_to ≡ none
+    no_name : (j : Kind) (o : Open) (c : Component) → implicit_of c (made_by_name units flags j c (M o)).refers_to ≡ None
     unfolding implicit_of
     no_name j o c = go c.modifiers.ref refl
       where
-        go : (b : Bool) → c.modifiers.ref ≡ b → pick b none (made_by_name units flags j c (M o)).refers_to ≡ none
+        go : (b : Bool) → c.modifiers.ref ≡ b → pick b None (made_by_name units flags j c (M o)).refers_to ≡ None
         go true q = refl
         go false q = unfold made_by_name made_with new_entry entry_of entry_with first_modes in no_reference (new_entry j c (M o))
             (found_same (new_entry j c (M o)) (table_of j (M o))) q
 
-    no_ingredient : (o : Open) (c : Component) (i : Option Intermediate) → implicit_ingredient units flags (M o) c i ≡ none
+    no_ingredient : (o : Open) (c : Component) (i : Option Intermediate) → implicit_ingredient units flags (M o) c i ≡ None
     unfolding implicit_ingredient make_ingredient made_intermediate
-    no_ingredient o c none = no_name ingredient o c
-    no_ingredient o c (some i) = unfold implicit_of in pick_either (λ (x : Option Earlier). x ≡ none) c.modifiers.ref _ _ (λ b. refl) (λ b. refl)
+    no_ingredient o c None = no_name ingredient o c
+    no_ingredient o c (Some i) = unfold implicit_of in pick_either (λ (x : Option Earlier). x ≡ None) c.modifiers.ref _ _ (λ b. refl) (λ b. refl)
 
-    no_cookware : (o : Open) (c : Component) → implicit_cookware units flags (M o) c ≡ none
+    no_cookware : (o : Open) (c : Component) → implicit_cookware units flags (M o) c ≡ None
     unfolding implicit_cookware make_cookware
     no_cookware o c = no_name cookware o c
 
@@ -96,20 +96,20 @@ module _ (text : List ℕ) (units : List NamedUnit) (flags : ℕ) where
     event_fixed o (inside i) q h = inside_fixed o i q
     event_fixed o (parser_event x y) q h = refl
 
-    mark_faultless : (o : Open) (c : ComponentEvent) → mark_fault units flags (M o) c ≡ none
+    mark_faultless : (o : Open) (c : ComponentEvent) → mark_fault units flags (M o) c ≡ None
     unfolding mark_fault implicit_fault
     mark_faultless o (ingredient_event c i) = rw (no_ingredient o c i)
     mark_faultless o (cookware_event c) = rw (no_cookware o c)
     mark_faultless o (timer_event a x q) = refl
 
-    component_faultless : (o p : Open) (c : ComponentEvent) → component_fault units flags (M p) c o ≡ none
+    component_faultless : (o p : Open) (c : ComponentEvent) → component_fault units flags (M p) c o ≡ None
     unfolding component_fault is_components
     component_faultless no_block p c = refl
     component_faultless (step_open is) p c = mark_faultless p c
     component_faultless (text_open ts) p c = refl
     component_faultless (text_mode_open ts) p c = refl
 
-    event_faultless : (o : Open) (e : Event) → plain_fault units flags (M o) e ≡ none
+    event_faultless : (o : Open) (e : Event) → plain_fault units flags (M o) e ≡ None
     unfolding plain_fault
     event_faultless o (between b) = refl
     event_faultless o (inside (end_event x)) = refl
@@ -141,10 +141,10 @@ module _ (text : List ℕ) (units : List NamedUnit) (flags : ℕ) where
       (event_fixed st.metadata st.place.section st.place.step_counter st.kept st.tables st.findings
       (form_open st.modes.define st.place.block) e (form_no_text st.modes.define st.place.block) h)
 
-  formed_faultless : (st : State) (e : Event) → Formed st → plain_fault units flags st e ≡ none
+  formed_faultless : (st : State) (e : Event) → Formed st → plain_fault units flags st e ≡ None
   unfolding first_modes
   formed_faultless st e q =
-      subst (λ (x : State). plain_fault units flags x e ≡ none) q
+      subst (λ (x : State). plain_fault units flags x e ≡ None) q
       (event_faultless st.metadata st.place.section st.place.step_counter st.kept st.tables st.findings
       (form_open st.modes.define st.place.block) e)
 

@@ -3,7 +3,7 @@ use Prim.Native.Nat.{ℕ}
 use mathlib.Core.Path.{◌≡◌, refl, sym, ap, ◌∙◌, subst}
 use mathlib.Core.List.{List, [], ◌∷◌, ◌++◌, append_assoc}
 use mathlib.Core.Bool.{Bool, true, false}
-use mathlib.Core.Option.{Option, none, some}
+use Rattle.std.specs.Prelude.{Option, None, Some}
 use lib.Dec.{eqb}
 use borrow.Author.Tests.{eqb-true}
 use Rattle.rules.specs.Basic.{pick, codes, tab, lf, minus, eq_list, each}
@@ -47,7 +47,7 @@ good_both (good_more g k) h = good_more g (good_both k h)
 
 -- the fields fs read as a, whatever follows them
 pub record Back {A : Type 0} (r : Reader A) (fs : Fields) (a : A) : Type 0 where
-  pub at : (rest : Fields) → r (fs ++ rest) ≡ some (a, rest)
+  pub at : (rest : Fields) → r (fs ++ rest) ≡ Some (a, rest)
 
 -- what a reader took, and what it says of it
 pub record Gave {A : Type 0} (r : Reader A) (P : A → Fields → Type 0) (fs : Fields) (a : A) (rest : Fields) : Type 0 where
@@ -57,20 +57,20 @@ pub record Gave {A : Type 0} (r : Reader A) (P : A → Fields → Type 0) (fs : 
   pub says : P a taken
 
 abbrev pub Gives : {A : Type 0} → Reader A → (A → Fields → Type 0) → Type 0
-Gives {A} r P = (fs : Fields) (a : A) (rest : Fields) → r fs ≡ some (a, rest) → Good fs → Gave r P fs a rest
+Gives {A} r P = (fs : Fields) (a : A) (rest : Fields) → r fs ≡ Some (a, rest) → Good fs → Gave r P fs a rest
 
 -- it took what is written of it
 abbrev pub Writes : {A : Type 0} → (A → Fields) → A → Fields → Type 0
 Writes w a p = p ≡ raw (w a)
 
-pair_left : {A B : Type 0} {a b : A} {x y : B} → ◌≡◌ {A = Option (A × B)} (some (a, x)) (some (b, y)) → a ≡ b
+pair_left : {A B : Type 0} {a b : A} {x y : B} → ◌≡◌ {A = Option (A × B)} (Some (a, x)) (Some (b, y)) → a ≡ b
 pair_left {A} {B} q = ap (λ (p : A × B). p.0) (some_inj q)
 
-pair_right : {A B : Type 0} {a b : A} {x y : B} → ◌≡◌ {A = Option (A × B)} (some (a, x)) (some (b, y)) → x ≡ y
+pair_right : {A B : Type 0} {a b : A} {x y : B} → ◌≡◌ {A = Option (A × B)} (Some (a, x)) (Some (b, y)) → x ≡ y
 pair_right {A} {B} q = ap (λ (p : A × B). p.1) (some_inj q)
 
 module _ {A B : Type 0} where
-  bind_reads : (r : Reader A) (f : A → Reader B) (fs : Fields) (a : A) (fs' : Fields) (x : Option (B × Fields)) → r fs ≡ some (a, fs') → f a fs' ≡ x
+  bind_reads : (r : Reader A) (f : A → Reader B) (fs : Fields) (a : A) (fs' : Fields) (x : Option (B × Fields)) → r fs ≡ Some (a, fs') → f a fs' ≡ x
       → ◌>>=◌ r f fs ≡ x
   unfolding ◌>>=◌ go_on
   bind_reads r f fs a fs' x p q = rw p q
@@ -85,7 +85,7 @@ module _ {A B : Type 0} where
   unfolding ◌>>=◌ go_on
   gives_bind r f P H g h fs b rest q s = go (r fs) refl q
     where
-      on : (a : A) (fs' : Fields) → Gave r P fs a fs' → f a fs' ≡ some (b, rest) → Gave (◌>>=◌ r f) H fs b rest
+      on : (a : A) (fs' : Fields) → Gave r P fs a fs' → f a fs' ≡ Some (b, rest) → Gave (◌>>=◌ r f) H fs b rest
       on a fs' k q =
           let m : Gave (f a) (λ b x. H b (k.taken ++ x)) fs' b rest =
           h a k.taken k.says k.back (good_left k.taken fs' (subst Good k.is s)) fs' b rest q (good_right k.taken fs' (subst Good k.is s)) in
@@ -96,9 +96,9 @@ module _ {A B : Type 0} where
             says = m.says;
           }
 
-      go : (o : Option (A × Fields)) → r fs ≡ o → go_on f o ≡ some (b, rest) → Gave (◌>>=◌ r f) H fs b rest
-      go none e q = no_some q
-      go (some x) e q = on x.0 x.1 (g fs x.0 x.1 e s) q
+      go : (o : Option (A × Fields)) → r fs ≡ o → go_on f o ≡ Some (b, rest) → Gave (◌>>=◌ r f) H fs b rest
+      go None e q = no_some q
+      go (Some x) e q = on x.0 x.1 (g fs x.0 x.1 e s) q
 
 module _ {A : Type 0} where
   pub given_back : (a : A) → Back (give a) [] a
@@ -112,16 +112,16 @@ module _ {A : Type 0} where
       (record { taken = []; is = pair_right q; back = given_back a; says = h })
 
   -- a field that says a
-  pub gives_saying : (says : List ℕ → Option A) (w : A → List ℕ) → ((f : List ℕ) (a : A) → GoodField f → says f ≡ some a → f ≡ escape (w a))
+  pub gives_saying : (says : List ℕ → Option A) (w : A → List ℕ) → ((f : List ℕ) (a : A) → GoodField f → says f ≡ Some a → f ≡ escape (w a))
       → Gives (◌>>=◌ field (λ f. saying (says f))) (Writes (λ a. w a ∷ []))
   unfolding field ◌>>=◌ go_on saying each
   gives_saying says w h [] a rest q s = no_some q
   gives_saying says w h (f ∷ fs) a rest q (good_more g s) = go (says f) refl q
     where
-      go : (o : Option A) → says f ≡ o → saying o fs ≡ some (a, rest) → Gave (◌>>=◌ field (λ x. saying (says x))) (Writes (λ a. w a ∷ [])) (f ∷ fs) a rest
-      go none e q = no_some q
-      go (some x) e q =
-          let z : says f ≡ some a = e ∙ ap some (pair_left q) in
+      go : (o : Option A) → says f ≡ o → saying o fs ≡ Some (a, rest) → Gave (◌>>=◌ field (λ x. saying (says x))) (Writes (λ a. w a ∷ [])) (f ∷ fs) a rest
+      go None e q = no_some q
+      go (Some x) e q =
+          let z : says f ≡ Some a = e ∙ ap Some (pair_left q) in
           record {
             taken = f ∷ [];
             is = ap (λ (l : Fields). f ∷ l) (pair_right q);
@@ -150,11 +150,11 @@ abbrev pub NotEmpty : Fields → Type 0
 NotEmpty p = (f : List ℕ) × (fs : Fields) × (p ≡ f ∷ fs)
 
 module _ {A : Type 0} where
-  opt_none : (r : Reader A) → Back (opt r) (codes "-" ∷ []) none
+  opt_none : (r : Reader A) → Back (opt r) (codes "-" ∷ []) None
   unfolding opt eq_list
   opt_none r = record { at = λ rest. refl }
 
-  opt_some : (r : Reader A) (f : List ℕ) (fs : Fields) (a : A) → eq_list f (minus ∷ []) ≡ false → Back r (f ∷ fs) a → Back (opt r) (f ∷ fs) (some a)
+  opt_some : (r : Reader A) (f : List ℕ) (fs : Fields) (a : A) → eq_list f (minus ∷ []) ≡ false → Back r (f ∷ fs) a → Back (opt r) (f ∷ fs) (Some a)
   unfolding opt got_one
   opt_some r f fs a q b = record { at = λ rest. rw (q, b.at rest) }
 
@@ -166,7 +166,7 @@ module _ {A : Type 0} where
       G : Option A → Type 0
       G x = Gave (opt r) (WritesOpt w) (f ∷ fs) x rest
 
-      there : (a : A) (rest' : Fields) → eq_list f (minus ∷ []) ≡ false → Gave r (Writes w) (f ∷ fs) a rest' → rest' ≡ rest → G (some a)
+      there : (a : A) (rest' : Fields) → eq_list f (minus ∷ []) ≡ false → Gave r (Writes w) (f ∷ fs) a rest' → rest' ≡ rest → G (Some a)
       there a rest' m k e =
           let (x, xs, z) = n a in
           let t : k.taken ≡ x ∷ xs = k.says ∙ z in
@@ -175,7 +175,7 @@ module _ {A : Type 0} where
           record {
             taken = k.taken;
             is = rw e at k.is;
-            back = subst (λ (p : Fields). Back (opt r) p (some a)) (sym t) (opt_some r x xs a (rw fx at m) (subst (λ (p : Fields). Back r p a) t k.back));
+            back = subst (λ (p : Fields). Back (opt r) p (Some a)) (sym t) (opt_some r x xs a (rw fx at m) (subst (λ (p : Fields). Back r p a) t k.back));
             says = k.says;
           }
         where
@@ -183,11 +183,11 @@ module _ {A : Type 0} where
           first_or [] = []
           first_or (y ∷ ys) = y
 
-      got : eq_list f (minus ∷ []) ≡ false → (x : Option (A × Fields)) → r (f ∷ fs) ≡ x → got_one x ≡ some (o, rest) → G o
-      got m none e p = no_some p
-      got m (some x) e p = subst G (pair_left p) (there x.0 x.1 m (g (f ∷ fs) x.0 x.1 e (good_more h s)) (pair_right p))
+      got : eq_list f (minus ∷ []) ≡ false → (x : Option (A × Fields)) → r (f ∷ fs) ≡ x → got_one x ≡ Some (o, rest) → G o
+      got m None e p = no_some p
+      got m (Some x) e p = subst G (pair_left p) (there x.0 x.1 m (g (f ∷ fs) x.0 x.1 e (good_more h s)) (pair_right p))
 
-      go : (b : Bool) → eq_list f (minus ∷ []) ≡ b → pick b (some (none, fs)) (got_one (r (f ∷ fs))) ≡ some (o, rest) → G o
+      go : (b : Bool) → eq_list f (minus ∷ []) ≡ b → pick b (Some (None, fs)) (got_one (r (f ∷ fs))) ≡ Some (o, rest) → G o
       go true m p =
           subst G (pair_left p)
           (record {

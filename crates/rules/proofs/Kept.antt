@@ -3,7 +3,7 @@ use Prim.Native.Nat.{ℕ, suc, ◌+◌, ◌≤◌}
 use mathlib.Core.Path.{◌≡◌, refl, sym, ap, ◌∙◌, subst}
 use mathlib.Core.List.{List, [], ◌∷◌, ◌++◌, append_assoc}
 use mathlib.Core.Bool.{true, false, ◌&&◌}
-use mathlib.Core.Option.{Option, none, some}
+use Rattle.std.specs.Prelude.{Option, None, Some}
 use native.Mathlib.Omega.{arith}
 use lib.Dec.{eqb, ltb}
 use lib.ListN.{length}
@@ -79,7 +79,7 @@ module _ (text : List ℕ) (n : ℕ) where
       IH : Type 0
       IH = (xs : List Event) → suc line ≤ 4097 → read_from text n (suc line) ls ≡ events xs → ReadAs (suc line) ls xs
 
-      with_good : IH → (e : Event) → parse_line l ≡ some e → all (is_good_span text n) (spans_of e) ≡ true → suc line ≤ 4097 → (r : Reading)
+      with_good : IH → (e : Event) → parse_line l ≡ Some e → all (is_good_span text n) (spans_of e) ≡ true → suc line ≤ 4097 → (r : Reading)
           → read_from text n (suc line) ls ≡ r → P (with_event e r)
       with_good ih e g s m (unread a b) k2 p = no_events p
       with_good ih e g s m (events xs) k2 p =
@@ -95,8 +95,8 @@ module _ (text : List ℕ) (n : ℕ) where
           })
 
       go : IH → (o : Option Event) → parse_line l ≡ o → P (read_line text n line o (read_from text n (suc line) ls))
-      go ih none e p = no_events p
-      go ih (some x) e p =
+      go ih None e p = no_events p
+      go ih (Some x) e p =
           pick_either P (ltb 4096 line) _ _ (λ b r. no_events r)
           (λ b. pick_either P (all (is_good_span text n) (spans_of x)) _ _
           (λ s. with_good ih x e s (let m : line ≤ 4096 = ltb-false 4096 line b in omega arith) (read_from text n (suc line) ls) refl) (λ s r. no_events r)) p
@@ -119,10 +119,10 @@ module _ (text : List ℕ) (n : ℕ) where
   written_reads line (written_more {e} {es} g s r) h =
       ap (read_from text n line) (lines_line (event_fields e) (sheet_of es))
       ∙ ap (λ (o : Option Event). read_line text n line o (read_from text n (suc line) (lines (sheet_of es)))) g
-      ∙ ap (read_line text n line (some e)) (written_reads (suc line) r (omega arith))
+      ∙ ap (read_line text n line (Some e)) (written_reads (suc line) r (omega arith))
       ∙ taken (le-ltb 4096 line (omega arith))
     where
-      taken : ltb 4096 line ≡ false → read_line text n line (some e) (events es) ≡ events (e ∷ es)
+      taken : ltb 4096 line ≡ false → read_line text n line (Some e) (events es) ≡ events (e ∷ es)
       taken q = unfold read_line with_event in rw (q, s)
 
 -- ---- the form's events are readable
@@ -130,13 +130,13 @@ module _ (text : List ℕ) (n : ℕ) where
 ingredient_spans : (c : Component) (x : Option Earlier) (i : Option Intermediate)
     → component_spans (ingredient_event (marked_if c x) i) ≡ component_spans (ingredient_event c i)
 unfolding marked_if mark_ref component_spans named_spans
-ingredient_spans c none i = refl
-ingredient_spans c (some d) i = refl
+ingredient_spans c None i = refl
+ingredient_spans c (Some d) i = refl
 
 cookware_spans : (c : Component) (x : Option Earlier) → component_spans (cookware_event (marked_if c x)) ≡ component_spans (cookware_event c)
 unfolding marked_if mark_ref component_spans named_spans
-cookware_spans c none = refl
-cookware_spans c (some d) = refl
+cookware_spans c None = refl
+cookware_spans c (Some d) = refl
 
 marked_spans : (units : List NamedUnit) (flags : ℕ) (st : State) (c : ComponentEvent) → component_spans (marked_component units flags st c) ≡ component_spans c
 unfolding marked_component
@@ -148,15 +148,15 @@ ingredient_readable : (c : Component) (x : Option Earlier) (i : Option Intermedi
     → GoodParts (ingredient_event c i) → Good (raw (component_fields (ingredient_event c i)))
     → Readable (inside (component_event (ingredient_event (marked_if c x) i)))
 unfolding marked_if
-ingredient_readable c none i r p g = r
-ingredient_readable c (some d) i r p g = ingredient_marked c i p g
+ingredient_readable c None i r p g = r
+ingredient_readable c (Some d) i r p g = ingredient_marked c i p g
 
 cookware_readable : (c : Component) (x : Option Earlier) → Readable (inside (component_event (cookware_event c))) → GoodParts (cookware_event c)
     → Good (raw (component_fields (cookware_event c)))
     → Readable (inside (component_event (cookware_event (marked_if c x))))
 unfolding marked_if
-cookware_readable c none r p g = r
-cookware_readable c (some d) r p g = cookware_marked c p g
+cookware_readable c None r p g = r
+cookware_readable c (Some d) r p g = cookware_marked c p g
 
 marked_readable : (units : List NamedUnit) (flags : ℕ) (st : State) (c : ComponentEvent) → Readable (inside (component_event c)) → GoodParts c
     → Good (raw (component_fields c))

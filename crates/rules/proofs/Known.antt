@@ -3,7 +3,7 @@ use Prim.Native.Nat.{ℕ, suc}
 use mathlib.Core.Path.{◌≡◌, refl, sym, ap, ◌∙◌, subst}
 use mathlib.Core.List.{List, [], ◌∷◌}
 use mathlib.Core.Bool.{Bool, true, false}
-use mathlib.Core.Option.{Option, none, some}
+use Rattle.std.specs.Prelude.{Option, None, Some}
 use lib.ListN.{length}
 use Rattle.rules.specs.Basic.{pick, word_in}
 use Rattle.rules.specs.Words.{ConfigKey, define_key, duplicate_key, config_keys, DefineMode, DuplicateMode}
@@ -47,16 +47,16 @@ module _ (flags : ℕ) where
 
   -- ---- lines that set no mode and are no entry
 
-  unset : {A : Type 0} (h : Bool) (a : A) → or_else (pick h none none) a ≡ a
+  unset : {A : Type 0} (h : Bool) (a : A) → or_else (pick h None None) a ≡ a
   unfolding or_else
   unset true a = refl
   unset false a = refl
 
-  pub define_same : (e : Event) (earlier : List Event) → mode_key e ≡ none → define_at flags (e ∷ earlier) ≡ define_at flags earlier
+  pub define_same : (e : Event) (earlier : List Event) → mode_key e ≡ None → define_at flags (e ∷ earlier) ≡ define_at flags earlier
   unfolding define_at defines_by
   define_same e earlier q = rw q (unset (has_modes flags) (define_at flags earlier))
 
-  pub duplicate_same : (e : Event) (earlier : List Event) → mode_key e ≡ none → duplicate_at flags (e ∷ earlier) ≡ duplicate_at flags earlier
+  pub duplicate_same : (e : Event) (earlier : List Event) → mode_key e ≡ None → duplicate_at flags (e ∷ earlier) ≡ duplicate_at flags earlier
   unfolding duplicate_at duplicates_by
   duplicate_same e earlier q = rw q (unset (has_modes flags) (duplicate_at flags earlier))
 
@@ -90,7 +90,7 @@ module _ (flags : ℕ) where
     pub same_places : entry_in (define_at flags earlier) e ≡ no_entry → (k : Kind) → Below (length (e ∷ earlier)) (unmarked flags k (e ∷ earlier))
     same_places x k = subst (Below (suc (length earlier))) (sym (unmarked_same k e earlier x)) (below_up (h.places k))
 
-    pub knows_same : mode_key e ≡ none → entry_in (define_at flags earlier) e ≡ no_entry → (after : State) → after.modes ≡ st.modes
+    pub knows_same : mode_key e ≡ None → entry_in (define_at flags earlier) e ≡ no_entry → (after : State) → after.modes ≡ st.modes
         → after.tables.ingredients ≡ st.tables.ingredients → after.tables.cookware ≡ st.tables.cookware
         → Agrees after.place.block (is_text st.modes.define)
         → Knows (e ∷ earlier) after
@@ -107,41 +107,41 @@ module _ (flags : ℕ) where
 
   define_by : (k v : Text) (w : Option DefineMode) (st : State) → (on_define k v w st).modes.define ≡ or_else w st.modes.define
   unfolding on_define report set_modes or_else
-  define_by k v none st = refl
-  define_by k v (some m) st = refl
+  define_by k v None st = refl
+  define_by k v (Some m) st = refl
 
   define_other : (k v : Text) (w : Option DuplicateMode) (st : State) → (on_duplicate k v w st).modes.define ≡ st.modes.define
   unfolding on_duplicate report set_modes
-  define_other k v none st = refl
-  define_other k v (some m) st = refl
+  define_other k v None st = refl
+  define_other k v (Some m) st = refl
 
   duplicate_by : (k v : Text) (w : Option DuplicateMode) (st : State) → (on_duplicate k v w st).modes.duplicate ≡ or_else w st.modes.duplicate
   unfolding on_duplicate report set_modes or_else
-  duplicate_by k v none st = refl
-  duplicate_by k v (some m) st = refl
+  duplicate_by k v None st = refl
+  duplicate_by k v (Some m) st = refl
 
   duplicate_other : (k v : Text) (w : Option DefineMode) (st : State) → (on_define k v w st).modes.duplicate ≡ st.modes.duplicate
   unfolding on_define report set_modes
-  duplicate_other k v none st = refl
-  duplicate_other k v (some m) st = refl
+  duplicate_other k v None st = refl
+  duplicate_other k v (Some m) st = refl
 
   key_define : (h : Bool) (o : Option ConfigKey) (b : Bool) (k v : Text) (st : State)
-      → (on_key (pick h (key_as o b) ordinary) k v st).modes.define ≡ or_else (pick h (defines_by o (value_text v)) none) st.modes.define
+      → (on_key (pick h (key_as o b) ordinary) k v st).modes.define ≡ or_else (pick h (defines_by o (value_text v)) None) st.modes.define
   unfolding on_key key_as defines_by or_else store_meta set_metadata report
   key_define false o b k v st = refl
-  key_define true (some define_key) b k v st = define_by k v _ st
-  key_define true (some duplicate_key) b k v st = define_other k v _ st
-  key_define true none true k v st = refl
-  key_define true none false k v st = refl
+  key_define true (Some define_key) b k v st = define_by k v _ st
+  key_define true (Some duplicate_key) b k v st = define_other k v _ st
+  key_define true None true k v st = refl
+  key_define true None false k v st = refl
 
   key_duplicate : (h : Bool) (o : Option ConfigKey) (b : Bool) (k v : Text) (st : State)
-      → (on_key (pick h (key_as o b) ordinary) k v st).modes.duplicate ≡ or_else (pick h (duplicates_by o (value_text v)) none) st.modes.duplicate
+      → (on_key (pick h (key_as o b) ordinary) k v st).modes.duplicate ≡ or_else (pick h (duplicates_by o (value_text v)) None) st.modes.duplicate
   unfolding on_key key_as duplicates_by or_else store_meta set_metadata report
   key_duplicate false o b k v st = refl
-  key_duplicate true (some define_key) b k v st = duplicate_other k v _ st
-  key_duplicate true (some duplicate_key) b k v st = duplicate_by k v _ st
-  key_duplicate true none true k v st = refl
-  key_duplicate true none false k v st = refl
+  key_duplicate true (Some define_key) b k v st = duplicate_other k v _ st
+  key_duplicate true (Some duplicate_key) b k v st = duplicate_by k v _ st
+  key_duplicate true None true k v st = refl
+  key_duplicate true None false k v st = refl
 
   -- what a `meta` line leaves alone
   record Left (st after : State) : Type 0 where
@@ -150,13 +150,13 @@ module _ (flags : ℕ) where
 
   define_left : (k v : Text) (w : Option DefineMode) (st : State) → Left st (on_define k v w st)
   unfolding on_define report set_modes
-  define_left k v none st = record { place_is = refl; tables_are = refl }
-  define_left k v (some m) st = record { place_is = refl; tables_are = refl }
+  define_left k v None st = record { place_is = refl; tables_are = refl }
+  define_left k v (Some m) st = record { place_is = refl; tables_are = refl }
 
   duplicate_left : (k v : Text) (w : Option DuplicateMode) (st : State) → Left st (on_duplicate k v w st)
   unfolding on_duplicate report set_modes
-  duplicate_left k v none st = record { place_is = refl; tables_are = refl }
-  duplicate_left k v (some m) st = record { place_is = refl; tables_are = refl }
+  duplicate_left k v None st = record { place_is = refl; tables_are = refl }
+  duplicate_left k v (Some m) st = record { place_is = refl; tables_are = refl }
 
   key_left : (key : Key) (k v : Text) (st : State) → Left st (on_key key k v st)
   unfolding on_key store_meta set_metadata report
@@ -179,10 +179,10 @@ module _ (flags : ℕ) where
       record {
         define = unfold key_of define_at mode_key value_of in
             (key_define (has_modes flags) (word_in (key_text k) config_keys) (is_bracketed (key_text k)) k v st
-            ∙ ap (or_else (pick (has_modes flags) (defines_by (word_in (key_text k) config_keys) (value_text v)) none)) h.define);
+            ∙ ap (or_else (pick (has_modes flags) (defines_by (word_in (key_text k) config_keys) (value_text v)) None)) h.define);
         duplicate = unfold key_of duplicate_at mode_key value_of in
             (key_duplicate (has_modes flags) (word_in (key_text k) config_keys) (is_bracketed (key_text k)) k v st
-            ∙ ap (or_else (pick (has_modes flags) (duplicates_by (word_in (key_text k) config_keys) (value_text v)) none)) h.duplicate);
+            ∙ ap (or_else (pick (has_modes flags) (duplicates_by (word_in (key_text k) config_keys) (value_text v)) None)) h.duplicate);
         block = no_block_lem _ true _ (ap (λ (p : Place). is_open p.block) left.place_is ∙ q);
         tables = same_tables earlier st h e none_here after (ap (λ (t : Tables). t.ingredients) left.tables_are)
             (ap (λ (t : Tables). t.cookware) left.tables_are);

@@ -3,7 +3,7 @@ use Prim.Native.Nat.{ℕ, suc}
 use mathlib.Core.Path.{◌≡◌, refl, sym, ap, ◌∙◌, subst}
 use mathlib.Core.List.{List, ◌∷◌}
 use mathlib.Core.Bool.{Bool, true, false, ◌||◌, not}
-use mathlib.Core.Option.{Option, none, some}
+use Rattle.std.specs.Prelude.{Option, None, Some}
 use native.Mathlib.Omega.{arith}
 use lib.ListN.{length}
 use Rattle.rules.specs.Basic.{pick, is_some}
@@ -24,7 +24,7 @@ use Rattle.rules.proofs.Known.{Agrees, Knows, KnowsStep, define_same, duplicate_
 
 -- component lines set no mode; which of them are entries
 
-pub mode_none : (c : ComponentEvent) → mode_key (inside (component_event c)) ≡ none
+pub mode_none : (c : ComponentEvent) → mode_key (inside (component_event c)) ≡ None
 unfolding mode_key
 mode_none c = refl
 
@@ -69,8 +69,8 @@ module _ (m : DefineMode) (d : DuplicateMode) (j : Kind) (c : Component) where
 
 referring_ref : (j : Kind) (o : Option Earlier) (new : Entry) → new.modifiers.ref ≡ true → (as_referring j o new).modifiers.ref ≡ true
 unfolding as_referring set_relation set_modifiers with_ref
-referring_ref j none new q = q
-referring_ref j (some d) new q = refl
+referring_ref j None new q = q
+referring_ref j (Some d) new q = refl
 
 module _ (text : List ℕ) (units : List NamedUnit) (flags : ℕ) where
   by_name_made : (j : Kind) (c : Component) (st : State) (us : List Unmarked) → Listed (table_of j st) us
@@ -89,18 +89,18 @@ module _ (text : List ℕ) (units : List NamedUnit) (flags : ℕ) where
           → MadeAs st.modes.define st.modes.duplicate j c us (as_referring j a new)
       by no_link r q =
           unfold as_referring new_entry entry_of entry_with is_some folded_name in
-          as_entry (by_target st.modes.define st.modes.duplicate j c us none r q) r refl refl
+          as_entry (by_target st.modes.define st.modes.duplicate j c us None r q) r refl refl
       by last_link r q =
-          unfold as_referring set_relation set_modifiers with_ref is_some in as_marked (by_target st.modes.define st.modes.duplicate j c us (some _) r q) refl
+          unfold as_referring set_relation set_modifiers with_ref is_some in as_marked (by_target st.modes.define st.modes.duplicate j c us (Some _) r q) refl
       by (other_link p g) r q =
-          unfold as_referring set_relation set_modifiers with_ref is_some in as_marked (by_target st.modes.define st.modes.duplicate j c us (some _) r q) refl
+          unfold as_referring set_relation set_modifiers with_ref is_some in as_marked (by_target st.modes.define st.modes.duplicate j c us (Some _) r q) refl
 
       go : (b : Bool) → c.modifiers.ref ≡ b → MadeAs st.modes.define st.modes.duplicate j c us (as_referring j target new)
       go true r = as_marked (has_ref st.modes.define st.modes.duplicate j c us r) (referring_ref j target new (unfold new_entry entry_of entry_with in r))
       go false r = by (line_links j c st us r h) r refl
 
   intermediate_made : (c : Component) (i : Intermediate) (st : State) (us : List Unmarked) → c.modifiers.ref ≡ true
-      → MadeAs st.modes.define st.modes.duplicate ingredient c us (make_ingredient units flags c (some i) st).entry
+      → MadeAs st.modes.define st.modes.duplicate ingredient c us (make_ingredient units flags c (Some i) st).entry
   unfolding make_ingredient made_intermediate set_relation new_entry entry_of entry_with
   intermediate_made c i st us r = as_marked (has_ref st.modes.define st.modes.duplicate ingredient c us r) r
 
@@ -141,7 +141,7 @@ module _ (text : List ℕ) (units : List NamedUnit) (flags : ℕ) where
         here : entry_in (define_at flags earlier) e ≡ entry_line j c
         here = unfold entry_in in rw (sym h.define, t, q)
 
-    pushed_knows : (j : Kind) (e : Event) (c : Component) (m : Made) (is : List Item) → mode_key e ≡ none → entry_of_line e ≡ entry_line j c
+    pushed_knows : (j : Kind) (e : Event) (c : Component) (m : Made) (is : List Item) → mode_key e ≡ None → entry_of_line e ≡ entry_line j c
         → is_text st.modes.define ≡ false
         → MadeAs st.modes.define st.modes.duplicate j c (Us j) m.entry → Knows flags (e ∷ earlier) (push_component j m is st)
     pushed_knows j e c m is q x t a =
@@ -195,21 +195,21 @@ module _ (text : List ℕ) (units : List NamedUnit) (flags : ℕ) where
         knows_same flags earlier st h (inside (component_event (timer_event a x q))) (mode_none (timer_event a x q))
         (no_entry_lem flags (define_at flags earlier) (inside (component_event (timer_event a x q))) (entry_timer a x q))
         (push_timer units flags x q is st) refl refl refl t
-    component_knows (ingredient_event c none) is t =
+    component_knows (ingredient_event c None) is t =
         unfold make_ingredient in
-        chained_knows _ _ _ (pushed_knows ingredient _ c _ is (mode_none _) (entry_ingredient c none) t (by_name_made ingredient c st _ (h.tables ingredient)))
-    component_knows (ingredient_event c (some i)) is t = go c.modifiers.ref refl i.value.negative
+        chained_knows _ _ _ (pushed_knows ingredient _ c _ is (mode_none _) (entry_ingredient c None) t (by_name_made ingredient c st _ (h.tables ingredient)))
+    component_knows (ingredient_event c (Some i)) is t = go c.modifiers.ref refl i.value.negative
       where
         e : Event
-        e = inside (component_event (ingredient_event c (some i)))
+        e = inside (component_event (ingredient_event c (Some i)))
 
         m : Made
-        m = make_ingredient units flags c (some i) st
+        m = make_ingredient units flags c (Some i) st
 
         go : (b : Bool) → c.modifiers.ref ≡ b → (n : Bool)
-            → N e (unless_fault (pick {X = Option ℕ} (not b) (some 15) (pick n (some 16) none)) (unless_chained m (push_component ingredient m is st)))
+            → N e (unless_fault (pick {X = Option ℕ} (not b) (Some 15) (pick n (Some 16) None)) (unless_chained m (push_component ingredient m is st)))
         go false r n = tt
         go true r true = tt
         go true r false =
             chained_knows e m (push_component ingredient m is st)
-            (pushed_knows ingredient e c m is (mode_none (ingredient_event c (some i))) (entry_ingredient c (some i)) t (intermediate_made c i st (Us ingredient) r))
+            (pushed_knows ingredient e c m is (mode_none (ingredient_event c (Some i))) (entry_ingredient c (Some i)) t (intermediate_made c i st (Us ingredient) r))

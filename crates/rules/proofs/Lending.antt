@@ -3,7 +3,7 @@ use Prim.Native.Nat.{ℕ}
 use mathlib.Core.Path.{◌≡◌, refl, ap, ◌∙◌}
 use mathlib.Core.List.{List, [], ◌∷◌}
 use mathlib.Core.Bool.{Bool, true, false, ◌||◌}
-use mathlib.Core.Option.{Option, none, some}
+use Rattle.std.specs.Prelude.{Option, None, Some}
 use lib.Dec.{leb, ltb}
 use lib.ListN.{length}
 use borrow.Author.Tests.{ltb-false, le-leb}
@@ -23,8 +23,8 @@ unless_fitted us flags room w (t ∷ ts) = by (plain_fault us flags t.state t.ev
   where
     by : (o : Option ℕ) → unless_faulty us flags (fitted room w) ts ≡ fitted room (unless_faulty us flags w ts)
         → fault_or t.line o (unless_faulty us flags (fitted room w) ts) ≡ fitted room (fault_or t.line o (unless_faulty us flags w ts))
-    by none q = unfold fault_or in q
-    by (some n) q = unfold fault_or in refl
+    by None q = unfold fault_or in q
+    by (Some n) q = unfold fault_or in refl
 
 form_fitted : (text units : List ℕ) (flags room : ℕ) (form : List ℕ) → form_answer text units flags room form ≡ fitted room (form_answer text units flags 65536 form)
 unfolding form_answer hand_out

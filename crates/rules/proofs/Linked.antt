@@ -3,7 +3,7 @@ use Prim.Native.Nat.{ℕ, suc, ◌<◌}
 use mathlib.Core.Path.{◌≡◌, refl, sym, subst}
 use mathlib.Core.List.{List, [], ◌∷◌}
 use mathlib.Core.Bool.{Bool, true, false, ◌&&◌, ◌||◌, not}
-use mathlib.Core.Option.{Option, none, some}
+use Rattle.std.specs.Prelude.{Option, None, Some}
 use native.Mathlib.Omega.{arith}
 use lib.Dec.{eqb}
 use lib.ListN.{length}
@@ -47,23 +47,23 @@ referred_one n i {us = us} (listed_entry {e} {es} r f o p h) =
 
 pub referred_listed : {es : List Entry} {us : List Unmarked} (o : Option Earlier) → Listed es us → Listed (referred o es) us
 unfolding referred
-referred_listed none h = h
-referred_listed (some d) h = referred_one _ d.index h
+referred_listed None h = h
+referred_listed (Some d) h = referred_one _ d.index h
 
 -- ---- the two searches over the two lists: that with OPT and that without
 
 pub data Both : Option Earlier → Option Earlier → Option Unmarked → Option Unmarked → Type 0 where
-  neither : Both none none none none
-  named_only : {l : Earlier} {v : Unmarked} → Both none (some l) none (some v)
-  same_one : {d : Earlier} {u : Unmarked} → Both (some d) (some d) (some u) (some u)
-  another : {d l : Earlier} {u v : Unmarked} → d.index < l.index → u.place < v.place → Both (some d) (some l) (some u) (some v)
+  neither : Both None None None None
+  named_only : {l : Earlier} {v : Unmarked} → Both None (Some l) None (Some v)
+  same_one : {d : Earlier} {u : Unmarked} → Both (Some d) (Some d) (Some u) (Some u)
+  another : {d l : Earlier} {u v : Unmarked} → d.index < l.index → u.place < v.place → Both (Some d) (Some l) (Some u) (Some v)
 
 -- what is found has a place below every bound
-fitting_below : (f : List ℕ) (o : Bool) {n : ℕ} {us : List Unmarked} → Below n us → (u : Unmarked) → last_fitting f o us ≡ some u → u.place < n
+fitting_below : (f : List ℕ) (o : Bool) {n : ℕ} {us : List Unmarked} → Below n us → (u : Unmarked) → last_fitting f o us ≡ Some u → u.place < n
 unfolding last_fitting
 fitting_below f o below_none u q = no_some q
 fitting_below f o {n} (below_more {u = w} {us = us} h s) u q =
-    pick_either (λ (x : Option Unmarked). x ≡ some u → u.place < n) (eq_bool w.is_opt o && eq_list w.folded f) _ _
+    pick_either (λ (x : Option Unmarked). x ≡ Some u → u.place < n) (eq_bool w.is_opt o && eq_list w.folded f) _ _
     (λ b p. subst (λ (y : Unmarked). y.place < n) (some_inj p) h) (λ b p. fitting_below f o s u p) q
 
 module _ (f : List ℕ) (o : Bool) where
@@ -72,7 +72,7 @@ module _ (f : List ℕ) (o : Bool) where
 
   -- an entry that has the name but not the OPT stands before what the tails find
   passed_by : (e : Entry) (es : List Entry) (u : Unmarked) (us : List Unmarked) → Below u.place us → {a b : Option Earlier} {x y : Option Unmarked} → Both a b x y
-      → same_name_in f false o es ≡ a → last_fitting f o us ≡ x → Both a (some (record { index = length es; entry = e })) x (some u)
+      → same_name_in f false o es ≡ a → last_fitting f o us ≡ x → Both a (Some (record { index = length es; entry = e })) x (Some u)
   passed_by e es u us p neither qa qx = named_only
   passed_by e es u us p named_only qa qx = named_only
   passed_by e es u us p (same_one {d = d} {u = w}) qa qx = another (found_below f false o es d qa) (fitting_below f o p w qx)
@@ -98,8 +98,8 @@ module _ (f : List ℕ) (o : Bool) where
       E = record { index = length es; entry = e }
 
       go : (x y : Bool) → B es us
-          → Both (pick (x && y) (some E) (same_name_in f false o es)) (pick y (some E) (same_name_in f true o es)) (pick (x && y) (some u) (last_fitting f o us))
-          (pick y (some u) (last_named f us))
+          → Both (pick (x && y) (Some E) (same_name_in f false o es)) (pick y (Some E) (same_name_in f true o es)) (pick (x && y) (Some u) (last_fitting f o us))
+          (pick y (Some u) (last_named f us))
       go true true ih = same_one
       go true false ih = ih
       go false false ih = ih
@@ -108,18 +108,18 @@ module _ (f : List ℕ) (o : Bool) where
 -- ---- what a line without REF refers to, in the pass and by the lines
 
 pub data Links : Option Earlier → Option Earlier → Option Unmarked → Option Unmarked → Type 0 where
-  no_link : {b : Option Earlier} {y : Option Unmarked} → Links none b none y
-  last_link : {d : Earlier} {u : Unmarked} → Links (some d) (some d) (some u) (some u)
-  other_link : {d l : Earlier} {u v : Unmarked} → d.index < l.index → u.place < v.place → Links (some d) (some l) (some u) (some v)
+  no_link : {b : Option Earlier} {y : Option Unmarked} → Links None b None y
+  last_link : {d : Earlier} {u : Unmarked} → Links (Some d) (Some d) (Some u) (Some u)
+  other_link : {d l : Earlier} {u v : Unmarked} → d.index < l.index → u.place < v.place → Links (Some d) (Some l) (Some u) (Some v)
 
-both_none : (p q : Bool) {b : Option Earlier} {y : Option Unmarked} → Links (pick p none none) b (pick q none none) y
+both_none : (p q : Bool) {b : Option Earlier} {y : Option Unmarked} → Links (pick p None None) b (pick q None None) y
 both_none true true = no_link
 both_none true false = no_link
 both_none false true = no_link
 both_none false false = no_link
 
 chosen : (new steps refs : Bool) {a b : Option Earlier} {x y : Option Unmarked} → Both a b x y
-    → Links (pick new none (pick (false || steps || refs && is_some a) a none)) b (pick (true && not new && (steps || refs)) x none) y
+    → Links (pick new None (pick (false || steps || refs && is_some a) a None)) b (pick (true && not new && (steps || refs)) x None) y
 unfolding is_some
 chosen true steps refs h = no_link
 chosen false steps refs neither = both_none (steps || refs && false) (steps || refs)
@@ -132,7 +132,7 @@ chosen false false true (another h g) = other_link h g
 chosen false false false (another h g) = no_link
 
 marked_or : (ref new steps refs : Bool) (a : Bool → Option Earlier) {b : Option Earlier} {x y : Option Unmarked} → ref ≡ false → Both (a false) b x y
-    → Links (pick new none (pick (ref || steps || refs && is_some (a ref)) (a ref) none)) b (pick (not ref && not new && (steps || refs)) x none) y
+    → Links (pick new None (pick (ref || steps || refs && is_some (a ref)) (a ref) None)) b (pick (not ref && not new && (steps || refs)) x None) y
 marked_or true new steps refs a q h = no_truth (sym q)
 marked_or false new steps refs a q h = chosen new steps refs h
 

@@ -3,7 +3,7 @@ use Prim.Native.Nat.{ℕ, suc, ◌+◌}
 use mathlib.Core.Path.{◌≡◌, refl, sym, ap, ◌∙◌, subst}
 use mathlib.Core.List.{List, [], ◌∷◌}
 use mathlib.Core.Bool.{Bool, true, false}
-use mathlib.Core.Option.{Option, some}
+use Rattle.std.specs.Prelude.{Option, Some}
 use native.Mathlib.Omega.{arith}
 use lib.Dec.{eqb}
 use lib.ListN.{length}
@@ -97,13 +97,13 @@ unfolding is_definition referrers_of referred_by
 one_more n (definition b by) q = refl
 one_more n (reference t j) q = no_truth q
 
-set_referrers : (d n : ℕ) (x : Entry) → is_definition x.relation ≡ true → (es : List Entry) → entry_at d es ≡ some x
+set_referrers : (d n : ℕ) (x : Entry) → is_definition x.relation ≡ true → (es : List Entry) → entry_at d es ≡ Some x
     → kept_referrers (set_referenced_from d n es) ≡ suc (kept_referrers es)
 unfolding set_referenced_from entry_at kept_referrers set_relation
 set_referrers d n x h [] q = no_some q
 set_referrers d n x h (e ∷ es) q = go (eqb d (length es)) (set_referrers d n x h es) q
   where
-    go : (b : Bool) → (entry_at d es ≡ some x → kept_referrers (set_referenced_from d n es) ≡ suc (kept_referrers es)) → pick b (some e) (entry_at d es) ≡ some x
+    go : (b : Bool) → (entry_at d es ≡ Some x → kept_referrers (set_referenced_from d n es) ≡ suc (kept_referrers es)) → pick b (Some e) (entry_at d es) ≡ Some x
         → kept_referrers (pick b (set_relation (referred_by n e.relation) e ∷ es) (e ∷ set_referenced_from d n es)) ≡ suc (referrers_of e.relation + kept_referrers es)
     go true ih p =
         let z : e ≡ x = some_inj p in

@@ -3,7 +3,7 @@ use Prim.Native.Nat.{ℕ, zero, suc, ◌+◌, ◌-◌, ◌*◌, ◌/◌, ◌%◌
 use mathlib.Core.Path.{◌≡◌, refl, sym, ap, ◌∙◌}
 use mathlib.Core.List.{List, [], ◌∷◌, ◌++◌, append_assoc, append-nil}
 use mathlib.Core.Bool.{Bool, true, false}
-use mathlib.Core.Option.{Option, none, some}
+use Rattle.std.specs.Prelude.{Option, None, Some}
 use native.Mathlib.Omega.{arith}
 use native.Mathlib.Nat.{pow-suc}
 use lib.Dec.{eqb, leb, ltb}
@@ -72,7 +72,7 @@ lead_read : (m : ℕ) (l : List ℕ) → Leading l → number_up_to m l ≡ at_m
 unfolding number_up_to
 lead_read m l r = rw (r.is, r.not_zero)
 
-pub number_decimal : (m n : ℕ) → n ≤ m → m ≤ 65535 → number_up_to m (decimal n) ≡ some n
+pub number_decimal : (m n : ℕ) → n ≤ m → m ≤ 65535 → number_up_to m (decimal n) ≡ Some n
 unfolding decimal digits_from at_most
 number_decimal m zero h b = unfold number_up_to only_zero digits in refl
 number_decimal m (suc n) h b =
@@ -81,43 +81,43 @@ number_decimal m (suc n) h b =
 
 -- ---- what was read writes back
 
-pub most : (m n : ℕ) (o : Option ℕ) → at_most m o ≡ some n → (n ≤ m) × (o ≡ some n)
+pub most : (m n : ℕ) (o : Option ℕ) → at_most m o ≡ Some n → (n ≤ m) × (o ≡ Some n)
 unfolding at_most
-most m n none q = no_some q
-most m n (some k) q =
-    pick_either (λ (o : Option ℕ). o ≡ some n → (n ≤ m) × (some k ≡ some n)) (leb k m) _ _
+most m n None q = no_some q
+most m n (Some k) q =
+    pick_either (λ (o : Option ℕ). o ≡ Some n → (n ≤ m) × (Some k ≡ Some n)) (leb k m) _ _
     (λ b r. let e : k ≡ n = some_inj r in let g : k ≤ m = leb-true k m b in (omega arith, r)) (λ b r. no_some r) q
 
-only_zero_lem : (n : ℕ) (s : List ℕ) → only_zero s ≡ some n → (n ≡ 0) × (s ≡ [])
+only_zero_lem : (n : ℕ) (s : List ℕ) → only_zero s ≡ Some n → (n ≡ 0) × (s ≡ [])
 unfolding only_zero
 only_zero_lem n [] q = (sym (some_inj q), refl)
 only_zero_lem n (c ∷ s) q = no_some q
 
-pub number_small : (m n : ℕ) (f : List ℕ) → number_up_to m f ≡ some n → n ≤ m
+pub number_small : (m n : ℕ) (f : List ℕ) → number_up_to m f ≡ Some n → n ≤ m
 unfolding number_up_to
 number_small m n [] q = no_some q
 number_small m n (c ∷ s) q =
-    pick_either (λ (o : Option ℕ). o ≡ some n → n ≤ m) (eqb c 48) _ _ (λ b r. let e = (only_zero_lem n s r).0 in omega arith)
+    pick_either (λ (o : Option ℕ). o ≡ Some n → n ≤ m) (eqb c 48) _ _ (λ b r. let e = (only_zero_lem n s r).0 in omega arith)
     (λ b r. (most m n (digits_from 0 (c ∷ s)) r).0) q
 
-digits_grow : (a n : ℕ) (s : List ℕ) → digits_from a s ≡ some n → a ≤ n
+digits_grow : (a n : ℕ) (s : List ℕ) → digits_from a s ≡ Some n → a ≤ n
 unfolding digits_from
 digits_grow a n [] q = let e : a ≡ n = some_inj q in omega arith
 digits_grow a n (c ∷ s) q =
-    pick_either (λ (o : Option ℕ). o ≡ some n → a ≤ n) (is_digit c) _ _
+    pick_either (λ (o : Option ℕ). o ≡ Some n → a ≤ n) (is_digit c) _ _
     (λ b r. let h = digits_grow (a * 10 + (c - 48)) n s r in omega arith) (λ b r. no_some r) q
 
-digits_back : (a n : ℕ) (s : List ℕ) → 0 < a → n < 2 ^ 32 → digits_from a s ≡ some n → decimal n ≡ decimal a ++ s
+digits_back : (a n : ℕ) (s : List ℕ) → 0 < a → n < 2 ^ 32 → digits_from a s ≡ Some n → decimal n ≡ decimal a ++ s
 unfolding digits_from
 digits_back a n [] p f q = rw (append-nil, some_inj q)
 digits_back a n (c ∷ s) p f q =
-    pick_either (λ (o : Option ℕ). o ≡ some n → decimal n ≡ decimal a ++ (c ∷ s)) (is_digit c) _ _
+    pick_either (λ (o : Option ℕ). o ≡ Some n → decimal n ≡ decimal a ++ (c ∷ s)) (is_digit c) _ _
     (λ b r. step b r (digits_back (a * 10 + (c - 48)) n s (first b) f r)) (λ b r. no_some r) q
   where
     first : is_digit c ≡ true → 0 < a * 10 + (c - 48)
     first b = omega arith
 
-    step : is_digit c ≡ true → digits_from (a * 10 + (c - 48)) s ≡ some n → decimal n ≡ decimal (a * 10 + (c - 48)) ++ s → decimal n ≡ decimal a ++ (c ∷ s)
+    step : is_digit c ≡ true → digits_from (a * 10 + (c - 48)) s ≡ Some n → decimal n ≡ decimal (a * 10 + (c - 48)) ++ s → decimal n ≡ decimal a ++ (c ∷ s)
     step b r ih =
         let lo = within_from 48 57 c b in
         let hi = within_to 48 57 c b in
@@ -129,17 +129,17 @@ digits_back a n (c ∷ s) p f q =
         ih ∙ rw (decimal_more (a * 10 + (c - 48)) u v, d, e, append_assoc)
 
 -- a number as it stands in a sheet is the decimal spelling of its value
-pub decimal_number : (m n : ℕ) (f : List ℕ) → m ≤ 65535 → number_up_to m f ≡ some n → decimal n ≡ f
+pub decimal_number : (m n : ℕ) (f : List ℕ) → m ≤ 65535 → number_up_to m f ≡ Some n → decimal n ≡ f
 unfolding number_up_to digits_from
 decimal_number m n [] b q = no_some q
 decimal_number m n (c ∷ s) b q =
-    pick_either (λ (o : Option ℕ). o ≡ some n → decimal n ≡ c ∷ s) (eqb c 48) _ _
+    pick_either (λ (o : Option ℕ). o ≡ Some n → decimal n ≡ c ∷ s) (eqb c 48) _ _
     (λ z r. let o = only_zero_lem n s r in rw (o.0, o.1, eqb-true c 48 z) (decimal_one 0 (omega arith)))
     (λ z r. let o = most m n _ r in
-    pick_either (λ (o : Option ℕ). o ≡ some n → decimal n ≡ c ∷ s) (is_digit c) _ _ (step (eqb-false c 48 z) o.0) (λ d e. no_some e) o.1)
+    pick_either (λ (o : Option ℕ). o ≡ Some n → decimal n ≡ c ∷ s) (is_digit c) _ _ (step (eqb-false c 48 z) o.0) (λ d e. no_some e) o.1)
     q
   where
-    step : (c ≡ 48 → ⊥) → n ≤ m → is_digit c ≡ true → digits_from (0 * 10 + (c - 48)) s ≡ some n → decimal n ≡ c ∷ s
+    step : (c ≡ 48 → ⊥) → n ≤ m → is_digit c ≡ true → digits_from (0 * 10 + (c - 48)) s ≡ Some n → decimal n ≡ c ∷ s
     step z l d r =
         let lo = within_from 48 57 c d in
         let hi = within_to 48 57 c d in

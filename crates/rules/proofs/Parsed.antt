@@ -3,7 +3,7 @@ use Prim.Native.Nat.{ℕ}
 use mathlib.Core.Path.{◌≡◌, refl, sym, ap, ◌∙◌, subst}
 use mathlib.Core.List.{List, [], ◌∷◌, ◌++◌, append-nil}
 use mathlib.Core.Bool.{Bool, true, false, ◌&&◌}
-use mathlib.Core.Option.{Option, none, some}
+use Rattle.std.specs.Prelude.{Option, None, Some}
 use native.Mathlib.Omega.{arith}
 use Rattle.rules.specs.Basic.{pick, tab, lf, each, split_at, join_by}
 use Rattle.rules.specs.Utf8.{is_utf8}
@@ -46,10 +46,10 @@ good_tabs : {fs : Fields} → Good fs → AllWithout tab fs
 good_tabs good_none = all_none
 good_tabs (good_more h s) = all_more h.no_tab_lem (good_tabs s)
 
-pub parse_by : (fs : Fields) (f : List ℕ) (gs : Fields) (e : Event) → fs ≡ f ∷ gs → Good fs → read_event fs ≡ some (e, []) → parse_line (join_by tab fs) ≡ some e
-parse_by fs f gs e z g q = subst (λ (x : Fields). parse_line (join_by tab x) ≡ some e) (sym z) (by (subst Good z g) (rw z at q))
+pub parse_by : (fs : Fields) (f : List ℕ) (gs : Fields) (e : Event) → fs ≡ f ∷ gs → Good fs → read_event fs ≡ Some (e, []) → parse_line (join_by tab fs) ≡ Some e
+parse_by fs f gs e z g q = subst (λ (x : Fields). parse_line (join_by tab x) ≡ Some e) (sym z) (by (subst Good z g) (rw z at q))
   where
-    by : Good (f ∷ gs) → read_event (f ∷ gs) ≡ some (e, []) → parse_line (join_by tab (f ∷ gs)) ≡ some e
+    by : Good (f ∷ gs) → read_event (f ∷ gs) ≡ Some (e, []) → parse_line (join_by tab (f ∷ gs)) ≡ Some e
     by g q = unfold parse_line first_read in rw (good_utf8 g, split_join (good_tabs g), q)
 
 -- ---- the whole line
@@ -64,7 +64,7 @@ pub record Parsed (l : List ℕ) (e : Event) : Type 0 where
   pub parts : GoodEvent e
   pub good : Good (raw (event_fields e))
 
-fields_taken : (fs : Fields) (e : Event) (rest : Fields) → Good fs → read_event fs ≡ some (e, rest) → (fs ≡ raw (event_fields e)) × GoodEvent e
+fields_taken : (fs : Fields) (e : Event) (rest : Fields) → Good fs → read_event fs ≡ Some (e, rest) → (fs ≡ raw (event_fields e)) × GoodEvent e
 unfolding read_event ◌>>=◌ go_on
 fields_taken fs e rest g q = by_word (word event_words fs) refl q
   where
@@ -72,10 +72,10 @@ fields_taken fs e rest g q = by_word (word event_words fs) refl q
     W = (fs ≡ raw (event_fields e)) × GoodEvent e
 
     Done : EventWord → Event → Option ((Unit {0}) × Fields) → Type 0
-    Done w x o = go_on (λ u. give x) o ≡ some (e, rest) → W
+    Done w x o = go_on (λ u. give x) o ≡ Some (e, rest) → W
 
     by_end : (w : EventWord) (x : Event) (p gs hs : Fields) → fs ≡ raw (word_fields w) ++ gs → gs ≡ p ++ hs → TakenEvent (word_field w) x p
-        → go_on (λ u. give x) (no_more hs) ≡ some (e, rest) → W
+        → go_on (λ u. give x) (no_more hs) ≡ Some (e, rest) → W
     by_end w x p gs (y ∷ hs) z k t q = unfold no_more in no_some q
     by_end w x p gs [] z k t q =
         let m : x ≡ e = unfold no_more give in ap (λ (o : Event × Fields). o.0) (some_inj q) in
@@ -83,42 +83,42 @@ fields_taken fs e rest g q = by_word (word event_words fs) refl q
         subst (λ (y : Event). (fs ≡ raw (event_fields y)) × GoodEvent y) m (n, t.good)
 
     by_after : (w : EventWord) (gs : Fields) → fs ≡ raw (word_fields w) ++ gs → Good gs → (o : Option (Event × Fields)) → read_after w gs ≡ o
-        → go_on (λ x. ◌>>=◌ no_more (λ u. give x)) o ≡ some (e, rest) → W
-    by_after w gs z g none k q = no_some q
-    by_after w gs z g (some x) k q =
+        → go_on (λ x. ◌>>=◌ no_more (λ u. give x)) o ≡ Some (e, rest) → W
+    by_after w gs z g None k q = no_some q
+    by_after w gs z g (Some x) k q =
         let t : Gave (read_after w) (TakenEvent (word_field w)) gs x.0 x.1 = gives_after w gs x.0 x.1 k g in
         by_end w x.0 t.taken gs x.1 z t.is t.says q
 
-    by_word : (o : Option (EventWord × Fields)) → word event_words fs ≡ o → go_on (λ w. ◌>>=◌ (read_after w) (λ x. ◌>>=◌ no_more (λ u. give x))) o ≡ some (e, rest) → W
-    by_word none k q = no_some q
-    by_word (some x) k q =
+    by_word : (o : Option (EventWord × Fields)) → word event_words fs ≡ o → go_on (λ w. ◌>>=◌ (read_after w) (λ x. ◌>>=◌ no_more (λ u. give x))) o ≡ Some (e, rest) → W
+    by_word None k q = no_some q
+    by_word (Some x) k q =
         let t : Gave (word event_words) (Writes word_fields) fs x.0 x.1 = gives_event_word fs x.0 x.1 k g in
         let z : fs ≡ raw (word_fields x.0) ++ x.1 = t.is ∙ ap (λ (l : Fields). l ++ x.1) t.says in
         by_after x.0 x.1 z (good_right (raw (word_fields x.0)) x.1 (subst Good z g)) (read_after x.0 x.1) refl q
 
-pub parse_taken : (l : List ℕ) (e : Event) → Without lf l → parse_line l ≡ some e → Parsed l e
+pub parse_taken : (l : List ℕ) (e : Event) → Without lf l → parse_line l ≡ Some e → Parsed l e
 unfolding parse_line first_read fields_of
 parse_taken l e n q = by_utf8 (is_utf8 l) refl q
   where
-    by_read : is_utf8 l ≡ true → (o : Option (Event × Fields)) → read_event (split_at tab l) ≡ o → first_read o ≡ some e → Parsed l e
-    by_read u none k q = no_some q
-    by_read u (some x) k q =
+    by_read : is_utf8 l ≡ true → (o : Option (Event × Fields)) → read_event (split_at tab l) ≡ o → first_read o ≡ Some e → Parsed l e
+    by_read u None k q = no_some q
+    by_read u (Some x) k q =
         let g : Good (split_at tab l) = split_good l u n in
         let t = fields_taken (split_at tab l) x.0 x.1 g k in
         subst (Parsed l) (some_inj q) (record { fields = t.0; parts = t.1; good = subst Good t.0 g })
 
-    by_utf8 : (b : Bool) → is_utf8 l ≡ b → pick b (first_read (read_event (split_at tab l))) none ≡ some e → Parsed l e
+    by_utf8 : (b : Bool) → is_utf8 l ≡ b → pick b (first_read (read_event (split_at tab l))) None ≡ Some e → Parsed l e
     by_utf8 true u q = by_read u (read_event (split_at tab l)) refl q
     by_utf8 false u q = no_some q
 
-pub line_text_lem : (l : List ℕ) (e : Event) → Without lf l → parse_line l ≡ some e → line_text e ≡ l
+pub line_text_lem : (l : List ℕ) (e : Event) → Without lf l → parse_line l ≡ Some e → line_text e ≡ l
 line_text_lem l e n q = ap (join_by tab) (sym (parse_taken l e n q).fields) ∙ join_split l
 
 -- writing a read line gives its own bytes back
-pub parse_writes : (l : List ℕ) (e : Event) → Without lf l → parse_line l ≡ some e → write_line e ≡ l ++ (lf ∷ [])
+pub parse_writes : (l : List ℕ) (e : Event) → Without lf l → parse_line l ≡ Some e → write_line e ≡ l ++ (lf ∷ [])
 unfolding write_line line_of
 parse_writes l e n q = ap (λ (x : List ℕ). x ++ (lf ∷ [])) (line_text_lem l e n q)
 
 -- reading a written line gives the event back
-pub parse_written : (l : List ℕ) (e : Event) → Without lf l → parse_line l ≡ some e → parse_line (line_text e) ≡ some e
+pub parse_written : (l : List ℕ) (e : Event) → Without lf l → parse_line l ≡ Some e → parse_line (line_text e) ≡ Some e
 parse_written l e n q = ap parse_line (line_text_lem l e n q) ∙ q

@@ -3,7 +3,7 @@ use Prim.Native.Nat.{ℕ}
 use mathlib.Core.Path.{◌≡◌, refl, sym, ap, ◌∙◌, subst}
 use mathlib.Core.List.{List, [], ◌∷◌, reverse_aux}
 use mathlib.Core.Bool.{Bool, true, false}
-use mathlib.Core.Option.{Option, none, some}
+use Rattle.std.specs.Prelude.{Option, None, Some}
 use Rattle.rules.specs.Basic.{pick}
 use Rattle.rules.specs.Words.{severe, mild, DefineMode, mode_all, mode_components, mode_steps, mode_text, DuplicateMode}
 use Rattle.rules.specs.Event.{Component, Intermediate, ComponentEvent, ingredient_event, cookware_event, timer_event, end_event, text_event, component_event, Event, between, inside, parser_event}
@@ -22,10 +22,10 @@ use Rattle.rules.proofs.Search.{mark_entry_if, resolve_same, rebuilt_same}
 
 marked_entry_lem : (k : Kind) (c : Component) (x : Option Earlier) (st : State) → new_entry k (marked_if c x) st ≡ mark_entry_if x (new_entry k c st)
 unfolding new_entry entry_of entry_with marked_if mark_ref set_modifiers source_of
-marked_entry_lem k c none st = refl
-marked_entry_lem k c (some d) st = refl
+marked_entry_lem k c None st = refl
+marked_entry_lem k c (Some d) st = refl
 
-no_22 : {P : Type 0} → ◌≡◌ {A = Option ℕ} (some 22) none → P
+no_22 : {P : Type 0} → ◌≡◌ {A = Option ℕ} (Some 22) None → P
 no_22 e = no_some (sym e)
 
 module _ (text : List ℕ) (units : List NamedUnit) (flags : ℕ) where
@@ -83,7 +83,7 @@ module _ (text : List ℕ) (units : List NamedUnit) (flags : ℕ) where
       -- ---- an entry by name: the sheet's line c, and the form's line x
 
       module _ (j : Kind) (c : Component)
-          (no_fault : implicit_fault (new_entry j c N) (table_of j N) (implicit_of c (made_by_name units flags j c N).refers_to) ≡ none) where
+          (no_fault : implicit_fault (new_entry j c N) (table_of j N) (implicit_of c (made_by_name units flags j c N).refers_to) ≡ None) where
         abbrev goal : Option Earlier
         goal = (made_by_name units flags j c N).refers_to
 
@@ -121,37 +121,37 @@ module _ (text : List ℕ) (units : List NamedUnit) (flags : ℕ) where
 
       -- ---- an intermediate reference, never implicit
 
-      intermediate_same : (c : Component) (i : Intermediate) → make_ingredient units flags c (some i) G ≡ make_ingredient units flags c (some i) N
+      intermediate_same : (c : Component) (i : Intermediate) → make_ingredient units flags c (Some i) G ≡ make_ingredient units flags c (Some i) N
       unfolding make_ingredient
       intermediate_same c i = rw (new_same ingredient c)
 
-      never_implicit : (c : Component) (i : Intermediate) → c ≡ marked_if c (implicit_ingredient units flags N c (some i))
+      never_implicit : (c : Component) (i : Intermediate) → c ≡ marked_if c (implicit_ingredient units flags N c (Some i))
       unfolding implicit_ingredient implicit_of make_ingredient made_intermediate marked_if
       never_implicit c i = go c.modifiers.ref
         where
-          go : (b : Bool) → c ≡ marked_if c (pick b none none)
+          go : (b : Bool) → c ≡ marked_if c (pick b None None)
           go true = refl
           go false = refl
 
-      intermediate_step : (c : Component) (i : Intermediate) (f : Option ℕ) → intermediate_fault c (some i) ≡ f
-          → Sim text units flags G (unless_fault f (on_made units flags ingredient (make_ingredient units flags c (some i) N) is N))
-          (inside (component_event (ingredient_event c (some i))) ∷ [])
+      intermediate_step : (c : Component) (i : Intermediate) (f : Option ℕ) → intermediate_fault c (Some i) ≡ f
+          → Sim text units flags G (unless_fault f (on_made units flags ingredient (make_ingredient units flags c (Some i) N) is N))
+          (inside (component_event (ingredient_event c (Some i))) ∷ [])
       unfolding on_event on_inside in_step_block on_component on_made is_error_event unless_fault
-      intermediate_step c i (some e) q = stopped
-      intermediate_step c i none q =
-          chained_sim G _ _ _ (make_ingredient units flags c (some i) N) (make_ingredient units flags c (some i) G) _ refl onx
+      intermediate_step c i (Some e) q = stopped
+      intermediate_step c i None q =
+          chained_sim G _ _ _ (make_ingredient units flags c (Some i) N) (make_ingredient units flags c (Some i) G) _ refl onx
           (ap (λ (m : Made). m.refers_to) (intermediate_same c i))
-          (push_same ingredient d is (make_ingredient units flags c (some i) N) (make_ingredient units flags c (some i) G) nc
+          (push_same ingredient d is (make_ingredient units flags c (Some i) N) (make_ingredient units flags c (Some i) G) nc
           (ap (λ (m : Made). pushed m (table_of ingredient G)) (intermediate_same c i)
-          ∙ ap (pushed (make_ingredient units flags c (some i) N)) (table_same ingredient)))
+          ∙ ap (pushed (make_ingredient units flags c (Some i) N)) (table_same ingredient)))
         where
-          onx : on_event text units flags (inside (component_event (ingredient_event c (some i)))) G
-              ≡ unless_chained (make_ingredient units flags c (some i) G) (push_component ingredient (make_ingredient units flags c (some i) G) is G)
+          onx : on_event text units flags (inside (component_event (ingredient_event c (Some i)))) G
+              ≡ unless_chained (make_ingredient units flags c (Some i) G) (push_component ingredient (make_ingredient units flags c (Some i) G) is G)
           onx = rw (nc, q)
 
       -- ---- every component of a step
 
-      step_sim : (c : ComponentEvent) → mark_fault units flags N c ≡ none
+      step_sim : (c : ComponentEvent) → mark_fault units flags N c ≡ None
           → Sim text units flags G (on_component units flags c is N) (inside (component_event (marked_component units flags N c)) ∷ [])
       unfolding mark_fault marked_component on_component implicit_cookware implicit_ingredient make_cookware made_by_name make_ingredient is_error_event
       step_sim (cookware_event c) f = name_step cookware c f _ refl onx
@@ -159,23 +159,23 @@ module _ (text : List ℕ) (units : List NamedUnit) (flags : ℕ) where
           onx : on_event text units flags (inside (component_event (cookware_event (x cookware c f)))) G ≡ on_made units flags cookware
               (made_by_name units flags cookware (x cookware c f) G) is G
           onx = unfold on_event on_inside in_step_block in rw nc
-      step_sim (ingredient_event c none) f = unfold make_ingredient intermediate_fault unless_fault in name_step ingredient c f _ refl onx
+      step_sim (ingredient_event c None) f = unfold make_ingredient intermediate_fault unless_fault in name_step ingredient c f _ refl onx
         where
-          onx : on_event text units flags (inside (component_event (ingredient_event (x ingredient c f) none))) G ≡ on_made units flags ingredient
+          onx : on_event text units flags (inside (component_event (ingredient_event (x ingredient c f) None))) G ≡ on_made units flags ingredient
               (made_by_name units flags ingredient (x ingredient c f) G) is G
           onx = unfold on_event on_inside in_step_block make_ingredient intermediate_fault unless_fault in rw nc
-      step_sim (ingredient_event c (some i)) f =
+      step_sim (ingredient_event c (Some i)) f =
           subst (λ (y : Component). Sim text units flags G
-          (unless_fault (intermediate_fault c (some i)) (on_made units flags ingredient (make_ingredient units flags c (some i) N) is N))
-          (inside (component_event (ingredient_event y (some i))) ∷ []))
-          (never_implicit c i) (intermediate_step c i (intermediate_fault c (some i)) refl)
+          (unless_fault (intermediate_fault c (Some i)) (on_made units flags ingredient (make_ingredient units flags c (Some i) N) is N))
+          (inside (component_event (ingredient_event y (Some i))) ∷ []))
+          (never_implicit c i) (intermediate_step c i (intermediate_fault c (Some i)) refl)
       step_sim (timer_event at name q) f = goes (reverse_aux (timer_findings units flags q) fs') refl onx
         where
           onx : on_event text units flags (inside (component_event (timer_event at name q))) G ≡ next
               (as_form (reverse_aux (timer_findings units flags q) fs') (push_timer units flags name q is N))
           onx = unfold on_event on_inside in_step_block push_timer push_items set_timers report set_block set_place set_kept set_tables is_components first_modes in rw nc
 
-    component_sim : (d : DefineMode) (o : Open) (c : ComponentEvent) → component_fault units flags (M d o) c o ≡ none
+    component_sim : (d : DefineMode) (o : Open) (c : ComponentEvent) → component_fault units flags (M d o) c o ≡ None
         → Sim text units flags (F d o) (on_inside text units flags (component_event c) o (M d o)) (plain_inside text units flags (M d o) (component_event c) o)
     unfolding on_inside on_event in_step_block in_text_block in_text_mode plain_inside in_plain_step in_plain_text unless_listed component_fault is_components report set_block set_place component_in_text is_error_event first_modes
     component_sim d no_block c f = stopped
@@ -186,7 +186,7 @@ module _ (text : List ℕ) (units : List NamedUnit) (flags : ℕ) where
     component_sim d (text_open ts) c f = stopped
     component_sim d (text_mode_open ts) c f = goes fs' refl refl
 
-    event_made : (d : DefineMode) (o : Open) (e : Event) → is_error_event e ≡ false → plain_fault units flags (M d o) e ≡ none
+    event_made : (d : DefineMode) (o : Open) (e : Event) → is_error_event e ≡ false → plain_fault units flags (M d o) e ≡ None
         → Sim text units flags (F d o) (on_event text units flags e (M d o)) (plain_event text units flags (M d o) e)
     unfolding on_event plain_event is_error_event plain_fault
     event_made d o (between b) ne f = between_sim text units flags u md s n k t fs fs' d o b
@@ -197,7 +197,7 @@ module _ (text : List ℕ) (units : List NamedUnit) (flags : ℕ) where
     event_made d o (parser_event mild x) ne f = warning_sim text units flags u md s n k t fs fs' d o x
 
   -- every line: what it makes of the sheet's state, its form's lines make of the form's
-  pub event_sim : (st : State) (fs : List Finding) (e : Event) → is_error_event e ≡ false → plain_fault units flags st e ≡ none
+  pub event_sim : (st : State) (fs : List Finding) (e : Event) → is_error_event e ≡ false → plain_fault units flags st e ≡ None
       → Sim text units flags (as_form fs st) (on_event text units flags e st) (plain_event text units flags st e)
   event_sim st fs e =
       event_made st.modes.duplicate st.metadata st.place.section st.place.step_counter st.kept st.tables st.findings fs

@@ -3,7 +3,7 @@ use Prim.Native.Nat.{ℕ}
 use mathlib.Core.Path.{◌≡◌, refl, sym, ◌∙◌}
 use mathlib.Core.List.{List, [], ◌∷◌, ◌++◌, reverse, reverse_aux}
 use mathlib.Core.Bool.{Bool, true, false, ◌&&◌, ◌||◌, not}
-use mathlib.Core.Option.{Option, none, some}
+use Rattle.std.specs.Prelude.{Option, None, Some}
 use Rattle.rules.specs.Basic.{pick, is_some, word_in}
 use Rattle.rules.specs.Words.{step_kind, text_kind, ConfigKey, config_keys, mode_all, duplicate_new}
 use Rattle.rules.specs.Event.{Text, Component, Between, meta_event, section_event, start_event, Inside, Event, between, inside, parser_event}
@@ -50,9 +50,9 @@ one {flags} {e} q = quiet_more (no_mode flags e q) quiet_none
 -- the plain form's test on a key is that of a mode line
 key_mode : (o : Option ConfigKey) (b : Bool) → is_mode_key (key_as o b) ≡ is_some o
 unfolding key_as is_mode_key is_some
-key_mode (some k) b = refl
-key_mode none true = refl
-key_mode none false = refl
+key_mode (Some k) b = refl
+key_mode None true = refl
+key_mode None false = refl
 
 pub meta_heeded : (flags : ℕ) (k v : Text) → is_heeded flags (between (meta_event k v)) ≡ (has_modes flags && is_mode_key (key_of (key_text k)))
 unfolding is_heeded is_mode_line mode_key key_of
@@ -95,18 +95,18 @@ module _ (text : List ℕ) (units : List NamedUnit) (flags : ℕ) where
 
 -- the mode that a line sets is none where it is not heeded
 quiet_sets : {A : Type 0} (h : Bool) (o : Option ConfigKey) (v : List ℕ) (sets : Option ConfigKey → List ℕ → Option A) → (h && is_some o) ≡ false
-    → sets none v ≡ none → pick h (sets o v) none ≡ none
+    → sets None v ≡ None → pick h (sets o v) None ≡ None
 unfolding is_some
 quiet_sets false o v sets q n = refl
-quiet_sets true none v sets q n = n
-quiet_sets true (some k) v sets q n = no_truth (sym q)
+quiet_sets true None v sets q n = n
+quiet_sets true (Some k) v sets q n = no_truth (sym q)
 
 pub quiet_define : {flags : ℕ} {es : List Event} → Quiet flags es → define_at flags es ≡ mode_all
 unfolding define_at first_modes or_else
 quiet_define quiet_none = refl
 quiet_define {flags} (quiet_more {e} {es} q h) = rw (sets, quiet_define h)
   where
-    sets : pick (has_modes flags) (defines_by (mode_key e) (value_of e)) none ≡ none
+    sets : pick (has_modes flags) (defines_by (mode_key e) (value_of e)) None ≡ None
     sets = quiet_sets (has_modes flags) (mode_key e) (value_of e) defines_by (unfold is_heeded is_mode_line in q) (unfold defines_by in refl)
 
 pub quiet_duplicate : {flags : ℕ} {es : List Event} → Quiet flags es → duplicate_at flags es ≡ duplicate_new
@@ -114,24 +114,24 @@ unfolding duplicate_at first_modes or_else
 quiet_duplicate quiet_none = refl
 quiet_duplicate {flags} (quiet_more {e} {es} q h) = rw (sets, quiet_duplicate h)
   where
-    sets : pick (has_modes flags) (duplicates_by (mode_key e) (value_of e)) none ≡ none
+    sets : pick (has_modes flags) (duplicates_by (mode_key e) (value_of e)) None ≡ None
     sets = quiet_sets (has_modes flags) (mode_key e) (value_of e) duplicates_by (unfold is_heeded is_mode_line in q) (unfold duplicates_by in refl)
 
-not_implicit : (k : Kind) (c : Component) (us : List Unmarked) → implicit_target mode_all duplicate_new k c us ≡ none
+not_implicit : (k : Kind) (c : Component) (us : List Unmarked) → implicit_target mode_all duplicate_new k c us ≡ None
 unfolding implicit_target is_steps is_reference
 not_implicit k c us = go (not c.modifiers.ref) (not c.modifiers.new)
   where
-    go : (a b : Bool) → pick (a && b && (is_steps mode_all || is_reference duplicate_new)) (last_fitting (folded_name k c) c.modifiers.opt us) none ≡ none
+    go : (a b : Bool) → pick (a && b && (is_steps mode_all || is_reference duplicate_new)) (last_fitting (folded_name k c) c.modifiers.opt us) None ≡ None
     go true true = refl
     go true false = refl
     go false true = refl
     go false false = refl
 
 -- "every reference in it is explicit"
-pub quiet_explicit : {flags : ℕ} {es : List Event} → Quiet flags es → (e : Event) → implicit_at flags es e ≡ none
+pub quiet_explicit : {flags : ℕ} {es : List Event} → Quiet flags es → (e : Event) → implicit_at flags es e ≡ None
 unfolding implicit_at implicit_by
 quiet_explicit {flags} {es} h e = go (entry_in (define_at flags es) e)
   where
-    go : (x : EntryLine) → implicit_by flags es x ≡ none
+    go : (x : EntryLine) → implicit_by flags es x ≡ None
     go no_entry = refl
     go (entry_line k c) = rw (quiet_define h, quiet_duplicate h) (not_implicit k c (unmarked flags k es))

@@ -3,7 +3,7 @@ use Prim.Native.Nat.{ℕ, suc, ◌≤◌, ◌<◌}
 use mathlib.Core.Path.{◌≡◌, refl, sym, ap, ◌∙◌, subst}
 use mathlib.Core.List.{List, [], ◌∷◌}
 use mathlib.Core.Bool.{Bool, true, false, ◌&&◌, not}
-use mathlib.Core.Option.{Option, none, some}
+use Rattle.std.specs.Prelude.{Option, None, Some}
 use native.Mathlib.Omega.{arith}
 use lib.Dec.{eqb}
 use lib.ListN.{length}
@@ -48,14 +48,14 @@ module _ (k : Kind) (d : ℕ) where
 -- a definition stands at d
 pub record DefinedAt (d : ℕ) (es : List Entry) : Type 0 where
   pub entry : Entry
-  pub stands : entry_at d es ≡ some entry
+  pub stands : entry_at d es ≡ Some entry
   pub is : is_definition entry.relation ≡ true
 
 pub record Linked (k : Kind) (es : List Entry) : Type 0 where
   -- a reference to an entry of its own kind goes to an earlier definition
-  pub target : (i d : ℕ) (e : Entry) → entry_at i es ≡ some e → e.relation ≡ reference (target_of k) d → (d < i) × DefinedAt d es
+  pub target : (i d : ℕ) (e : Entry) → entry_at i es ≡ Some e → e.relation ≡ reference (target_of k) d → (d < i) × DefinedAt d es
   -- the referrers of a definition are all entries that refer to it
-  pub referrers : (d : ℕ) (e : Entry) (in_step : Bool) (by : List ℕ) → entry_at d es ≡ some e → e.relation ≡ definition in_step by → by ≡ own_referrers k d es
+  pub referrers : (d : ℕ) (e : Entry) (in_step : Bool) (by : List ℕ) → entry_at d es ≡ Some e → e.relation ≡ definition in_step by → by ≡ own_referrers k d es
 
 -- ---- what refers
 
@@ -101,11 +101,11 @@ module _ (k : Kind) (d : ℕ) (e : Entry) (es : List Entry) where
 
 -- ---- entries by their indices
 
-pub entry_below : (i : ℕ) (es : List Entry) (e : Entry) → entry_at i es ≡ some e → i < length es
+pub entry_below : (i : ℕ) (es : List Entry) (e : Entry) → entry_at i es ≡ Some e → i < length es
 unfolding entry_at
 entry_below i [] e q = no_some q
 entry_below i (x ∷ es) e q =
-    pick_either (λ (o : Option Entry). o ≡ some e → i < suc (length es)) (eqb i (length es)) _ _
+    pick_either (λ (o : Option Entry). o ≡ Some e → i < suc (length es)) (eqb i (length es)) _ _
     (λ b p. let h : i ≡ length es = eqb-true i (length es) b in omega arith) (λ b p. let h : i < length es = entry_below i es e p in omega arith) q
 
 pub entry_older : (i : ℕ) (e : Entry) (es : List Entry) → i < length es → entry_at i (e ∷ es) ≡ entry_at i es
@@ -115,12 +115,12 @@ entry_older i e es h = rw (ne_eqb i (length es) (λ q. omega arith))
 -- the newest entry, or an older one
 data Either (i : ℕ) (e : Entry) (es : List Entry) (x : Entry) : Type 0 where
   newest : i ≡ length es → x ≡ e → Either i e es x
-  older : i < length es → entry_at i es ≡ some x → Either i e es x
+  older : i < length es → entry_at i es ≡ Some x → Either i e es x
 
-which : (i : ℕ) (e : Entry) (es : List Entry) (x : Entry) → entry_at i (e ∷ es) ≡ some x → Either i e es x
+which : (i : ℕ) (e : Entry) (es : List Entry) (x : Entry) → entry_at i (e ∷ es) ≡ Some x → Either i e es x
 unfolding entry_at
 which i e es x q =
-    pick_either (λ (o : Option Entry). o ≡ some x → Either i e es x) (eqb i (length es)) _ _
+    pick_either (λ (o : Option Entry). o ≡ Some x → Either i e es x) (eqb i (length es)) _ _
     (λ b p. newest (eqb-true i (length es) b) (sym (some_inj p))) (λ b p. older (entry_below i es x p) p) q
 
 defined_older : {d : ℕ} {es : List Entry} (e : Entry) → DefinedAt d es → DefinedAt d (e ∷ es)
@@ -129,13 +129,13 @@ defined_older {d} {es} e f =
 
 -- nothing refers to what is not yet there
 own_none : (k : Kind) (n : ℕ) (es : List Entry)
-    → ((i d : ℕ) (e : Entry) → entry_at i es ≡ some e → e.relation ≡ reference (target_of k) d → d < i) → length es ≤ n → own_referrers k n es ≡ []
+    → ((i d : ℕ) (e : Entry) → entry_at i es ≡ Some e → e.relation ≡ reference (target_of k) d → d < i) → length es ≤ n → own_referrers k n es ≡ []
 unfolding own_referrers
 own_none k n [] h g = refl
 own_none k n (e ∷ es) h g =
     pick_either (λ (l : List ℕ). l ≡ []) (refers_own k n e.relation) _ _
     (λ b.
-    let at : entry_at (length es) (e ∷ es) ≡ some e = unfold entry_at in rw (eq-eqb (length es) (length es) refl) in
+    let at : entry_at (length es) (e ∷ es) ≡ Some e = unfold entry_at in rw (eq-eqb (length es) (length es) refl) in
     let u : n < length es = h (length es) n e at (refers_only k n e.relation b) in absurd (omega arith))
     (λ b.
     own_none k n es (λ i d x q r. h i d x (entry_older i e es (entry_below i es x q) ∙ q) r) (omega arith))
@@ -158,7 +158,7 @@ module _ (d n : ℕ) where
   set_that (e ∷ es) = go (eqb d (length es)) refl (set_that es)
     where
       go : (b : Bool) → eqb d (length es) ≡ b → entry_at d (set_referenced_from d n es) ≡ on_some (with_referrer n) (entry_at d es)
-          → entry_at d (pick b (with_referrer n e ∷ es) (e ∷ set_referenced_from d n es)) ≡ on_some (with_referrer n) (pick b (some e) (entry_at d es))
+          → entry_at d (pick b (with_referrer n e ∷ es) (e ∷ set_referenced_from d n es)) ≡ on_some (with_referrer n) (pick b (Some e) (entry_at d es))
       go true q ih = rw q
       go false q ih = rw (set_length es, q) ih
 
@@ -168,7 +168,7 @@ module _ (d n : ℕ) where
   set_other i (e ∷ es) z = go (eqb d (length es)) refl (set_other i es z)
     where
       go : (b : Bool) → eqb d (length es) ≡ b → entry_at i (set_referenced_from d n es) ≡ entry_at i es
-          → entry_at i (pick b (with_referrer n e ∷ es) (e ∷ set_referenced_from d n es)) ≡ pick (eqb i (length es)) (some e) (entry_at i es)
+          → entry_at i (pick b (with_referrer n e ∷ es) (e ∷ set_referenced_from d n es)) ≡ pick (eqb i (length es)) (Some e) (entry_at i es)
       go true q ih =
           let h : d ≡ length es = eqb-true d (length es) q in
           let g : eqb i (length es) ≡ false = subst (λ (x : ℕ). eqb i x ≡ false) h z in rw g
@@ -206,21 +206,21 @@ definition_after n (reference t j) q = no_truth q
 
 -- an entry of the table with one referrer more: another one as it was, or that with the referrer
 data SetEntry (d n i : ℕ) (es : List Entry) (x : Entry) : Type 0 where
-  as_it_was : eqb i d ≡ false → entry_at i es ≡ some x → SetEntry d n i es x
-  referred_to_lem : (e : Entry) → i ≡ d → entry_at i es ≡ some e → x.relation ≡ referred_by n e.relation → SetEntry d n i es x
+  as_it_was : eqb i d ≡ false → entry_at i es ≡ Some x → SetEntry d n i es x
+  referred_to_lem : (e : Entry) → i ≡ d → entry_at i es ≡ Some e → x.relation ≡ referred_by n e.relation → SetEntry d n i es x
 
-set_entry : (d n i : ℕ) (es : List Entry) (x : Entry) → entry_at i (set_referenced_from d n es) ≡ some x → SetEntry d n i es x
+set_entry : (d n i : ℕ) (es : List Entry) (x : Entry) → entry_at i (set_referenced_from d n es) ≡ Some x → SetEntry d n i es x
 unfolding on_some with_referrer set_relation
 set_entry d n i es x q = go (eqb i d) refl
   where
-    that : (o : Option Entry) → entry_at d es ≡ o → on_some (with_referrer n) o ≡ some x → i ≡ d → SetEntry d n i es x
-    that none p h e = no_some h
-    that (some y) p h e = referred_to_lem y e (ap (λ (a : ℕ). entry_at a es) e ∙ p) (ap (λ (z : Entry). z.relation) (sym (some_inj h)))
+    that : (o : Option Entry) → entry_at d es ≡ o → on_some (with_referrer n) o ≡ Some x → i ≡ d → SetEntry d n i es x
+    that None p h e = no_some h
+    that (Some y) p h e = referred_to_lem y e (ap (λ (a : ℕ). entry_at a es) e ∙ p) (ap (λ (z : Entry). z.relation) (sym (some_inj h)))
 
     go : (b : Bool) → eqb i d ≡ b → SetEntry d n i es x
     go true e =
         let h : i ≡ d = eqb-true i d e in
-        that (entry_at d es) refl (sym (set_that d n es) ∙ subst (λ (a : ℕ). entry_at a (set_referenced_from d n es) ≡ some x) h q) h
+        that (entry_at d es) refl (sym (set_that d n es) ∙ subst (λ (a : ℕ). entry_at a (set_referenced_from d n es) ≡ Some x) h q) h
     go false e = as_it_was e (sym (set_other d n i es e) ∙ q)
 
 set_defined : (d n c : ℕ) (es : List Entry) → DefinedAt c es → DefinedAt c (set_referenced_from d n es)
@@ -230,7 +230,7 @@ set_defined d n c es f = go (eqb c d) refl
     go : (b : Bool) → eqb c d ≡ b → DefinedAt c (set_referenced_from d n es)
     go true e =
         let h : c ≡ d = eqb-true c d e in
-        let s : entry_at d es ≡ some f.entry = subst (λ (a : ℕ). entry_at a es ≡ some f.entry) h f.stands in
+        let s : entry_at d es ≡ Some f.entry = subst (λ (a : ℕ). entry_at a es ≡ Some f.entry) h f.stands in
         record {
           entry = with_referrer n f.entry;
           stands = ap (λ (a : ℕ). entry_at a (set_referenced_from d n es)) h ∙ set_that d n es ∙ ap (on_some (with_referrer n)) s;
@@ -249,7 +249,7 @@ push_alone : (k : Kind) (e : Entry) (es : List Entry) → ((d : ℕ) → refers_
     → ((b : Bool) (by : List ℕ) → e.relation ≡ definition b by → by ≡ []) → Linked k es → Linked k (e ∷ es)
 push_alone k e es alone empty l = record { target = to; referrers = from }
   where
-    to : (i d : ℕ) (x : Entry) → entry_at i (e ∷ es) ≡ some x → x.relation ≡ reference (target_of k) d → (d < i) × DefinedAt d (e ∷ es)
+    to : (i d : ℕ) (x : Entry) → entry_at i (e ∷ es) ≡ Some x → x.relation ≡ reference (target_of k) d → (d < i) × DefinedAt d (e ∷ es)
     to i d x q r = go (which i e es x q)
       where
         go : Either i e es x → (d < i) × DefinedAt d (e ∷ es)
@@ -258,7 +258,7 @@ push_alone k e es alone empty l = record { target = to; referrers = from }
             no_truth (sym (alone d) ∙ (ap (refers_own k d) s ∙ refers_own_lem k d))
         go (older p h) = let t = l.target i d x h r in (t.0, defined_older e t.1)
 
-    from : (d : ℕ) (x : Entry) (b : Bool) (by : List ℕ) → entry_at d (e ∷ es) ≡ some x → x.relation ≡ definition b by → by ≡ own_referrers k d (e ∷ es)
+    from : (d : ℕ) (x : Entry) (b : Bool) (by : List ℕ) → entry_at d (e ∷ es) ≡ Some x → x.relation ≡ definition b by → by ≡ own_referrers k d (e ∷ es)
     from d x b by q r = go (which d e es x q)
       where
         go : Either d e es x → by ≡ own_referrers k d (e ∷ es)
@@ -275,10 +275,10 @@ push_reference k d e es is-reference f l = record { target = to; referrers = fro
     fs : List Entry
     fs = set_referenced_from d (length es) es
 
-    to : (i c : ℕ) (x : Entry) → entry_at i (e ∷ fs) ≡ some x → x.relation ≡ reference (target_of k) c → (c < i) × DefinedAt c (e ∷ fs)
+    to : (i c : ℕ) (x : Entry) → entry_at i (e ∷ fs) ≡ Some x → x.relation ≡ reference (target_of k) c → (c < i) × DefinedAt c (e ∷ fs)
     to i c x q r = go (which i e fs x q)
       where
-        same : (y : Entry) → entry_at i es ≡ some y → y.relation ≡ reference (target_of k) c → (c < i) × DefinedAt c (e ∷ fs)
+        same : (y : Entry) → entry_at i es ≡ Some y → y.relation ≡ reference (target_of k) c → (c < i) × DefinedAt c (e ∷ fs)
         same y h s = let t = l.target i c y h s in (t.0, defined_older e (set_defined d (length es) c es t.1))
 
         by_set : SetEntry d (length es) i es x → (c < i) × DefinedAt c (e ∷ fs)
@@ -294,7 +294,7 @@ push_reference k d e es is-reference f l = record { target = to; referrers = fro
             (omega arith, defined_older e g)
         go (older p h) = by_set (set_entry d (length es) i es x h)
 
-    from : (c : ℕ) (x : Entry) (b : Bool) (by : List ℕ) → entry_at c (e ∷ fs) ≡ some x → x.relation ≡ definition b by → by ≡ own_referrers k c (e ∷ fs)
+    from : (c : ℕ) (x : Entry) (b : Bool) (by : List ℕ) → entry_at c (e ∷ fs) ≡ Some x → x.relation ≡ definition b by → by ≡ own_referrers k c (e ∷ fs)
     from c x b by q r = go (which c e fs x q)
       where
         not_that : eqb c d ≡ false → own_referrers k c (e ∷ fs) ≡ own_referrers k c es
@@ -320,9 +320,9 @@ push_reference k d e es is-reference f l = record { target = to; referrers = fro
 -- ---- what a line makes: a definition without referrers, a reference elsewhere, or one to a definition of its table
 
 pub data MadeLinked (k : Kind) (es : List Entry) : Relation → Option Earlier → Type 0 where
-  made_definition : (b : Bool) → MadeLinked k es (definition b []) none
-  made_elsewhere : (t : Target) (j : ℕ) → is_own k t ≡ false → MadeLinked k es (reference t j) none
-  made_reference : (d : Earlier) → DefinedAt d.index es → MadeLinked k es (reference (target_of k) d.index) (some d)
+  made_definition : (b : Bool) → MadeLinked k es (definition b []) None
+  made_elsewhere : (t : Target) (j : ℕ) → is_own k t ≡ false → MadeLinked k es (reference t j) None
+  made_reference : (d : Earlier) → DefinedAt d.index es → MadeLinked k es (reference (target_of k) d.index) (Some d)
 
 pub pushed_linked : (k : Kind) (m : Made) (es : List Entry) → MadeLinked k es m.entry.relation m.refers_to → Linked k es → Linked k (pushed m es)
 unfolding pushed referred refers_own
@@ -340,10 +340,10 @@ unfolding is_own intermediate_target
 elsewhere target_step = refl
 elsewhere target_section = refl
 
-made_intermediate_lem : (es : List Entry) (i : Intermediate) (b : Bool) (o : Option ℕ) → MadeLinked ingredient es (intermediate_relation i (definition b []) o) none
+made_intermediate_lem : (es : List Entry) (i : Intermediate) (b : Bool) (o : Option ℕ) → MadeLinked ingredient es (intermediate_relation i (definition b []) o) None
 unfolding intermediate_relation
-made_intermediate_lem es i b none = made_definition b
-made_intermediate_lem es i b (some j) = made_elsewhere _ j (elsewhere i.target)
+made_intermediate_lem es i b None = made_definition b
+made_intermediate_lem es i b (Some j) = made_elsewhere _ j (elsewhere i.target)
 
 abbrev pub LinkedAfter : Kind → List Entry → List Entry → Type 0
 LinkedAfter k es fs = Linked k es → Linked k fs
@@ -361,13 +361,13 @@ module _ (units : List NamedUnit) (flags : ℕ) where
     where
       go : (o : Option Earlier) → refers_to st.modes (new_entry k c st) (found_same (new_entry k c st) (table_of k st)) ≡ o → refers_to_reference o ≡ false
           → MadeLinked k (table_of k st) (as_referring k o (new_entry k c st)).relation o
-      go none q n = made_definition _
-      go (some d) q n =
-          let p : found_same (new_entry k c st) (table_of k st) ≡ some d = refers_same st.modes (new_entry k c st) _ d q in
+      go None q n = made_definition _
+      go (Some d) q n =
+          let p : found_same (new_entry k c st) (table_of k st) ≡ Some d = refers_same st.modes (new_entry k c st) _ d q in
           made_reference d (record { entry = d.entry; stands = found_at _ _ _ (table_of k st) d p; is = not_false (is_definition d.entry.relation) n })
 
   intermediate_linked : (c : Component) (i : Intermediate) (st : State)
-      → MadeLinked ingredient (table_of ingredient st) (make_ingredient units flags c (some i) st).entry.relation (make_ingredient units flags c (some i) st).refers_to
+      → MadeLinked ingredient (table_of ingredient st) (make_ingredient units flags c (Some i) st).entry.relation (make_ingredient units flags c (Some i) st).refers_to
   unfolding make_ingredient made_intermediate set_relation new_entry entry_of entry_with
   intermediate_linked c i st = made_intermediate_lem (table_of ingredient st) i _ _
 

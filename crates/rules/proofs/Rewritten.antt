@@ -3,7 +3,7 @@ use Prim.Native.Nat.{ℕ, ◌<◌}
 use mathlib.Core.Path.{◌≡◌, refl, sym, ap, ◌∙◌, subst}
 use mathlib.Core.List.{List, [], ◌∷◌, ◌++◌, append_assoc, append-nil}
 use mathlib.Core.Bool.{Bool, true, false}
-use mathlib.Core.Option.{Option, some}
+use Rattle.std.specs.Prelude.{Option, Some}
 use native.Mathlib.Omega.{arith}
 use Rattle.rules.specs.Basic.{codes, eq_list, when, on_some, each, word_in}
 use Rattle.rules.specs.Utf8.{is_utf8, encode}
@@ -29,9 +29,9 @@ use Rattle.rules.specs.Evaluate.{evaluate}
 
 -- the event's line reads as the event
 abbrev pub Readable : Event → Type 0
-Readable e = parse_line (line_text e) ≡ some e
+Readable e = parse_line (line_text e) ≡ Some e
 
-word_reads : (w : EventWord) → word_in (escape (word_field w)) event_words ≡ some w
+word_reads : (w : EventWord) → word_in (escape (word_field w)) event_words ≡ Some w
 unfolding word_in eq_list escape escape_char
 word_reads meta_word = refl
 word_reads section_word = refl
@@ -45,11 +45,11 @@ word_reads error_word = refl
 word_reads warning_word = refl
 
 -- a line by its word and the reader after it
-line_reads : (w : EventWord) (fs : Fields) (e : Event) → Back (read_after w) fs e → read_event (escape (word_field w) ∷ fs) ≡ some (e, [])
+line_reads : (w : EventWord) (fs : Fields) (e : Event) → Back (read_after w) fs e → read_event (escape (word_field w) ∷ fs) ≡ Some (e, [])
 unfolding read_event word field saying ◌>>=◌ go_on no_more give
 line_reads w fs e b = rw (word_reads w) (go (ap (read_after w) (sym (append-nil fs)) ∙ b.at []))
   where
-    go : read_after w fs ≡ some (e, []) → go_on (λ x. ◌>>=◌ no_more (λ u. give x)) (read_after w fs) ≡ some (e, [])
+    go : read_after w fs ≡ Some (e, []) → go_on (λ x. ◌>>=◌ no_more (λ u. give x)) (read_after w fs) ≡ Some (e, [])
     go q = rw q
 
 -- ---- REF added to a component

@@ -3,7 +3,7 @@ use Prim.Native.Nat.{ℕ, zero, suc, ◌+◌, ◌*◌, ◌%◌, ◌≤◌, ◌<�
 use mathlib.Core.Path.{◌≡◌, refl, sym}
 use mathlib.Core.List.{List, [], ◌∷◌}
 use mathlib.Core.Bool.{Bool, true, false}
-use mathlib.Core.Option.{Option, none, some}
+use Rattle.std.specs.Prelude.{Option, None, Some}
 use native.Mathlib.Omega.{arith}
 use lib.Dec.{eqb, leb, ltb}
 use borrow.Author.Tests.{ltb-true, ltb-false, leb-false, eqb-true, eqb-false, le-leb}
@@ -109,8 +109,8 @@ pub char_scalar : (a : ℕ) (s : List ℕ) → Scalar (char_or (first_of a s))
 char_scalar a s = go (first_of a s) refl
   where
     go : (o : Option ℕ) → first_of a s ≡ o → Scalar (char_or o)
-    go none e = unfold char_or in high_scalar 0xfffd (omega arith) (omega arith)
-    go (some c) e = unfold char_or in begins_scalar (begins a s c e)
+    go None e = unfold char_or in high_scalar 0xfffd (omega arith) (omega arith)
+    go (Some c) e = unfold char_or in begins_scalar (begins a s c e)
 
 from_scalars : (k : ℕ) (s : List ℕ) → Scalars (chars_from k s)
 unfolding chars_from

@@ -3,7 +3,7 @@ use Prim.Native.Nat.{ℕ}
 use mathlib.Core.Path.{◌≡◌, refl, ap}
 use mathlib.Core.List.{List, [], ◌∷◌}
 use mathlib.Core.Bool.{Bool, true, false, ◌&&◌}
-use mathlib.Core.Option.{Option, none, some}
+use Rattle.std.specs.Prelude.{Option, None, Some}
 use Rattle.rules.specs.Basic.{pick}
 use Rattle.rules.specs.Words.{BlockKind, step_kind, text_kind, mild, define_key, duplicate_key, DefineMode, mode_all, mode_components, mode_steps, mode_text, DuplicateMode}
 use Rattle.rules.specs.Event.{Text, Between, meta_event, section_event, start_event, end_event, text_event, Event, between, inside, parser_event}
@@ -84,13 +84,13 @@ module _ (text : List ℕ) (units : List NamedUnit) (flags : ℕ) where
 
     define_sim : (d : DefineMode) (a b : Text) (w : Option DefineMode) → Sim text units flags (F d no_block) (next (on_define a b w (M d no_block))) []
     unfolding on_define set_modes report first_modes
-    define_sim d a b none = skips fs' refl
-    define_sim d a b (some m) = skips fs' refl
+    define_sim d a b None = skips fs' refl
+    define_sim d a b (Some m) = skips fs' refl
 
     duplicate_sim : (d : DefineMode) (a b : Text) (w : Option DuplicateMode) → Sim text units flags (F d no_block) (next (on_duplicate a b w (M d no_block))) []
     unfolding on_duplicate set_modes report first_modes
-    duplicate_sim d a b none = skips fs' refl
-    duplicate_sim d a b (some m) = skips fs' refl
+    duplicate_sim d a b None = skips fs' refl
+    duplicate_sim d a b (Some m) = skips fs' refl
 
     abbrev kept_line : DefineMode → Text → Text → Key → Step
     kept_line d a b key = next (on_key key a b (F d no_block))

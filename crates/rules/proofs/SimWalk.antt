@@ -3,7 +3,7 @@ use Prim.Native.Nat.{ℕ, suc}
 use mathlib.Core.Path.{◌≡◌, refl, sym, ap, ◌∙◌, subst}
 use mathlib.Core.List.{List, [], ◌∷◌, ◌++◌, reverse_aux}
 use mathlib.Core.Bool.{Bool, true, false}
-use mathlib.Core.Option.{none}
+use Rattle.std.specs.Prelude.{None}
 use native.Mathlib.Omega.{arith}
 use Rattle.rules.specs.Basic.{pick}
 use Rattle.rules.specs.Words.{DefineMode}
@@ -25,7 +25,7 @@ module _ (text : List ℕ) (units : List NamedUnit) (flags : ℕ) where
   -- 22 and 23 do not arise
   pub data NoFaults : List Traced → Type 0 where
     no_line : NoFaults []
-    no_fault : {t : Traced} {ts : List Traced} → plain_fault units flags t.state t.event ≡ none → NoFaults ts → NoFaults (t ∷ ts)
+    no_fault : {t : Traced} {ts : List Traced} → plain_fault units flags t.state t.event ≡ None → NoFaults ts → NoFaults (t ∷ ts)
 
   -- the form's walk ends beside the sheet's, or a limit ends it
   pub data Ends (st : State) : Walk → Type 0 where

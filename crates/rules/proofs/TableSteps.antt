@@ -4,7 +4,7 @@ use Prim.Native.Nat.{ℕ, suc}
 use mathlib.Core.Path.{◌≡◌, refl, sym, subst}
 use mathlib.Core.List.{List, [], ◌∷◌}
 use mathlib.Core.Bool.{Bool, true, false, not}
-use mathlib.Core.Option.{Option, none, some}
+use Rattle.std.specs.Prelude.{Option, None, Some}
 use lib.Dec.{eqb}
 use Rattle.rules.specs.Basic.{pick}
 use Rattle.rules.specs.Words.{step_kind, text_kind, define_key, duplicate_key, DefineMode, DuplicateMode}
@@ -21,7 +21,7 @@ use Rattle.rules.proofs.Basics.{pick_either}
 -- what a line makes: a component by its name, or an ingredient that refers to a step or section, which has REF
 pub data MadeBy (units : List NamedUnit) (flags : ℕ) (st : State) : Kind → Made → Type 0 where
   by_name : (k : Kind) (c : Component) → MadeBy units flags st k (made_by_name units flags k c st)
-  by_place : (c : Component) (i : Intermediate) → c.modifiers.ref ≡ true → MadeBy units flags st ingredient (make_ingredient units flags c (some i) st)
+  by_place : (c : Component) (i : Intermediate) → c.modifiers.ref ≡ true → MadeBy units flags st ingredient (make_ingredient units flags c (Some i) st)
 
 abbrev pub SameTables : State → State → Type 0
 SameTables st after = (after.tables.ingredients ≡ st.tables.ingredients) × (after.tables.cookware ≡ st.tables.cookware)
@@ -38,13 +38,13 @@ pub data TablesAfter (units : List NamedUnit) (flags : ℕ) (st : State) : Step 
 
 define_same : (k v : Text) (o : Option DefineMode) (st : State) → SameTables st (on_define k v o st)
 unfolding on_define report set_modes
-define_same k v none st = (refl, refl)
-define_same k v (some m) st = (refl, refl)
+define_same k v None st = (refl, refl)
+define_same k v (Some m) st = (refl, refl)
 
 duplicate_same : (k v : Text) (o : Option DuplicateMode) (st : State) → SameTables st (on_duplicate k v o st)
 unfolding on_duplicate report set_modes
-duplicate_same k v none st = (refl, refl)
-duplicate_same k v (some m) st = (refl, refl)
+duplicate_same k v None st = (refl, refl)
+duplicate_same k v (Some m) st = (refl, refl)
 
 key_same : (key : Key) (k v : Text) (st : State) → SameTables st (on_key key k v st)
 unfolding on_key store_meta set_metadata report
@@ -78,11 +78,11 @@ module _ (text : List ℕ) (units : List NamedUnit) (flags : ℕ) (st : State) w
   ingredient_tables : (c : Component) (i : Option Intermediate) (is : List Item)
       → T (unless_fault (intermediate_fault c i) (on_made units flags ingredient (make_ingredient units flags c i st) is st))
   unfolding intermediate_fault unless_fault
-  ingredient_tables c none is = unfold make_ingredient in made_tables ingredient _ is (by_name ingredient c)
-  ingredient_tables c (some i) is = go c.modifiers.ref refl i.value.negative
+  ingredient_tables c None is = unfold make_ingredient in made_tables ingredient _ is (by_name ingredient c)
+  ingredient_tables c (Some i) is = go c.modifiers.ref refl i.value.negative
     where
       go : (b : Bool) → c.modifiers.ref ≡ b → (n : Bool)
-          → T (unless_fault (pick {X = Option ℕ} (not b) (some 15) (pick n (some 16) none)) (on_made units flags ingredient (make_ingredient units flags c (some i) st) is st))
+          → T (unless_fault (pick {X = Option ℕ} (not b) (Some 15) (pick n (Some 16) None)) (on_made units flags ingredient (make_ingredient units flags c (Some i) st) is st))
       go false r n = line_stops refl
       go true r true = line_stops refl
       go true r false = made_tables ingredient _ is (by_place c i r)

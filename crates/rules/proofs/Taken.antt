@@ -3,7 +3,7 @@ use Prim.Native.Nat.{ℕ}
 use mathlib.Core.Path.{◌≡◌, refl, sym, ap, ◌∙◌}
 use mathlib.Core.List.{List, [], ◌∷◌, ◌++◌, append_assoc, append-nil}
 use mathlib.Core.Bool.{Bool}
-use mathlib.Core.Option.{Option, none, some}
+use Rattle.std.specs.Prelude.{Option, None, Some}
 use native.Mathlib.Omega.{arith}
 use Rattle.rules.specs.Basic.{pick, codes, eq_list, on_some, each, word_in, decimal}
 use Rattle.rules.specs.Utf8.{chars, encode}
@@ -21,7 +21,7 @@ use Rattle.rules.proofs.Given.{raw, raw_both, GoodField, Gives, Writes, gives_bi
 
 -- ---- numbers, spans, contents, texts
 
-number_field_lem : (f : List ℕ) (n : ℕ) → GoodField f → number_of f ≡ some n → f ≡ escape (decimal n)
+number_field_lem : (f : List ℕ) (n : ℕ) → GoodField f → number_of f ≡ Some n → f ≡ escape (decimal n)
 unfolding number_of
 number_field_lem f n g q = sym (escape_decimal n ∙ decimal_number 65535 n f (omega arith) q)
 
@@ -42,13 +42,13 @@ gives_span =
     (λ a p hp bp gp. gives_bind read_number _ (Writes number_fields) _ gives_number
     (λ b r hr br gr. gives_give _ _ (two_parts (number_fields a) (number_fields b) hp hr)))
 
-content_field : (f c : List ℕ) → GoodField f → content_of f ≡ some c → f ≡ escape (encode c)
+content_field : (f c : List ℕ) → GoodField f → content_of f ≡ Some c → f ≡ escape (encode c)
 unfolding content_of on_some
 content_field f c g q = go (unescape f) refl q
   where
-    go : (o : Option (List ℕ)) → unescape f ≡ o → on_some chars o ≡ some c → f ≡ escape (encode c)
-    go none e q = no_some q
-    go (some u) e q =
+    go : (o : Option (List ℕ)) → unescape f ≡ o → on_some chars o ≡ Some c → f ≡ escape (encode c)
+    go None e q = no_some q
+    go (Some u) e q =
         let z : encode (chars u) ≡ u = encode_chars u (utf8_unescape f u g.utf8 e) in
         sym (ap (λ (x : List ℕ). escape (encode x)) (sym (some_inj q)) ∙ ap escape z ∙ escape_unescape f g.no_tab_lem g.no_lf_lem e)
 
@@ -79,12 +79,12 @@ abbrev AllWords : {A : Type 0} → (A → List ℕ) → List (List ℕ × A) →
 AllWords w [] = Unit {0}
 AllWords w (e ∷ es) = (e.0 ≡ escape (w e.1)) × AllWords w es
 
-word_field_lem : {A : Type 0} (w : A → List ℕ) (table : List (List ℕ × A)) → AllWords w table → (f : List ℕ) (a : A) → GoodField f → word_in f table ≡ some a
+word_field_lem : {A : Type 0} (w : A → List ℕ) (table : List (List ℕ × A)) → AllWords w table → (f : List ℕ) (a : A) → GoodField f → word_in f table ≡ Some a
     → f ≡ escape (w a)
 unfolding word_in
 word_field_lem w [] h f a g q = no_some q
 word_field_lem {A} w (e ∷ es) h f a g q =
-    pick_either (λ (o : Option A). o ≡ some a → f ≡ escape (w a)) (eq_list f e.0) _ _
+    pick_either (λ (o : Option A). o ≡ Some a → f ≡ escape (w a)) (eq_list f e.0) _ _
     (λ b p. eq_list_true f e.0 b ∙ h.0 ∙ ap (λ (x : A). escape (w x)) (some_inj p))
     (λ b p. word_field_lem w es h.1 f a g p) q
 

@@ -3,7 +3,7 @@ use Prim.Native.Nat.{ℕ}
 use mathlib.Core.Path.{◌≡◌, refl, sym, ap, ◌∙◌, subst}
 use mathlib.Core.List.{List, [], ◌∷◌, ◌++◌, append_assoc, append-nil}
 use mathlib.Core.Bool.{Bool, true, false}
-use mathlib.Core.Option.{Option, none, some}
+use Rattle.std.specs.Prelude.{Option, None, Some}
 use native.Mathlib.Omega.{arith}
 use lib.Dec.{eqb}
 use borrow.Author.Tests.{eqb-true}
@@ -25,25 +25,25 @@ minus_escape : (n : ℕ) → escape (minus ∷ decimal n) ≡ minus ∷ decimal 
 unfolding escape escape_char
 minus_escape n = ap (λ (l : List ℕ). minus ∷ l) (escape_decimal n)
 
-signed_field_lem : (f : List ℕ) (v : Signed) → GoodField f → signed_of f ≡ some v → f ≡ escape (signed_field v)
+signed_field_lem : (f : List ℕ) (v : Signed) → GoodField f → signed_of f ≡ Some v → f ≡ escape (signed_field v)
 unfolding signed_of signed_as signed_field when
 signed_field_lem [] v g q = no_some q
 signed_field_lem (c ∷ s) v g q =
     pick_either P (eqb c minus) _ _ (λ b. below (eqb-true c 45 b) (number_up_to 32768 s) refl) (λ b. above (number_up_to 32767 (c ∷ s)) refl) q
   where
     P : Option Signed → Type 0
-    P o = o ≡ some v → (c ∷ s) ≡ escape (signed_field v)
+    P o = o ≡ Some v → (c ∷ s) ≡ escape (signed_field v)
 
-    on : (x : Signed) → (c ∷ s) ≡ escape (signed_field x) → some x ≡ some v → (c ∷ s) ≡ escape (signed_field v)
+    on : (x : Signed) → (c ∷ s) ≡ escape (signed_field x) → Some x ≡ Some v → (c ∷ s) ≡ escape (signed_field v)
     on x e q = subst (λ (y : Signed). (c ∷ s) ≡ escape (signed_field y)) (some_inj q) e
 
     above : (o : Option ℕ) → number_up_to 32767 (c ∷ s) ≡ o → P (signed_as false o)
-    above none e q = no_some q
-    above (some n) e q = on (record { negative = false; size = n }) (sym (escape_decimal n ∙ decimal_number 32767 n (c ∷ s) (omega arith) e)) q
+    above None e q = no_some q
+    above (Some n) e q = on (record { negative = false; size = n }) (sym (escape_decimal n ∙ decimal_number 32767 n (c ∷ s) (omega arith) e)) q
 
     below : c ≡ 45 → (o : Option ℕ) → number_up_to 32768 s ≡ o → P (signed_as true o)
-    below z none e q = no_some q
-    below z (some n) e q =
+    below z None e q = no_some q
+    below z (Some n) e q =
         pick_either P (eqb n 0) _ _ (λ b q. no_some q)
         (λ b q. on (record { negative = true; size = n }) (let h : decimal n ≡ s = decimal_number 32768 n s (omega arith) e in sym (minus_escape n ∙ rw (h, z))) q) q
 

@@ -3,7 +3,7 @@ use Prim.Native.Nat.{ℕ}
 use mathlib.Core.Path.{◌≡◌, refl, sym, ap, ◌∙◌, subst}
 use mathlib.Core.List.{List, [], ◌∷◌, ◌++◌, append_assoc, append-nil}
 use mathlib.Core.Bool.{Bool, true, false}
-use mathlib.Core.Option.{Option, some}
+use Rattle.std.specs.Prelude.{Option, Some}
 use lib.Dec.{eqb}
 use borrow.Author.Tests.{eqb-true}
 use Rattle.rules.specs.Basic.{pick, codes, eq_list, is_empty, when, each}
@@ -43,10 +43,10 @@ letters m = when m.recipe 64 ++ when m.ref 38 ++ when m.hidden 45 ++ when m.opt 
 pub five : (a b c d e : List ℕ) → a ++ (b ++ (c ++ (d ++ e))) ≡ a ++ b ++ c ++ d ++ e
 five a b c d e = simp append_assoc
 
-letters_field : (s : List ℕ) (m : Modifiers) → modifier_letters s ≡ some m → s ≡ letters m
+letters_field : (s : List ℕ) (m : Modifiers) → modifier_letters s ≡ Some m → s ≡ letters m
 unfolding modifier_letters
 letters_field s m =
-    pick_either (λ (o : Option Modifiers). o ≡ some m → s ≡ letters m) (is_empty (past 43 (past 63 (past 45 (past 38 (past 64 s)))))) _ _
+    pick_either (λ (o : Option Modifiers). o ≡ Some m → s ≡ letters m) (is_empty (past 43 (past 63 (past 45 (past 38 (past 64 s)))))) _ _
     (λ b q. whole (empty_is _ b) ∙ ap letters (some_inj q)) (λ b q. no_some q)
   where
     s1 : List ℕ
@@ -78,11 +78,11 @@ or_point_lem : (c : ℕ) (s l : List ℕ) → (c ∷ s) ≡ l → (c ∷ s) ≡ 
 unfolding or_point
 or_point_lem c s l q = subst (λ (x : List ℕ). (c ∷ s) ≡ or_point x) q refl
 
-modifiers_field_lem : (f : List ℕ) (m : Modifiers) → modifiers_of f ≡ some m → f ≡ modifiers_field m
+modifiers_field_lem : (f : List ℕ) (m : Modifiers) → modifiers_of f ≡ Some m → f ≡ modifiers_field m
 unfolding modifiers_of modifiers_field no_modifiers when or_point
 modifiers_field_lem [] m q = no_some q
 modifiers_field_lem (c ∷ s) m q =
-    pick_either (λ (o : Option Modifiers). o ≡ some m → (c ∷ s) ≡ modifiers_field m) (eq_list (c ∷ s) (codes ".")) _ _
+    pick_either (λ (o : Option Modifiers). o ≡ Some m → (c ∷ s) ≡ modifiers_field m) (eq_list (c ∷ s) (codes ".")) _ _
     (λ b p. eq_list_true (c ∷ s) (codes ".") b ∙ ap modifiers_field (some_inj p))
     (λ b p. or_point_lem c s (letters m) (letters_field (c ∷ s) m p)) q
 
@@ -121,7 +121,7 @@ unfolding read_modifiers
 gives_modifiers = gives_saying modifiers_of modifiers_field (λ f m g q. modifiers_field_lem f m q ∙ sym (escape_modifiers m))
 
 -- all 32 sets read back
-modifiers_all : (a b c d e : Bool) → modifiers_of (modifiers_field (record { recipe = a; ref = b; hidden = c; opt = d; new = e })) ≡ some
+modifiers_all : (a b c d e : Bool) → modifiers_of (modifiers_field (record { recipe = a; ref = b; hidden = c; opt = d; new = e })) ≡ Some
     (record { recipe = a; ref = b; hidden = c; opt = d; new = e })
 unfolding modifiers_of modifiers_field or_point when modifier_letters past leads is_empty no_modifiers eq_list
 modifiers_all true true true true true = refl

@@ -3,7 +3,7 @@ use Prim.Native.Nat.{ℕ, suc, ◌<◌}
 use mathlib.Core.Path.{◌≡◌, refl, sym, ap, ◌∙◌, subst}
 use mathlib.Core.List.{List, [], ◌∷◌, ◌++◌, append_assoc}
 use mathlib.Core.Bool.{Bool, true, false}
-use mathlib.Core.Option.{some}
+use Rattle.std.specs.Prelude.{Some}
 use native.Mathlib.Omega.{arith}
 use lib.Dec.{eqb}
 use lib.ListN.{length, take}
@@ -92,29 +92,29 @@ pages_agree a b q =
 
 -- ---- an entry's index is the length of what came before it
 
-pub found_below : (f : List ℕ) (a o : Bool) (es : List Entry) (d : Earlier) → same_name_in f a o es ≡ some d → d.index < length es
+pub found_below : (f : List ℕ) (a o : Bool) (es : List Entry) (d : Earlier) → same_name_in f a o es ≡ Some d → d.index < length es
 unfolding same_name_in
 found_below f a o [] d q = no_some q
 found_below f a o (e ∷ es) d q = go (λ h. found_below f a o es d h) (fits f a o e) refl
   where
-    go : (same_name_in f a o es ≡ some d → d.index < length es) → (b : Bool) → fits f a o e ≡ b → d.index < suc (length es)
+    go : (same_name_in f a o es ≡ Some d → d.index < length es) → (b : Bool) → fits f a o e ≡ b → d.index < suc (length es)
     go ih true p =
-        let h : some (record { index = length es; entry = e }) ≡ some d = rw p at q in
+        let h : Some (record { index = length es; entry = e }) ≡ Some d = rw p at q in
         let i : length es ≡ d.index = ap (λ (x : Earlier). x.index) (some_inj h) in omega arith
     go ih false p = let h : d.index < length es = ih (rw p at q) in omega arith
 
-pub found_at : (f : List ℕ) (a o : Bool) (es : List Entry) (d : Earlier) → same_name_in f a o es ≡ some d → entry_at d.index es ≡ some d.entry
+pub found_at : (f : List ℕ) (a o : Bool) (es : List Entry) (d : Earlier) → same_name_in f a o es ≡ Some d → entry_at d.index es ≡ Some d.entry
 unfolding same_name_in entry_at
 found_at f a o [] d q = no_some q
 found_at f a o (e ∷ es) d q = go (λ h. found_at f a o es d h) (fits f a o e) refl
   where
-    go : (same_name_in f a o es ≡ some d → entry_at d.index es ≡ some d.entry) → (b : Bool) → fits f a o e ≡ b → entry_at d.index (e ∷ es) ≡ some d.entry
+    go : (same_name_in f a o es ≡ Some d → entry_at d.index es ≡ Some d.entry) → (b : Bool) → fits f a o e ≡ b → entry_at d.index (e ∷ es) ≡ Some d.entry
     go ih true p =
         let h : record { index = length es; entry = e } ≡ d = some_inj (rw p at q) in
         let t : eqb (length es) (length es) ≡ true = eq-eqb (length es) (length es) refl in
-        subst (λ (x : Earlier). entry_at x.index (e ∷ es) ≡ some x.entry) h (rw t)
+        subst (λ (x : Earlier). entry_at x.index (e ∷ es) ≡ Some x.entry) h (rw t)
     go ih false p =
-        let r : same_name_in f a o es ≡ some d = rw p at q in
+        let r : same_name_in f a o es ≡ Some d = rw p at q in
         let h : d.index < length es = found_below f a o es d r in
         let t : eqb d.index (length es) ≡ false = ne_eqb d.index (length es) (λ x. omega arith) in
         rw t (ih r)

@@ -1,6 +1,5 @@
 -- The whole: what `collect` and `plain_form` answer for any input and any lengths lent (document 01, "Numbers by place").
-use Rattle.std.specs.Prelude.{ℕ, suc, ◌-◌, List, [], ◌∷◌, ◌++◌, Bool, false, ◌&&◌, ◌||◌, not, eqb, leb, ltb, length, replicate}
-use Rattle.std.proofs.Math.Option.{Option, none, some}
+use Rattle.std.specs.Prelude.{ℕ, suc, ◌-◌, List, [], ◌∷◌, ◌++◌, Bool, false, ◌&&◌, ◌||◌, not, eqb, leb, ltb, length, replicate, Option, None, Some}
 use Rattle.rules.specs.Basic.{pick, is_digit, is_empty, all}
 use Rattle.rules.specs.Utf8.{is_utf8, is_inside}
 use Rattle.rules.specs.Sheet.{Lines, last, more, lines, refused_line}
@@ -33,8 +32,8 @@ module _ (text : List ℕ) (text_length : ℕ) where
       leb s.start s.end && leb s.end text_length && not (is_inside text s.start) && not (is_inside text s.end)
 
   unfoldable pub read_line : ℕ → Option Event → Reading → Reading
-  read_line line none rest = unread 8 line
-  read_line line (some e) rest =
+  read_line line None rest = unread 8 line
+  read_line line (Some e) rest =
       pick (ltb 4096 line) (unread 9 line) (pick (all is_good_span (spans_of e)) (with_event e rest) (unread 10 line))
 
   -- what stands after the last LF, if anything, is a line that is not ended
@@ -54,8 +53,8 @@ module _ (text : List ℕ) (flags : ℕ) where
 
   -- "5 unit line ill-formed or a 1,025th; 6 unit name twice; 7 flags over 7"
   unfoldable pub with_units : List ℕ → Option (List NamedUnit) → Outcome
-  with_units sheet none = refusal 5 0
-  with_units sheet (some us) =
+  with_units sheet None = refusal 5 0
+  with_units sheet (Some us) =
       pick (name_twice us) (refusal 6 0) (pick (ltb 7 flags) (refusal 7 0) (passed us (read_sheet text sheet)))
 
 -- "1 sheet over 65,536 bytes; 2 text over 65,535; 3 units over 16,384"; "4 text not UTF-8"
@@ -120,8 +119,8 @@ module _ (text units : List ℕ) (flags room : ℕ) where
       pick (ltb 65536 (length form) || gives17 (collection form text units flags)) (declined 24 0) (hand_out room form)
 
 unfoldable pub fault_or : ℕ → Option ℕ → Answer → Answer
-fault_or line (some n) a = declined n line
-fault_or line none a = a
+fault_or line (Some n) a = declined n line
+fault_or line None a = a
 
 -- "then by line 22 component in a components-mode step, 23 implicit reference not to the last non-REF of its name"
 module _ (us : List NamedUnit) (flags : ℕ) (whole : Answer) where
@@ -143,8 +142,8 @@ events_or (events es) = es
 events_or (unread n l) = []
 
 unfoldable pub units_or : Option (List NamedUnit) → List NamedUnit
-units_or none = []
-units_or (some us) = us
+units_or None = []
+units_or (Some us) = us
 
 -- what `plain_form` answers
 unfoldable pub plain_answer : List ℕ → List ℕ → List ℕ → ℕ → Lent → Answer

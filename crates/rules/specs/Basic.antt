@@ -1,8 +1,7 @@
 -- Small words that all rules share.
-use Rattle.std.specs.Prelude.{ℕ, zero, suc, ◌+◌, ◌/◌, ◌%◌, List, [], ◌∷◌, ◌++◌, Bool, true, false, ◌&&◌, ◌||◌, eqb, leb, ltb}
+use Rattle.std.specs.Prelude.{ℕ, zero, suc, ◌+◌, ◌/◌, ◌%◌, List, [], ◌∷◌, ◌++◌, Bool, true, false, ◌&&◌, ◌||◌, eqb, leb, ltb, Option, None, Some}
 use Prim.Native.Char.{code}
 use Prim.Native.String.{String}
-use Rattle.std.proofs.Math.Option.{Option, none, some}
 
 -- the one choice: x where the test says yes, else y
 abbrev pub pick {ℓ} : {X : Type ℓ} → Bool → X → X → X
@@ -69,8 +68,8 @@ module _ {A : Type 0} where
   when false a = []
 
   unfoldable pub is_some : Option A → Bool
-  is_some none = false
-  is_some (some a) = true
+  is_some None = false
+  is_some (Some a) = true
 
 module _ {A : Type 0} (test : A → Bool) where
   unfoldable pub any : List A → Bool
@@ -83,8 +82,8 @@ module _ {A : Type 0} (test : A → Bool) where
 
 module _ {A B : Type 0} (f : A → B) where
   unfoldable pub on_some : Option A → Option B
-  on_some none = none
-  on_some (some a) = some (f a)
+  on_some None = None
+  on_some (Some a) = Some (f a)
 
   unfoldable pub each : List A → List B
   each [] = []
@@ -93,8 +92,8 @@ module _ {A B : Type 0} (f : A → B) where
 -- what a word stands for in a table of words
 module _ {A : Type 0} (w : List ℕ) where
   unfoldable pub word_in : List (List ℕ × A) → Option A
-  word_in [] = none
-  word_in (e ∷ es) = pick (eq_list w e.0) (some e.1) (word_in es)
+  word_in [] = None
+  word_in (e ∷ es) = pick (eq_list w e.0) (Some e.1) (word_in es)
 
 -- a list split at each separator: one part more than there are separators
 unfoldable pub on_first : ℕ → List (List ℕ) → List (List ℕ)

@@ -1,6 +1,5 @@
 -- The checks after a reference (15 to 20), and intermediate references (`resolve_intermediate_ref`, 7 to 9).
-use Rattle.std.specs.Prelude.{ℕ, zero, suc, ◌+◌, ◌-◌, List, [], ◌∷◌, ◌++◌, reverse, Bool, true, false, ◌||◌, not, eqb, length}
-use Rattle.std.proofs.Math.Option.{Option, none, some}
+use Rattle.std.specs.Prelude.{ℕ, zero, suc, ◌+◌, ◌-◌, List, [], ◌∷◌, ◌++◌, reverse, Bool, true, false, ◌||◌, not, eqb, length, Option, None, Some}
 use Rattle.rules.specs.Basic.{pick, eq_list, when}
 use Rattle.rules.specs.Words.{IntermediateTarget, target_step, target_section}
 use Rattle.rules.specs.Event.{Span, Text, Quantity, Component, Intermediate}
@@ -13,12 +12,12 @@ use Rattle.rules.specs.Reference.{Earlier, entry_at, referrers}
 
 -- a unit's place: its own span, or the quantity's
 unfoldable pub unit_place : Span → Option Text → Span
-unit_place s none = s
-unit_place s (some t) = t.span
+unit_place s None = s
+unit_place s (Some t) = t.span
 
 unfoldable pub quantity_place : Option Quantity → List Span
-quantity_place none = []
-quantity_place (some q) = unit_place q.span q.unit ∷ []
+quantity_place None = []
+quantity_place (Some q) = unit_place q.span q.unit ∷ []
 
 unfoldable pub unit_finding : ℕ → List Span → List Finding
 unit_finding zero places = []
@@ -27,27 +26,27 @@ unit_finding (suc code) places = diag (suc code) places false ∷ []
 module _ (units : List NamedUnit) where
   -- `compatible_unit` (src/quantity.rs): the code, or 0 where the two fit
   unfoldable pub known_units : List ℕ → List ℕ → Option PhysicalQuantity → Option PhysicalQuantity → ℕ
-  known_units a b (some p) (some q) = pick (same_physical p q) 0 16
-  known_units a b (some p) none = pick (eq_list a b) 0 17
-  known_units a b none (some q) = pick (eq_list a b) 0 17
-  known_units a b none none = pick (eq_list a b) 0 17
+  known_units a b (Some p) (Some q) = pick (same_physical p q) 0 16
+  known_units a b (Some p) None = pick (eq_list a b) 0 17
+  known_units a b None (Some q) = pick (eq_list a b) 0 17
+  known_units a b None None = pick (eq_list a b) 0 17
 
   unfoldable pub compatible_unit : Option (List ℕ) → Option (List ℕ) → ℕ
-  compatible_unit none none = 0
-  compatible_unit none (some b) = 15
-  compatible_unit (some a) none = 15
-  compatible_unit (some a) (some b) = known_units a b (find_unit a units) (find_unit b units)
+  compatible_unit None None = 0
+  compatible_unit None (Some b) = 15
+  compatible_unit (Some a) None = 15
+  compatible_unit (Some a) (Some b) = known_units a b (find_unit a units) (find_unit b units)
 
   -- one pair: the new entry's place, then the old one's
   unfoldable pub unit_pair : Entry → Option Amount → Option Amount → Entry → List Finding
-  unit_pair new none q old = []
-  unit_pair new (some a) none old = []
-  unit_pair new (some a) (some b) old =
+  unit_pair new None q old = []
+  unit_pair new (Some a) None old = []
+  unit_pair new (Some a) (Some b) old =
       unit_finding (compatible_unit b.unit a.unit) (quantity_place new.source.quantity ++ quantity_place old.source.quantity)
 
   unfoldable pub unit_against : Entry → Option Entry → List Finding
-  unit_against new none = []
-  unit_against new (some old) = unit_pair new new.quantity old.quantity old
+  unit_against new None = []
+  unit_against new (Some old) = unit_pair new new.quantity old.quantity old
 
   -- "The unit check runs over the definition and then each of its references, one finding for each pair that does not fit."
   module _ (new : Entry) (table : List Entry) where
@@ -65,12 +64,12 @@ unfoldable pub widened : Span → Span
 widened s = record { start = s.start - 1; end = s.end + 1 }
 
 unfoldable pub note_place : Span → Option Text → Span
-note_place s none = record { start = s.end; end = s.end }
-note_place s (some t) = t.span
+note_place s None = record { start = s.end; end = s.end }
+note_place s (Some t) = t.span
 
 unfoldable pub note_check : Bool → Option Text → Source → List Finding
-note_check implicit none d = []
-note_check implicit (some n) d = found_two 18 (widened n.span) (note_place d.span d.note) implicit ∷ []
+note_check implicit None d = []
+note_check implicit (Some n) d = found_two 18 (widened n.span) (note_place d.span d.note) implicit ∷ []
 
 -- ---- 19 conflicting quantity: `conflicting_reference_quantity_error`; 20 text value: `text_val_in_ref_warn`
 
@@ -79,8 +78,8 @@ is_defined_in_step (definition in_step by) = in_step
 is_defined_in_step (reference t j) = true
 
 unfoldable pub quantity_span : Source → Option Quantity → Span
-quantity_span s none = s.span
-quantity_span s (some q) = q.span
+quantity_span s None = s.span
+quantity_span s (Some q) = q.span
 
 -- where one of two values is text: the text's span first
 unfoldable pub text_check : Bool → Bool → Bool → Span → Span → List Finding
@@ -90,9 +89,9 @@ text_check implicit false true s t = found_two 20 t s implicit ∷ []
 text_check implicit false false s t = []
 
 unfoldable pub quantity_check : Bool → Source → Entry → Option Amount → Option Amount → List Finding
-quantity_check implicit s d none q = []
-quantity_check implicit s d (some a) none = []
-quantity_check implicit s d (some a) (some b) =
+quantity_check implicit s d None q = []
+quantity_check implicit s d (Some a) None = []
+quantity_check implicit s d (Some a) (Some b) =
     when (not (is_defined_in_step d.relation)) (found_two 19 (quantity_span s s.quantity) d.source.span implicit)
     ++ text_check implicit (is_textual a.kind) (is_textual b.kind)
     (quantity_span s s.quantity) (quantity_span d.source d.source.quantity)
@@ -120,9 +119,9 @@ candidates target_section blocks sections = section_indices sections
 
 -- the k-th of a list from 1, where it has so many
 unfoldable pub nth : ℕ → List ℕ → Option ℕ
-nth k [] = none
-nth zero (x ∷ xs) = none
-nth (suc zero) (x ∷ xs) = some x
+nth k [] = None
+nth zero (x ∷ xs) = None
+nth (suc zero) (x ∷ xs) = Some x
 nth (suc (suc k)) (x ∷ xs) = nth (suc k) xs
 
 -- relative: counted back from the newest; else from the first
@@ -138,8 +137,8 @@ intermediate_modifiers c =
 
 -- 8 value 0, 9 bounds
 unfoldable pub intermediate_findings : Intermediate → Option ℕ → List Finding
-intermediate_findings i (some j) = []
-intermediate_findings i none = found (pick (eqb i.value.size 0) 8 9) i.span ∷ []
+intermediate_findings i (Some j) = []
+intermediate_findings i None = found (pick (eqb i.value.size 0) 8 9) i.span ∷ []
 
 -- the relation, which stays a definition where nothing was chosen
 unfoldable pub intermediate_target : IntermediateTarget → Target
@@ -147,5 +146,5 @@ intermediate_target target_step = to_step
 intermediate_target target_section = to_section
 
 unfoldable pub intermediate_relation : Intermediate → Relation → Option ℕ → Relation
-intermediate_relation i r none = r
-intermediate_relation i r (some j) = reference (intermediate_target i.target) j
+intermediate_relation i r None = r
+intermediate_relation i r (Some j) = reference (intermediate_target i.target) j

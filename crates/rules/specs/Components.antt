@@ -1,6 +1,5 @@
 -- What a component of a step becomes (`ingredient`, `cookware`, `timer`, `quantity` in the Rust).
-use Rattle.std.specs.Prelude.{ℕ, List, [], ◌∷◌, ◌++◌, Bool, false, ◌&&◌, not, length}
-use Rattle.std.proofs.Math.Option.{Option, none, some}
+use Rattle.std.specs.Prelude.{ℕ, List, [], ◌∷◌, ◌++◌, Bool, false, ◌&&◌, not, length, Option, None, Some}
 use Rattle.rules.specs.Basic.{pick, when, on_some}
 use Rattle.rules.specs.Event.{Span, Text, Quantity, Component, Intermediate}
 use Rattle.rules.specs.Units.{NamedUnit, PhysicalQuantity, find_unit, same_physical, time}
@@ -13,8 +12,8 @@ use Rattle.rules.specs.State.{State, table_of}
 
 -- 6, lock
 unfoldable pub lock_findings : Option Quantity → List Finding
-lock_findings none = []
-lock_findings (some q) = when q.lock (found 6 q.value_span)
+lock_findings None = []
+lock_findings (Some q) = when q.lock (found 6 q.value_span)
 
 -- what a component becomes: its entry, what is found in order, and the earlier entry that it refers to
 pub record Made : Type 0 where
@@ -35,8 +34,8 @@ found_same new table = same_name_of new.modifiers.ref new table
 module _ (units : List NamedUnit) (flags : ℕ) where
   -- the checks after a reference to d; the unit check is for ingredients, with flag 4
   unfoldable pub checks_after : Kind → Entry → List Entry → Option Earlier → List Finding
-  checks_after k new table none = []
-  checks_after k new table (some d) =
+  checks_after k new table None = []
+  checks_after k new table (Some d) =
       pick (is_ingredient k && has_advanced_units flags) (unit_check units new table d) []
       ++ reference_checks (not new.modifiers.ref) new d.entry
 
@@ -60,12 +59,12 @@ module _ (units : List NamedUnit) (flags : ℕ) where
       record {
         entry = set_relation (intermediate_relation i new.relation target) new;
         findings = lock_findings c.quantity ++ intermediate_modifiers c ++ intermediate_findings i target;
-        refers_to = none;
+        refers_to = None;
       }
 
   unfoldable pub make_ingredient : Component → Option Intermediate → State → Made
-  make_ingredient c none st = made_by_name ingredient c st
-  make_ingredient c (some i) st =
+  make_ingredient c None st = made_by_name ingredient c st
+  make_ingredient c (Some i) st =
       made_intermediate c (new_entry ingredient c st) i
       (resolve_intermediate_ref i st.place.section.content (length st.kept.sections))
 
@@ -75,16 +74,16 @@ module _ (units : List NamedUnit) (flags : ℕ) where
   -- ---- `timer`: 21 timer text, 22 not time, 23 unknown timer unit
 
   unfoldable pub time_unit : Span → Option PhysicalQuantity → List Finding
-  time_unit s none = found 23 s ∷ []
-  time_unit s (some p) = when (not (same_physical p time)) (found 22 s)
+  time_unit s None = found 23 s ∷ []
+  time_unit s (Some p) = when (not (same_physical p time)) (found 22 s)
 
   unfoldable pub timer_unit : Option Text → List Finding
-  timer_unit none = []
-  timer_unit (some t) = time_unit t.span (find_unit (trimmed_text t) units)
+  timer_unit None = []
+  timer_unit (Some t) = time_unit t.span (find_unit (trimmed_text t) units)
 
   unfoldable pub timer_checks : Option Quantity → List Finding
-  timer_checks none = []
-  timer_checks (some q) = when (is_textual q.kind) (found 21 q.value_span) ++ timer_unit q.unit
+  timer_checks None = []
+  timer_checks (Some q) = when (is_textual q.kind) (found 21 q.value_span) ++ timer_unit q.unit
 
   unfoldable pub timer_findings : Option Quantity → List Finding
   timer_findings q = lock_findings q ++ pick (has_advanced_units flags) (timer_checks q) []
@@ -94,19 +93,19 @@ timer_of name q = record { name = on_some trimmed_text name; quantity = on_some 
 
 -- 15 intermediate without REF (steps); 16 negative one (steps)
 unfoldable pub intermediate_fault : Component → Option Intermediate → Option ℕ
-intermediate_fault c none = none
-intermediate_fault c (some i) = pick (not c.modifiers.ref) (some 15) (pick i.value.negative (some 16) none)
+intermediate_fault c None = None
+intermediate_fault c (Some i) = pick (not c.modifiers.ref) (Some 15) (pick i.value.negative (Some 16) None)
 
 -- ---- the table with a new entry, and with it among its definition's referrers
 
 unfoldable pub referred : Option Earlier → List Entry → List Entry
-referred none table = table
-referred (some d) table = set_referenced_from d.index (length table) table
+referred None table = table
+referred (Some d) table = set_referenced_from d.index (length table) table
 
 unfoldable pub pushed : Made → List Entry → List Entry
 pushed m table = m.entry ∷ referred m.refers_to table
 
 -- 18, reference to a reference
 unfoldable pub refers_to_reference : Option Earlier → Bool
-refers_to_reference none = false
-refers_to_reference (some d) = not (is_definition d.entry.relation)
+refers_to_reference None = false
+refers_to_reference (Some d) = not (is_definition d.entry.relation)

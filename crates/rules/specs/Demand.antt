@@ -1,7 +1,6 @@
 -- The words of demand 3 (document 01, "The plain form", second paragraph), read off the lines of a sheet, without the state of
 -- the pass. A line is looked at with the lines before it, newest first.
-use Rattle.std.specs.Prelude.{ℕ, List, [], ◌∷◌, Bool, true, false, ◌&&◌, ◌||◌, not, leb, length}
-use Rattle.std.proofs.Math.Option.{Option, none, some}
+use Rattle.std.specs.Prelude.{ℕ, List, [], ◌∷◌, Bool, true, false, ◌&&◌, ◌||◌, not, leb, length, Option, None, Some}
 use Rattle.rules.specs.Basic.{pick, eq_list, any, is_some, word_in}
 use Rattle.rules.specs.Unicode.{fold_name}
 use Rattle.rules.specs.Words.{DefineMode, DuplicateMode, define_words, duplicate_words, ConfigKey, define_key, duplicate_key, config_keys}
@@ -43,10 +42,10 @@ is_component_line (parser_event s n) = false
 -- "*Mode line*: a `meta` line whose key, as the pass trims it, is one of the three above": its key
 unfoldable pub mode_key : Event → Option ConfigKey
 mode_key (between (meta_event k v)) = word_in (key_text k) config_keys
-mode_key (between (section_event n)) = none
-mode_key (between (start_event k)) = none
-mode_key (inside i) = none
-mode_key (parser_event s n) = none
+mode_key (between (section_event n)) = None
+mode_key (between (start_event k)) = None
+mode_key (inside i) = None
+mode_key (parser_event s n) = None
 
 unfoldable pub is_mode_line : Event → Bool
 is_mode_line e = is_some (mode_key e)
@@ -65,30 +64,30 @@ value_of (parser_event s n) = []
 
 -- the mode that a heeded line with a valid value sets
 unfoldable pub defines_by : Option ConfigKey → List ℕ → Option DefineMode
-defines_by none v = none
-defines_by (some define_key) v = word_in v define_words
-defines_by (some duplicate_key) v = none
+defines_by None v = None
+defines_by (Some define_key) v = word_in v define_words
+defines_by (Some duplicate_key) v = None
 
 unfoldable pub duplicates_by : Option ConfigKey → List ℕ → Option DuplicateMode
-duplicates_by none v = none
-duplicates_by (some define_key) v = none
-duplicates_by (some duplicate_key) v = word_in v duplicate_words
+duplicates_by None v = None
+duplicates_by (Some define_key) v = None
+duplicates_by (Some duplicate_key) v = word_in v duplicate_words
 
 module _ {A : Type 0} where
   unfoldable pub or_else : Option A → A → A
-  or_else none b = b
-  or_else (some a) b = a
+  or_else None b = b
+  or_else (Some a) b = a
 
 -- "The mode at a line comes from the last heeded `[mode]` or `[define]` line before it with a valid value; before any such
 -- line it is the one the Rust starts in." So for `[duplicate]`.
 module _ (flags : ℕ) where
   unfoldable pub define_at : List Event → DefineMode
   define_at [] = first_modes.define
-  define_at (e ∷ earlier) = or_else (pick (has_modes flags) (defines_by (mode_key e) (value_of e)) none) (define_at earlier)
+  define_at (e ∷ earlier) = or_else (pick (has_modes flags) (defines_by (mode_key e) (value_of e)) None) (define_at earlier)
 
   unfoldable pub duplicate_at : List Event → DuplicateMode
   duplicate_at [] = first_modes.duplicate
-  duplicate_at (e ∷ earlier) = or_else (pick (has_modes flags) (duplicates_by (mode_key e) (value_of e)) none) (duplicate_at earlier)
+  duplicate_at (e ∷ earlier) = or_else (pick (has_modes flags) (duplicates_by (mode_key e) (value_of e)) None) (duplicate_at earlier)
 
 -- ---- entries
 
@@ -123,19 +122,19 @@ folded_name k c = fold_name (entry_of k true c).name
 module _ (folded : List ℕ) where
   module _ (is_opt : Bool) where
     unfoldable pub last_fitting : List Unmarked → Option Unmarked
-    last_fitting [] = none
-    last_fitting (u ∷ us) = pick (eq_bool u.is_opt is_opt && eq_list u.folded folded) (some u) (last_fitting us)
+    last_fitting [] = None
+    last_fitting (u ∷ us) = pick (eq_bool u.is_opt is_opt && eq_list u.folded folded) (Some u) (last_fitting us)
 
   unfoldable pub last_named : List Unmarked → Option Unmarked
-  last_named [] = none
-  last_named (u ∷ us) = pick (eq_list u.folded folded) (some u) (last_named us)
+  last_named [] = None
+  last_named (u ∷ us) = pick (eq_list u.folded folded) (Some u) (last_named us)
 
 -- "*Implicit reference*: an entry without REF on its line that the rules make a reference to an earlier entry": without NEW, in
 -- steps mode or with `[duplicate]` reference, where an earlier entry fits; and which one
 unfoldable pub implicit_target : DefineMode → DuplicateMode → Kind → Component → List Unmarked → Option Unmarked
 implicit_target m d k c us =
     pick (not c.modifiers.ref && not c.modifiers.new && (is_steps m || is_reference d))
-    (last_fitting (folded_name k c) c.modifiers.opt us) none
+    (last_fitting (folded_name k c) c.modifiers.opt us) None
 
 -- "An *explicit* one has REF on its line. *Marked as a reference*: with REF on its line, or an implicit reference."
 unfoldable pub is_marked : DefineMode → DuplicateMode → Kind → Component → List Unmarked → Bool
@@ -166,7 +165,7 @@ module _ (flags : ℕ) where
         unmarked_by (define_at flags earlier) (duplicate_at flags earlier) k (length earlier) (entry_in (define_at flags earlier) e) (unmarked earlier)
 
   unfoldable pub implicit_by : List Event → EntryLine → Option Unmarked
-  implicit_by earlier no_entry = none
+  implicit_by earlier no_entry = None
   implicit_by earlier (entry_line k c) = implicit_target (define_at flags earlier) (duplicate_at flags earlier) k c (unmarked k earlier)
 
   -- what a line refers to where it is an implicit reference
@@ -175,7 +174,7 @@ module _ (flags : ℕ) where
 
   -- the last earlier entry of a line's name that is not marked as a reference
   unfoldable pub last_by : List Event → EntryLine → Option Unmarked
-  last_by earlier no_entry = none
+  last_by earlier no_entry = None
   last_by earlier (entry_line k c) = last_named (folded_name k c) (unmarked k earlier)
 
   unfoldable pub last_of_name : List Event → Event → Option Unmarked

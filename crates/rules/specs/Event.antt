@@ -1,6 +1,5 @@
 -- The events as data (src/parser/model.rs, src/parser/mod.rs; document 01, "The event sheet").
-use Rattle.std.specs.Prelude.{ℕ, List, [], ◌∷◌, ◌++◌, Bool}
-use Rattle.std.proofs.Math.Option.{Option, none, some}
+use Rattle.std.specs.Prelude.{ℕ, List, [], ◌∷◌, ◌++◌, Bool, Option, None, Some}
 use Rattle.rules.specs.Sheet.{Signed}
 use Rattle.rules.specs.Words.{BlockKind, ValueKind, IntermediateTarget, Severity}
 
@@ -81,16 +80,16 @@ component_span (timer_event s n q) = s
 -- ---- every span of a line, in the line's order (10)
 
 unfoldable pub text_spans : Option Text → List Span
-text_spans none = []
-text_spans (some t) = t.span ∷ []
+text_spans None = []
+text_spans (Some t) = t.span ∷ []
 
 unfoldable pub quantity_spans : Option Quantity → List Span
-quantity_spans none = []
-quantity_spans (some q) = q.span ∷ q.value_span ∷ text_spans q.unit
+quantity_spans None = []
+quantity_spans (Some q) = q.span ∷ q.value_span ∷ text_spans q.unit
 
 unfoldable pub intermediate_spans : Option Intermediate → List Span
-intermediate_spans none = []
-intermediate_spans (some i) = i.span ∷ []
+intermediate_spans None = []
+intermediate_spans (Some i) = i.span ∷ []
 
 unfoldable pub named_spans : Component → List Span
 named_spans c =

@@ -1,6 +1,5 @@
 -- `meta` lines (`metadata` in the Rust): the modes that they set, the map, findings 1 to 3.
-use Rattle.std.specs.Prelude.{ℕ, List, [], ◌∷◌, reverse, Bool, false}
-use Rattle.std.proofs.Math.Option.{Option, none, some}
+use Rattle.std.specs.Prelude.{ℕ, List, [], ◌∷◌, reverse, Bool, false, Option, None, Some}
 use Rattle.rules.specs.Basic.{pick, eq_list, any, each, word_in}
 use Rattle.rules.specs.Words.{DefineMode, DuplicateMode, define_words, duplicate_words, define_key, duplicate_key}
 use Rattle.rules.specs.Event.{Span, Text}
@@ -29,12 +28,12 @@ unfoldable pub bad_value : Text → Text → Finding
 bad_value key value = found_two 1 value.span key.span false
 
 unfoldable pub on_define : Text → Text → Option DefineMode → State → State
-on_define key value none st = report (bad_value key value ∷ []) st
-on_define key value (some m) st = set_modes (record { define = m; duplicate = st.modes.duplicate }) st
+on_define key value None st = report (bad_value key value ∷ []) st
+on_define key value (Some m) st = set_modes (record { define = m; duplicate = st.modes.duplicate }) st
 
 unfoldable pub on_duplicate : Text → Text → Option DuplicateMode → State → State
-on_duplicate key value none st = report (bad_value key value ∷ []) st
-on_duplicate key value (some m) st = set_modes (record { define = st.modes.define; duplicate = m }) st
+on_duplicate key value None st = report (bad_value key value ∷ []) st
+on_duplicate key value (Some m) st = set_modes (record { define = st.modes.define; duplicate = m }) st
 
 -- 2, config key: an unknown one is kept in the map; any other `meta` line counts for 3
 unfoldable pub on_key : Key → Text → Text → State → State

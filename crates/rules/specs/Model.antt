@@ -1,6 +1,5 @@
 -- The recipe (src/model.rs, src/quantity.rs). Lists have the newest first: an entry's index is the length of what stands after it.
-use Rattle.std.specs.Prelude.{ℕ, List, [], ◌∷◌, Bool, true, false, ◌&&◌, ◌||◌, not, eqb}
-use Rattle.std.proofs.Math.Option.{Option, none, some}
+use Rattle.std.specs.Prelude.{ℕ, List, [], ◌∷◌, Bool, true, false, ◌&&◌, ◌||◌, not, eqb, Option, None, Some}
 use Rattle.rules.specs.Basic.{pick, codes, slash, backslash, split_at, is_empty, on_some, each}
 use Rattle.rules.specs.Text.{text_trimmed}
 use Rattle.rules.specs.Words.{ValueKind, number, range, textual}
@@ -84,10 +83,10 @@ all_but_last (p ∷ []) = []
 all_but_last (p ∷ q ∷ ps) = p ∷ all_but_last (q ∷ ps)
 
 unfoldable pub reference_parts : List (List ℕ) → Option RecipeReference
-reference_parts ps = pick (is_empty (last_part ps)) none (some (record { components = all_but_last ps; name = last_part ps }))
+reference_parts ps = pick (is_empty (last_part ps)) None (Some (record { components = all_but_last ps; name = last_part ps }))
 
 unfoldable pub parse_reference : List ℕ → Option RecipeReference
-parse_reference n = pick (is_path n) (reference_parts (split_at slash (each as_slash n))) none
+parse_reference n = pick (is_path n) (reference_parts (split_at slash (each as_slash n))) None
 
 -- ---- components
 
@@ -153,16 +152,16 @@ pub record MetaEntry : Type 0 where
 -- ---- a component of the sheet as an entry: names and notes trimmed; an ingredient's path taken off
 
 unfoldable pub name_of : List ℕ → Option RecipeReference → List ℕ
-name_of n none = n
-name_of n (some r) = r.name
+name_of n None = n
+name_of n (Some r) = r.name
 
 unfoldable pub path_of : Option RecipeReference → Option (List (List ℕ))
-path_of none = none
-path_of (some r) = some r.components
+path_of None = None
+path_of (Some r) = Some r.components
 
 unfoldable pub reference_in : Kind → List ℕ → Option RecipeReference
 reference_in ingredient n = parse_reference n
-reference_in cookware n = none
+reference_in cookware n = None
 
 unfoldable pub source_of : Component → Source
 source_of c = record { span = c.span; quantity = c.quantity; note = c.note; modifiers_span = c.modifiers_span }

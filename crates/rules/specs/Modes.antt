@@ -1,6 +1,5 @@
 -- The modes of the pass (src/analysis/mod.rs), the flags, and the keys of `meta` lines that set modes.
-use Rattle.std.specs.Prelude.{ℕ, ◌/◌, ◌%◌, List, [], ◌∷◌, Bool, true, false, ◌&&◌, eqb}
-use Rattle.std.proofs.Math.Option.{Option, none, some}
+use Rattle.std.specs.Prelude.{ℕ, ◌/◌, ◌%◌, List, [], ◌∷◌, Bool, true, false, ◌&&◌, eqb, Option, None, Some}
 use Rattle.rules.specs.Basic.{pick, word_in}
 use Rattle.rules.specs.Text.{text_trimmed, text_outer_trimmed}
 use Rattle.rules.specs.Words.{DefineMode, mode_all, mode_components, mode_steps, mode_text, DuplicateMode, duplicate_new, duplicate_reference, ConfigKey, config_keys}
@@ -70,8 +69,8 @@ is_bracketed [] = false
 is_bracketed (c ∷ s) = eqb c 91 && ends_with_bracket s
 
 unfoldable pub key_as : Option ConfigKey → Bool → Key
-key_as (some k) bracketed = config k
-key_as none bracketed = pick bracketed unknown_config ordinary
+key_as (Some k) bracketed = config k
+key_as None bracketed = pick bracketed unknown_config ordinary
 
 unfoldable pub key_of : List ℕ → Key
 key_of key = key_as (word_in key config_keys) (is_bracketed key)

@@ -1,6 +1,5 @@
 -- The recipe page, line by line (document 01, "The recipe page").
-use Rattle.std.specs.Prelude.{ℕ, List, [], ◌∷◌, ◌++◌, reverse, length}
-use Rattle.std.proofs.Math.Option.{Option, none, some}
+use Rattle.std.specs.Prelude.{ℕ, List, [], ◌∷◌, ◌++◌, reverse, length, Option, None, Some}
 use Rattle.rules.specs.Basic.{pick, codes, comma, minus, slash, decimal, join_by, each, on_some, concat}
 use Rattle.rules.specs.Utf8.{encode}
 use Rattle.rules.specs.Sheet.{line_of}
@@ -26,13 +25,13 @@ module _ {A : Type 0} (line : ℕ → A → List ℕ) where
 
 -- "Optional strings are `-` or `=` and the string."
 unfoldable pub optional : Option (List ℕ) → List ℕ
-optional none = codes "-"
-optional (some s) = 61 ∷ encode s
+optional None = codes "-"
+optional (Some s) = 61 ∷ encode s
 
 -- "Quantity: `-`, or kind, value, unit, `s` or `f` (scalable or fixed)."
 unfoldable pub amount_fields : Option Amount → Fields
-amount_fields none = codes "-" ∷ []
-amount_fields (some a) = kind_field a.kind ∷ encode a.value ∷ optional a.unit ∷ pick a.scalable (codes "s") (codes "f") ∷ []
+amount_fields None = codes "-" ∷ []
+amount_fields (Some a) = kind_field a.kind ∷ encode a.value ∷ optional a.unit ∷ pick a.scalable (codes "s") (codes "f") ∷ []
 
 -- "Relation: `def`, `step` or `list` (defined in components mode), referring indices by comma or `-`; or `ref`, target, index."
 unfoldable pub or_minus : List ℕ → List ℕ
@@ -91,7 +90,7 @@ timer_line i t = line_of ((codes "timer" ∷ decimal i ∷ optional t.name ∷ [
 
 -- "`inline` index, number as written with its sign, unit"
 unfoldable pub inline_line : ℕ → InlineQuantity → List ℕ
-inline_line i q = line_of (codes "inline" ∷ decimal i ∷ encode q.number ∷ optional (some q.unit) ∷ [])
+inline_line i q = line_of (codes "inline" ∷ decimal i ∷ encode q.number ∷ optional (Some q.unit) ∷ [])
 
 -- "`diag`, `E` or `W`, code, spans as `3-14` by comma, `i` if implicit else `-`; or `parse`, `E` or `W`, number"
 unfoldable pub span_word : Span → List ℕ

@@ -1,7 +1,6 @@
 -- The pass over the events (`RecipeCollector::parse_events`), its refusals 11 to 19, and its end.
-use Rattle.std.specs.Prelude.{ℕ, suc, ◌+◌, ◌-◌, Bool, true, false, ◌&&◌, not, length, take, drop}
+use Rattle.std.specs.Prelude.{ℕ, suc, ◌+◌, ◌-◌, Bool, true, false, ◌&&◌, not, length, take, drop, Option, None, Some}
 use mathlib.Core.List.{List, [], ◌∷◌, ◌++◌, reverse, reverse_aux}
-use Rattle.std.proofs.Math.Option.{Option, none, some}
 use Rattle.rules.specs.Basic.{pick, is_empty, is_some, when, any, concat, on_some}
 use Rattle.rules.specs.Unicode.{is_alphanumeric}
 use Rattle.rules.specs.Utf8.{chars}
@@ -102,8 +101,8 @@ unfoldable pub unless_chained : Made → State → Step
 unless_chained m st = pick (refers_to_reference m.refers_to) (pick (over_limits st) (stop 17) (stop 18)) (next st)
 
 unfoldable pub unless_fault : Option ℕ → Step → Step
-unless_fault none s = s
-unless_fault (some n) s = stop n
+unless_fault None s = s
+unless_fault (Some n) s = stop n
 
 -- ---- `in_step`
 

@@ -1,6 +1,5 @@
 -- The plain form (document 01, "The plain form"), line by line, and its refusals 22 and 23.
-use Rattle.std.specs.Prelude.{ℕ, suc, List, [], ◌∷◌, ◌++◌, Bool, true, false, ◌&&◌, eqb}
-use Rattle.std.proofs.Math.Option.{Option, none, some}
+use Rattle.std.specs.Prelude.{ℕ, suc, List, [], ◌∷◌, ◌++◌, Bool, true, false, ◌&&◌, eqb, Option, None, Some}
 use Rattle.rules.specs.Basic.{pick}
 use Rattle.rules.specs.Words.{step_kind, text_kind}
 use Rattle.rules.specs.Event.{Component, Intermediate, Event, Between, meta_event, section_event, start_event, Inside, end_event, text_event, component_event, ComponentEvent, ingredient_event, cookware_event, timer_event, between, inside, parser_event, component_span}
@@ -32,21 +31,21 @@ mark_ref c =
 
 -- what a component refers to without REF on its line
 unfoldable pub implicit_of : Component → Option Earlier → Option Earlier
-implicit_of c to = pick c.modifiers.ref none to
+implicit_of c to = pick c.modifiers.ref None to
 
 unfoldable pub marked_if : Component → Option Earlier → Component
-marked_if c none = c
-marked_if c (some d) = mark_ref c
+marked_if c None = c
+marked_if c (Some d) = mark_ref c
 
 -- ---- "23 implicit reference not to the last non-REF of its name"
 
 unfoldable pub is_last : Earlier → Option Earlier → Bool
-is_last d none = false
-is_last d (some l) = eqb d.index l.index
+is_last d None = false
+is_last d (Some l) = eqb d.index l.index
 
 unfoldable pub implicit_fault : Entry → List Entry → Option Earlier → Option ℕ
-implicit_fault new table none = none
-implicit_fault new table (some d) = pick (is_last d (same_name_of true new table)) none (some 23)
+implicit_fault new table None = None
+implicit_fault new table (Some d) = pick (is_last d (same_name_of true new table)) None (Some 23)
 
 -- ---- lines in a step
 
@@ -74,21 +73,21 @@ module _ (units : List NamedUnit) (flags : ℕ) where
   unfoldable pub mark_fault : State → ComponentEvent → Option ℕ
   mark_fault st (ingredient_event c i) = implicit_fault (new_entry ingredient c st) (table_of ingredient st) (implicit_ingredient st c i)
   mark_fault st (cookware_event c) = implicit_fault (new_entry cookware c st) (table_of cookware st) (implicit_cookware st c)
-  mark_fault st (timer_event s n q) = none
+  mark_fault st (timer_event s n q) = None
 
   -- "22 component in a components-mode step", then 23
   unfoldable pub component_fault : State → ComponentEvent → Open → Option ℕ
-  component_fault st c no_block = none
-  component_fault st c (step_open is) = pick (is_components st.modes.define) (some 22) (mark_fault st c)
-  component_fault st c (text_open ts) = none
-  component_fault st c (text_mode_open ts) = none
+  component_fault st c no_block = None
+  component_fault st c (step_open is) = pick (is_components st.modes.define) (Some 22) (mark_fault st c)
+  component_fault st c (text_open ts) = None
+  component_fault st c (text_mode_open ts) = None
 
   unfoldable pub plain_fault : State → Event → Option ℕ
-  plain_fault st (between b) = none
-  plain_fault st (inside (end_event k)) = none
-  plain_fault st (inside (text_event t)) = none
+  plain_fault st (between b) = None
+  plain_fault st (inside (end_event k)) = None
+  plain_fault st (inside (text_event t)) = None
   plain_fault st (inside (component_event c)) = component_fault st c st.place.block
-  plain_fault st (parser_event s n) = none
+  plain_fault st (parser_event s n) = None
 
 -- ---- lines between blocks: "`[mode]`, `[define]`, `[duplicate]` lines removed where flag 1 is set"
 

@@ -1,7 +1,6 @@
 -- Demand 3 as one statement about a whole sheet: `PlainForm sheet text units flags`, which proofs/PlainForm.antt proves for any
 -- bytes and any flags. It speaks in the words of Demand.antt, line by line, not in the plain form's own tests.
-use Rattle.std.specs.Prelude.{ℕ, suc, ◌≡◌, List, [], ◌∷◌, ◌++◌, reverse, true, false, length}
-use Rattle.std.proofs.Math.Option.{none, some}
+use Rattle.std.specs.Prelude.{ℕ, suc, ◌≡◌, List, [], ◌∷◌, ◌++◌, reverse, true, false, length, None, Some}
 use Rattle.rules.specs.Basic.{pick}
 use Rattle.rules.specs.Event.{Event, between, inside, parser_event}
 use Rattle.rules.specs.Units.{read_units}
@@ -32,19 +31,19 @@ module _ (flags : ℕ) (earlier : List Event) (e : Event) where
   -- the last earlier entry of its name that is not marked as a reference
   pub record IsClear : Type 0 where
     pub unlisted : is_component_line e ≡ true → is_components (define_at flags earlier) ≡ false
-    pub last : (u : Unmarked) → implicit_at flags earlier e ≡ some u → last_of_name flags earlier e ≡ some u
+    pub last : (u : Unmarked) → implicit_at flags earlier e ≡ Some u → last_of_name flags earlier e ≡ Some u
 
   -- it does: "22 component in a components-mode step, 23 implicit reference not to the last non-REF of its name", "the lowest
   -- number on a line first"
   pub data Faulty : ℕ → Type 0 where
     listed : is_component_line e ≡ true → is_components (define_at flags earlier) ≡ true → Faulty 22
-    not_last : is_components (define_at flags earlier) ≡ false → (u : Unmarked) → implicit_at flags earlier e ≡ some u
-        → (last_of_name flags earlier e ≡ some u → ⊥) → Faulty 23
+    not_last : is_components (define_at flags earlier) ≡ false → (u : Unmarked) → implicit_at flags earlier e ≡ Some u
+        → (last_of_name flags earlier e ≡ Some u → ⊥) → Faulty 23
 
   -- a line of a form: no mode line that the flags heed, and no implicit reference
   pub record IsPlain : Type 0 where
     pub unheeded : is_heeded flags e ≡ false
-    pub explicit : implicit_at flags earlier e ≡ none
+    pub explicit : implicit_at flags earlier e ≡ None
 
 -- ---- the form
 

@@ -1,6 +1,5 @@
 -- The reading of a line's fields into its event (document 01, "The event sheet").
-use Rattle.std.specs.Prelude.{ℕ, List, [], ◌∷◌, Bool, false, eqb}
-use Rattle.std.proofs.Math.Option.{Option, none, some}
+use Rattle.std.specs.Prelude.{ℕ, List, [], ◌∷◌, Bool, false, eqb, Option, None, Some}
 use Rattle.rules.specs.Basic.{pick, codes, eq_list, minus, is_empty, on_some, word_in}
 use Rattle.rules.specs.Utf8.{is_utf8, chars}
 use Rattle.rules.specs.Sheet.{number_of, signed_of, Signed, fields_of, unescape}
@@ -17,8 +16,8 @@ Reader A = Fields → Option (A × Fields)
 
 module _ {A B : Type 0} (f : A → Reader B) where
   unfoldable pub go_on : Option (A × Fields) → Option (B × Fields)
-  go_on none = none
-  go_on (some r) = f r.0 r.1
+  go_on None = None
+  go_on (Some r) = f r.0 r.1
 
 infixl 10 ◌>>=◌
 module _ {A : Type 0} where
@@ -26,29 +25,29 @@ module _ {A : Type 0} where
   ◌>>=◌ r f fs = go_on f (r fs)
 
   unfoldable pub give : A → Reader A
-  give a fs = some (a, fs)
+  give a fs = Some (a, fs)
 
   -- what a field says, if it says it
   unfoldable pub saying : Option A → Reader A
-  saying none fs = none
-  saying (some a) fs = some (a, fs)
+  saying None fs = None
+  saying (Some a) fs = Some (a, fs)
 
   unfoldable pub got_one : Option (A × Fields) → Option (Option A × Fields)
-  got_one none = none
-  got_one (some r) = some (some r.0, r.1)
+  got_one None = None
+  got_one (Some r) = Some (Some r.0, r.1)
 
   -- "*opt* is `-` or the thing itself."
   unfoldable pub opt : Reader A → Reader (Option A)
-  opt r [] = none
-  opt r (f ∷ fs) = pick (eq_list f (minus ∷ [])) (some (none, fs)) (got_one (r (f ∷ fs)))
+  opt r [] = None
+  opt r (f ∷ fs) = pick (eq_list f (minus ∷ [])) (Some (None, fs)) (got_one (r (f ∷ fs)))
 
 unfoldable pub field : Reader (List ℕ)
-field [] = none
-field (f ∷ fs) = some (f, fs)
+field [] = None
+field (f ∷ fs) = Some (f, fs)
 
 unfoldable pub no_more : Reader (Unit {0})
-no_more [] = some (tt, [])
-no_more (f ∷ fs) = none
+no_more [] = Some (tt, [])
+no_more (f ∷ fs) = None
 
 -- ---- the parts of a line
 
@@ -110,12 +109,12 @@ unfoldable pub modifier_letters : List ℕ → Option Modifiers
 modifier_letters s =
     let s1 = past 64 s in let s2 = past 38 s1 in let s3 = past 45 s2 in let s4 = past 63 s3 in
     pick (is_empty (past 43 s4))
-    (some (record { recipe = leads 64 s; ref = leads 38 s1; hidden = leads 45 s2; opt = leads 63 s3; new = leads 43 s4 }))
-    none
+    (Some (record { recipe = leads 64 s; ref = leads 38 s1; hidden = leads 45 s2; opt = leads 63 s3; new = leads 43 s4 }))
+    None
 
 unfoldable pub modifiers_of : List ℕ → Option Modifiers
-modifiers_of [] = none
-modifiers_of (c ∷ s) = pick (eq_list (c ∷ s) (codes ".")) (some no_modifiers) (modifier_letters (c ∷ s))
+modifiers_of [] = None
+modifiers_of (c ∷ s) = pick (eq_list (c ∷ s) (codes ".")) (Some no_modifiers) (modifier_letters (c ∷ s))
 
 unfoldable pub read_modifiers : Reader Modifiers
 read_modifiers = do
@@ -217,9 +216,9 @@ read_event = do
   give e
 
 unfoldable pub first_read : Option (Event × Fields) → Option Event
-first_read none = none
-first_read (some r) = some r.0
+first_read None = None
+first_read (Some r) = Some r.0
 
 -- the event of a line without its LF, or none where the line is ill-formed (8)
 unfoldable pub parse_line : List ℕ → Option Event
-parse_line line = pick (is_utf8 line) (first_read (read_event (fields_of line))) none
+parse_line line = pick (is_utf8 line) (first_read (read_event (fields_of line))) None

@@ -1,6 +1,5 @@
 -- What a new component refers to (`resolve_reference`, `set_referenced_from`).
-use Rattle.std.specs.Prelude.{ℕ, List, [], ◌∷◌, ◌++◌, reverse, Bool, true, false, ◌&&◌, ◌||◌, not, eqb, length}
-use Rattle.std.proofs.Math.Option.{Option, none, some}
+use Rattle.std.specs.Prelude.{ℕ, List, [], ◌∷◌, ◌++◌, reverse, Bool, true, false, ◌&&◌, ◌||◌, not, eqb, length, Option, None, Some}
 use Rattle.rules.specs.Basic.{pick, eq_list, is_some, when}
 use Rattle.rules.specs.Unicode.{fold_name}
 use Rattle.rules.specs.Finding.{Finding, diag, found}
@@ -25,8 +24,8 @@ module _ (folded : List ℕ) (any_opt is_opt : Bool) where
   fits e = not e.modifiers.ref && (any_opt || eq_bool e.modifiers.opt is_opt) && eq_list (fold_name e.name) folded
 
   unfoldable pub same_name_in : List Entry → Option Earlier
-  same_name_in [] = none
-  same_name_in (e ∷ es) = pick (fits e) (some (record { index = length es; entry = e })) (same_name_in es)
+  same_name_in [] = None
+  same_name_in (e ∷ es) = pick (fits e) (Some (record { index = length es; entry = e })) (same_name_in es)
 
 unfoldable pub same_name_of : Bool → Entry → List Entry → Option Earlier
 same_name_of any_opt new table = same_name_in (fold_name new.name) any_opt new.modifiers.opt table
@@ -34,8 +33,8 @@ same_name_of any_opt new table = same_name_in (fold_name new.name) any_opt new.m
 -- the entry of an index
 module _ (i : ℕ) where
   unfoldable pub entry_at : List Entry → Option Entry
-  entry_at [] = none
-  entry_at (e ∷ es) = pick (eqb i (length es)) (some e) (entry_at es)
+  entry_at [] = None
+  entry_at (e ∷ es) = pick (eqb i (length es)) (Some e) (entry_at es)
 
 -- ---- `resolve_reference`: `same` is what the search found
 
@@ -49,7 +48,7 @@ module _ (modes : Modes) (new : Entry) where
 
   -- "NEW with REF: an error, no reference, both kept."
   unfoldable pub refers_to : Option Earlier → Option Earlier
-  refers_to same = pick new.modifiers.new none (pick (treat_as_reference same) same none)
+  refers_to same = pick new.modifiers.new None (pick (treat_as_reference same) same None)
 
   -- 11, redundant NEW: never in steps mode; else with `[duplicate] new`, or where the name is new
   unfoldable pub redundant_new : Option Earlier → List Finding
@@ -65,8 +64,8 @@ module _ (modes : Modes) (new : Entry) where
   module _ (inherit : Modifiers) where
     -- 13, modifier conflict: modifiers that the definition does not hand down; 14, not found
     unfoldable pub conflict_or_missing : Option Earlier → List Finding
-    conflict_or_missing none = diag 14 (new.source.span ∷ []) (not is_explicit) ∷ []
-    conflict_or_missing (some d) =
+    conflict_or_missing None = diag 14 (new.source.span ∷ []) (not is_explicit) ∷ []
+    conflict_or_missing (Some d) =
         when (any_beyond new.modifiers (with_ref (both d.entry.modifiers inherit)))
         (diag 13 (new.source.modifiers_span ∷ []) (not is_explicit))
 
@@ -79,8 +78,8 @@ module _ (modes : Modes) (new : Entry) where
 
 -- the new entry where it refers to d: the definition's modifiers that it inherits, and REF
 unfoldable pub as_referring : Kind → Option Earlier → Entry → Entry
-as_referring k none new = new
-as_referring k (some d) new =
+as_referring k None new = new
+as_referring k (Some d) new =
     set_relation (reference (target_of k) d.index)
     (set_modifiers (with_ref (either new.modifiers (both d.entry.modifiers (inherits k)))) new)
 

@@ -1,6 +1,5 @@
 -- Lines, fields, escapes, numbers, over bytes (document 01, "The event sheet").
-use Rattle.std.specs.Prelude.{ℕ, ◌+◌, ◌-◌, ◌*◌, List, [], ◌∷◌, ◌++◌, Bool, true, false, eqb, leb}
-use Rattle.std.proofs.Math.Option.{Option, none, some}
+use Rattle.std.specs.Prelude.{ℕ, ◌+◌, ◌-◌, ◌*◌, List, [], ◌∷◌, ◌++◌, Bool, true, false, eqb, leb, Option, None, Some}
 use Rattle.rules.specs.Basic.{pick, codes, tab, lf, backslash, minus, is_digit, each, split_at, join_by, decimal}
 
 -- "UTF-8 lines, each ended by LF": the lines of some bytes, and what stands after the last LF
@@ -22,17 +21,17 @@ fields_of line = split_at tab line
 
 -- "Inside a field `\\`, `\t`, `\n` stand for backslash, tab, LF." No other use of a backslash is well formed.
 unfoldable pub escaped : ℕ → Option ℕ
-escaped c = pick (eqb c backslash) (some backslash) (pick (eqb c 116) (some tab) (pick (eqb c 110) (some lf) none))
+escaped c = pick (eqb c backslash) (Some backslash) (pick (eqb c 116) (Some tab) (pick (eqb c 110) (Some lf) None))
 
 unfoldable pub onto : Option ℕ → Option (List ℕ) → Option (List ℕ)
-onto none s = none
-onto (some c) none = none
-onto (some c) (some s) = some (c ∷ s)
+onto None s = None
+onto (Some c) None = None
+onto (Some c) (Some s) = Some (c ∷ s)
 
 unfoldable pub unescape : List ℕ → Option (List ℕ)
-unescape [] = some []
-unescape (c ∷ []) = pick (eqb c backslash) none (some (c ∷ []))
-unescape (c ∷ d ∷ s) = pick (eqb c backslash) (onto (escaped d) (unescape s)) (onto (some c) (unescape (d ∷ s)))
+unescape [] = Some []
+unescape (c ∷ []) = pick (eqb c backslash) None (Some (c ∷ []))
+unescape (c ∷ d ∷ s) = pick (eqb c backslash) (onto (escaped d) (unescape s)) (onto (Some c) (unescape (d ∷ s)))
 
 unfoldable pub escape_char : ℕ → List ℕ
 escape_char c =
@@ -53,19 +52,19 @@ refused_line number line = line_of (codes "refused" ∷ decimal number ∷ decim
 
 -- "Numbers are decimal without leading zeros, zero without sign, at most 65535."
 unfoldable pub digits_from : ℕ → List ℕ → Option ℕ
-digits_from n [] = some n
-digits_from n (c ∷ s) = pick (is_digit c) (digits_from (n * 10 + (c - 48)) s) none
+digits_from n [] = Some n
+digits_from n (c ∷ s) = pick (is_digit c) (digits_from (n * 10 + (c - 48)) s) None
 
 unfoldable pub at_most : ℕ → Option ℕ → Option ℕ
-at_most m none = none
-at_most m (some n) = pick (leb n m) (some n) none
+at_most m None = None
+at_most m (Some n) = pick (leb n m) (Some n) None
 
 unfoldable pub only_zero : List ℕ → Option ℕ
-only_zero [] = some 0
-only_zero (c ∷ s) = none
+only_zero [] = Some 0
+only_zero (c ∷ s) = None
 
 unfoldable pub number_up_to : ℕ → List ℕ → Option ℕ
-number_up_to m [] = none
+number_up_to m [] = None
 number_up_to m (c ∷ s) = pick (eqb c 48) (only_zero s) (at_most m (digits_from 0 (c ∷ s)))
 
 unfoldable pub number_of : List ℕ → Option ℕ
@@ -77,10 +76,10 @@ pub record Signed : Type 0 where
   pub size : ℕ
 
 unfoldable pub signed_as : Bool → Option ℕ → Option Signed
-signed_as b none = none
-signed_as false (some n) = some (record { negative = false; size = n })
-signed_as true (some n) = pick (eqb n 0) none (some (record { negative = true; size = n }))
+signed_as b None = None
+signed_as false (Some n) = Some (record { negative = false; size = n })
+signed_as true (Some n) = pick (eqb n 0) None (Some (record { negative = true; size = n }))
 
 unfoldable pub signed_of : List ℕ → Option Signed
-signed_of [] = none
+signed_of [] = None
 signed_of (c ∷ s) = pick (eqb c minus) (signed_as true (number_up_to 32768 s)) (signed_as false (number_up_to 32767 (c ∷ s)))

@@ -1,7 +1,6 @@
 -- The state of the pass (`RecipeCollector`), and the limits (17).
-use Rattle.std.specs.Prelude.{ℕ, Bool, ◌||◌, ltb, length}
+use Rattle.std.specs.Prelude.{ℕ, Bool, ◌||◌, ltb, length, None}
 use mathlib.Core.List.{List, [], reverse_aux}
-use Rattle.std.proofs.Math.Option.{none}
 use Rattle.rules.specs.Event.{Span}
 use Rattle.rules.specs.Finding.{Finding}
 use Rattle.rules.specs.Model.{Kind, ingredient, cookware, Entry, Timer, InlineQuantity, Item, Section, MetaEntry}
@@ -52,7 +51,7 @@ first_state =
     record {
       modes = first_modes;
       metadata = record { map = []; old = [] };
-      place = record { section = record { name = none; content = [] }; step_counter = 1; block = no_block };
+      place = record { section = record { name = None; content = [] }; step_counter = 1; block = no_block };
       kept = record { sections = []; blocks = 0; items = 0 };
       tables = record { ingredients = []; cookware = []; timers = []; inline = [] };
       findings = [];

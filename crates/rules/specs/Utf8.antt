@@ -1,6 +1,5 @@
 -- Well-formed UTF-8 (the Unicode Standard, table 3-7), the code points of a text, and their bytes.
-use Rattle.std.specs.Prelude.{ℕ, zero, suc, pred, ◌+◌, ◌*◌, ◌/◌, ◌%◌, Bool, ◌&&◌, not, List, [], ◌∷◌, ◌++◌, leb, ltb, eqb, get_or}
-use Rattle.std.proofs.Math.Option.{Option, none, some}
+use Rattle.std.specs.Prelude.{ℕ, zero, suc, pred, ◌+◌, ◌*◌, ◌/◌, ◌%◌, Bool, ◌&&◌, not, List, [], ◌∷◌, ◌++◌, leb, ltb, eqb, get_or, Option, None, Some}
 use Rattle.rules.specs.Basic.{pick, within, is_some}
 
 -- ---- table 3-7
@@ -26,14 +25,14 @@ later b = within 0x80 0xbf b
 -- the code point of the character of n bytes that starts with a and goes on with s, if they are one;
 -- a byte that is missing reads as 0, which stands neither second nor later
 unfoldable pub sized : ℕ → ℕ → List ℕ → Option ℕ
-sized zero a s = none
-sized (suc zero) a s = some a
-sized (suc (suc zero)) a s = pick (second a (get_or s 0 0)) (some (a % 32 * 64 + get_or s 0 0 % 64)) none
+sized zero a s = None
+sized (suc zero) a s = Some a
+sized (suc (suc zero)) a s = pick (second a (get_or s 0 0)) (Some (a % 32 * 64 + get_or s 0 0 % 64)) None
 sized (suc (suc (suc zero))) a s =
-    pick (second a (get_or s 0 0) && later (get_or s 1 0)) (some (a % 16 * 4096 + get_or s 0 0 % 64 * 64 + get_or s 1 0 % 64)) none
+    pick (second a (get_or s 0 0) && later (get_or s 1 0)) (Some (a % 16 * 4096 + get_or s 0 0 % 64 * 64 + get_or s 1 0 % 64)) None
 sized (suc (suc (suc (suc n)))) a s =
     pick (second a (get_or s 0 0) && later (get_or s 1 0) && later (get_or s 2 0))
-    (some (a % 8 * 262144 + get_or s 0 0 % 64 * 4096 + get_or s 1 0 % 64 * 64 + get_or s 2 0 % 64)) none
+    (Some (a % 8 * 262144 + get_or s 0 0 % 64 * 4096 + get_or s 1 0 % 64 * 64 + get_or s 2 0 % 64)) None
 
 -- the character that the bytes a ∷ s start with
 unfoldable pub first_of : ℕ → List ℕ → Option ℕ
@@ -44,11 +43,11 @@ first_of a s = sized (size_of a) a s
 -- the place of the first byte at which a character should start and none does;
 -- the bytes start at the place `at`, and k of them are left of the character before
 unfoldable pub fault_or : ℕ → Option ℕ → Option ℕ → Option ℕ
-fault_or at none rest = some at
-fault_or at (some c) rest = rest
+fault_or at None rest = Some at
+fault_or at (Some c) rest = rest
 
 unfoldable pub fault_from : ℕ → ℕ → List ℕ → Option ℕ
-fault_from at k [] = none
+fault_from at k [] = None
 fault_from at (suc k) (a ∷ s) = fault_from (suc at) k s
 fault_from at zero (a ∷ s) = fault_or at (first_of a s) (fault_from (suc at) (pred (size_of a)) s)
 
@@ -65,13 +64,13 @@ is_inside text i = later (get_or text i 0)
 -- ---- the code points of any bytes; a byte at which no character starts reads as U+FFFD
 
 unfoldable pub char_or : Option ℕ → ℕ
-char_or none = 0xfffd
-char_or (some c) = c
+char_or None = 0xfffd
+char_or (Some c) = c
 
 -- how many bytes follow the byte a in its character
 unfoldable pub followers : ℕ → Option ℕ → ℕ
-followers a none = 0
-followers a (some c) = pred (size_of a)
+followers a None = 0
+followers a (Some c) = pred (size_of a)
 
 -- k bytes are left of the character before
 unfoldable pub chars_from : ℕ → List ℕ → List ℕ

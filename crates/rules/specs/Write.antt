@@ -1,6 +1,5 @@
 -- The line of an event: the inverse of its reading, since each content has one spelling.
-use Rattle.std.specs.Prelude.{ℕ, List, [], ◌∷◌, ◌++◌}
-use Rattle.std.proofs.Math.Option.{Option, none, some}
+use Rattle.std.specs.Prelude.{ℕ, List, [], ◌∷◌, ◌++◌, Option, None, Some}
 use Rattle.rules.specs.Basic.{pick, codes, minus, when, decimal}
 use Rattle.rules.specs.Utf8.{encode}
 use Rattle.rules.specs.Sheet.{Signed, line_of}
@@ -10,8 +9,8 @@ use Rattle.rules.specs.Read.{Fields}
 
 module _ {A : Type 0} (write : A → Fields) where
   unfoldable pub opt_fields : Option A → Fields
-  opt_fields none = codes "-" ∷ []
-  opt_fields (some a) = write a
+  opt_fields None = codes "-" ∷ []
+  opt_fields (Some a) = write a
 
 unfoldable pub span_fields : Span → Fields
 span_fields s = decimal s.start ∷ decimal s.end ∷ []

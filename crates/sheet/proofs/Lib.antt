@@ -3,4 +3,3 @@ pub mod Runs
 pub mod Tests
 pub mod Digits
 pub mod Texts
-pub mod Answers

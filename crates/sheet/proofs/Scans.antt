@@ -1,4 +1,5 @@
 -- A scan for a byte: what was passed holds none of it.
+use Rattle.std.specs.Prelude.{None, Some}
 use Prim.Native.Nat.{ℕ, suc, ◌+◌, ◌-◌, ◌≤◌, ◌<◌}
 use mathlib.Core.Path.{◌≡◌, refl, ap, sym, ◌∙◌}
 use mathlib.Core.Bool.{Bool, true, false}
@@ -12,7 +13,6 @@ use lib.Seq.{drop-cons, take-suc, take_all, drop-drop, get_or-drop, drop-append-
 use Rattle.rules.specs.Basic.{tab, lf, split_at}
 use Rattle.rules.specs.Sheet.{lines, fields_of}
 use Rattle.rules.proofs.Fields.{Without, without_none, without_more, without_both, split_one, split_more, lines_more, lines_last}
-use Rattle.sheet.specs.declared.LineEnd.TheVariants.{At, Nothing}
 use Rattle.sheet.specs.Lines.{lines_from, LineAt, fields_from, field_at}
 
 -- no b from `at` to i
@@ -49,7 +49,7 @@ module _ {b : ℕ} {s : List ℕ} {at i : ℕ} (c : Scan b s at i) where
 
 -- ---- lines
 module _ {s : List ℕ} {at i : ℕ} (c : Scan lf s at i) where
-  pub line_hit : i < length s → get_or s i 0 ≡ 10 → LineAt s at (At i)
+  pub line_hit : i < length s → get_or s i 0 ≡ 10 → LineAt s at (Some i)
   unfolding lines_from
   line_hit h q =
       record {
@@ -57,7 +57,7 @@ module _ {s : List ℕ} {at i : ℕ} (c : Scan lf s at i) where
         inside = λ e p. let k : i ≡ e = cc in (omega (arith, c.from), omega arith);
       }
 
-  pub line_none : length s ≤ i → LineAt s at Nothing
+  pub line_none : length s ≤ i → LineAt s at None
   unfolding lines_from
   line_none h =
       record {

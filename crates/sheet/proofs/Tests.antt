@@ -2,7 +2,7 @@
 use Prim.Native.Nat.{ℕ, suc, ◌+◌, ◌≤◌, ◌<◌}
 use mathlib.Core.Path.{◌≡◌, refl, ap, sym, ◌∙◌}
 use mathlib.Core.Bool.{Bool, true, false}
-use mathlib.Core.Option.{Option, none, some}
+use Rattle.std.specs.Prelude.{Option, None, Some}
 use mathlib.Core.List.{List, [], ◌∷◌}
 use native.Mathlib.Numerals.{add-one}
 use native.Mathlib.Omega.{arith}
@@ -38,7 +38,7 @@ module _ (a b : List ℕ) (i : ℕ) {r : Bool} (l : length a ≡ length b) (e : 
 
 -- o is what f stands for in the rest of a table
 module _ {A : Type 0} (f : List ℕ) (w : List ℕ × A) (es : List (List ℕ × A)) {o : Option A} {b : Bool} (e : word_in f (w ∷ es) ≡ o) (q : b ≡ eq_list f w.0) where
-  pub hit : b ≡ true → some w.1 ≡ o
+  pub hit : b ≡ true → Some w.1 ≡ o
   unfolding word_in
   hit t = simp (sym q ∙ t) at e
 
@@ -47,6 +47,6 @@ module _ {A : Type 0} (f : List ℕ) (w : List ℕ × A) (es : List (List ℕ ×
   miss t = simp (sym q ∙ t) at e
 
 -- a table of which nothing is left
-pub ends : {A : Type 0} (f : List ℕ) {o : Option A} → word_in f [] ≡ o → none ≡ o
+pub ends : {A : Type 0} (f : List ℕ) {o : Option A} → word_in f [] ≡ o → None ≡ o
 unfolding word_in
 ends f e = e

@@ -1,56 +1,49 @@
--- What the enums of words stand for.
-use Rattle.std.proofs.Math.Option.{Option, none, some}
-use Rattle.rules.specs.Words.{EventWord, meta_word, section_word, start_word, end_word, text_word, ingredient_word, cookware_word, timer_word, error_word, warning_word, BlockKind, step_kind, text_kind, ValueKind, number, range, textual, ConfigKey, define_key, duplicate_key, DefineMode, mode_all, mode_components, mode_steps, mode_text, DuplicateMode, duplicate_new, duplicate_reference}
-use Rattle.sheet.specs.declared.Word.{Word}
-use Rattle.sheet.specs.declared.Word.TheVariants as word
-use Rattle.sheet.specs.declared.BlockWord.{BlockWord}
-use Rattle.sheet.specs.declared.BlockWord.TheVariants as block
-use Rattle.sheet.specs.declared.ValueWord.{ValueWord}
-use Rattle.sheet.specs.declared.ValueWord.TheVariants as value
-use Rattle.sheet.specs.declared.KeyWord.{KeyWord}
-use Rattle.sheet.specs.declared.KeyWord.TheVariants as key
-use Rattle.sheet.specs.declared.DefineWord.{DefineWord}
-use Rattle.sheet.specs.declared.DefineWord.TheVariants as define
-use Rattle.sheet.specs.declared.DuplicateWord.{DuplicateWord}
-use Rattle.sheet.specs.declared.DuplicateWord.TheVariants as duplicate
+-- What the words stand for.
+use Rattle.rules.specs.Words as rules
+use Rattle.sheet.specs.declared.EventWord.{EventWord}
+use Rattle.sheet.specs.declared.EventWord.TheVariants as word
+use Rattle.sheet.specs.declared.BlockKind.{BlockKind}
+use Rattle.sheet.specs.declared.BlockKind.TheVariants as block
+use Rattle.sheet.specs.declared.ValueKind.{ValueKind}
+use Rattle.sheet.specs.declared.ValueKind.TheVariants as value
+use Rattle.sheet.specs.declared.ConfigKey.{ConfigKey}
+use Rattle.sheet.specs.declared.ConfigKey.TheVariants as key
+use Rattle.sheet.specs.declared.Define.{Define}
+use Rattle.sheet.specs.declared.Define.TheVariants as define
+use Rattle.sheet.specs.declared.Duplicate.{Duplicate}
+use Rattle.sheet.specs.declared.Duplicate.TheVariants as duplicate
 
-unfoldable pub word_as : Option EventWord → Word
-word_as none = word.Unknown
-word_as (some meta_word) = word.Meta
-word_as (some section_word) = word.Section
-word_as (some start_word) = word.Start
-word_as (some end_word) = word.End
-word_as (some text_word) = word.Text
-word_as (some ingredient_word) = word.Ingredient
-word_as (some cookware_word) = word.Cookware
-word_as (some timer_word) = word.Timer
-word_as (some error_word) = word.Error
-word_as (some warning_word) = word.Warning
+unfoldable pub event_word_in : EventWord → rules.EventWord
+event_word_in word.Meta = rules.meta_word
+event_word_in word.Section = rules.section_word
+event_word_in word.Start = rules.start_word
+event_word_in word.End = rules.end_word
+event_word_in word.Text = rules.text_word
+event_word_in word.Ingredient = rules.ingredient_word
+event_word_in word.Cookware = rules.cookware_word
+event_word_in word.Timer = rules.timer_word
+event_word_in word.Error = rules.error_word
+event_word_in word.Warning = rules.warning_word
 
-unfoldable pub block_as : Option BlockKind → BlockWord
-block_as none = block.Unknown
-block_as (some step_kind) = block.Step
-block_as (some text_kind) = block.Text
+unfoldable pub block_in : BlockKind → rules.BlockKind
+block_in block.Step = rules.step_kind
+block_in block.Text = rules.text_kind
 
-unfoldable pub value_as : Option ValueKind → ValueWord
-value_as none = value.Unknown
-value_as (some number) = value.Number
-value_as (some range) = value.Range
-value_as (some textual) = value.Text
+unfoldable pub kind_in : ValueKind → rules.ValueKind
+kind_in value.Number = rules.number
+kind_in value.Range = rules.range
+kind_in value.Textual = rules.textual
 
-unfoldable pub key_as : Option ConfigKey → KeyWord
-key_as none = key.Unknown
-key_as (some define_key) = key.Define
-key_as (some duplicate_key) = key.Duplicate
+unfoldable pub key_in : ConfigKey → rules.ConfigKey
+key_in key.Define = rules.define_key
+key_in key.Duplicate = rules.duplicate_key
 
-unfoldable pub define_as : Option DefineMode → DefineWord
-define_as none = define.Unknown
-define_as (some mode_all) = define.All
-define_as (some mode_components) = define.Components
-define_as (some mode_steps) = define.Steps
-define_as (some mode_text) = define.Text
+unfoldable pub define_of : Define → rules.DefineMode
+define_of define.All = rules.mode_all
+define_of define.Components = rules.mode_components
+define_of define.Steps = rules.mode_steps
+define_of define.Text = rules.mode_text
 
-unfoldable pub duplicate_as : Option DuplicateMode → DuplicateWord
-duplicate_as none = duplicate.Unknown
-duplicate_as (some duplicate_new) = duplicate.New
-duplicate_as (some duplicate_reference) = duplicate.Reference
+unfoldable pub duplicate_of : Duplicate → rules.DuplicateMode
+duplicate_of duplicate.New = rules.duplicate_new
+duplicate_of duplicate.Reference = rules.duplicate_reference

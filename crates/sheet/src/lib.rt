@@ -2,24 +2,15 @@
 #![tactic(auto)]
 
 ghost use Rattle.std.specs.Prelude.{◌≡◌, ◌+◌, ◌≤◌, length};
-ghost use Rattle.rules.specs.Basic.{eq_list, is_some, word_in};
+ghost use Rattle.rules.specs.Basic.{eq_list, is_some, on_some, word_in};
 ghost use Rattle.rules.specs.Words.{event_words, block_kinds, value_kinds, config_keys, define_words, duplicate_words};
 ghost use Rattle.rules.specs.Utf8.{chars};
 ghost use Rattle.rules.specs.Sheet.{escaped, unescape, number_up_to, number_of, signed_of};
 ghost use Rattle.sheet.specs.Lines.{LineAt, field_at};
 ghost use Rattle.sheet.specs.Runs.{lacks, Lacking};
-ghost use Rattle.sheet.specs.Words.{word_as, block_as, value_as, key_as, define_as, duplicate_as};
-ghost use Rattle.sheet.specs.Numbers.{number_as, signed_number_as};
-ghost use Rattle.sheet.specs.Escapes.{or_zero, length_as, Unescapes};
-
-// Where a line ends.
-#[derive(Clone, Copy)]
-pub enum LineEnd {
-    // The position of its LF.
-    At(usize),
-    // There is no LF.
-    Nothing,
-}
+ghost use Rattle.sheet.specs.Words.{event_word_in, block_in, kind_in, key_in, define_of, duplicate_of};
+ghost use Rattle.sheet.specs.Numbers.{signed_in};
+ghost use Rattle.sheet.specs.Escapes.{Unescapes};
 
 // Whether the eight bytes at a place lack the byte b. All of them are looked at, which the compiler makes one comparison.
 pub fn eight_lack(s: &[u8], at: usize, b: u8) -> bool
@@ -86,17 +77,17 @@ pub fn past_lacking(s: &[u8], at: usize, b: u8) -> usize
 }
 
 // The first LF at or after `at`.
-pub fn line_end(s: &[u8], at: usize) -> LineEnd
+pub fn line_end(s: &[u8], at: usize) -> Option<usize>
     ensures { LineAt s.now at result }
 {
     let mut i = past_lacking(s, at, b'\n');
     while i < s.len() {
         if s[i] == b'\n' {
-            return LineEnd::At(i);
+            return Some(i);
         }
         i += 1;
     }
-    LineEnd::Nothing
+    None
 }
 
 // The field that starts at `at`, still escaped: up to the next tab or the line's end.
@@ -133,7 +124,7 @@ pub fn same_bytes(a: &[u8], b: &[u8]) -> bool
 }
 
 #[derive(Clone, Copy)]
-pub enum Word {
+pub enum EventWord {
     Meta,
     Section,
     Start,
@@ -144,215 +135,200 @@ pub enum Word {
     Timer,
     Error,
     Warning,
-    Unknown,
 }
 
 // The first field of a line: its kind of event.
-pub fn event_word(f: &[u8]) -> Word
-    ensures { result ≡ word_as (word_in f.now event_words) }
+pub fn event_word(f: &[u8]) -> Option<EventWord>
+    ensures { on_some event_word_in result ≡ word_in f.now event_words }
 {
     if same_bytes(f, b"meta") {
-        return Word::Meta;
+        return Some(EventWord::Meta);
     }
     if same_bytes(f, b"section") {
-        return Word::Section;
+        return Some(EventWord::Section);
     }
     if same_bytes(f, b"start") {
-        return Word::Start;
+        return Some(EventWord::Start);
     }
     if same_bytes(f, b"end") {
-        return Word::End;
+        return Some(EventWord::End);
     }
     if same_bytes(f, b"text") {
-        return Word::Text;
+        return Some(EventWord::Text);
     }
     if same_bytes(f, b"ingredient") {
-        return Word::Ingredient;
+        return Some(EventWord::Ingredient);
     }
     if same_bytes(f, b"cookware") {
-        return Word::Cookware;
+        return Some(EventWord::Cookware);
     }
     if same_bytes(f, b"timer") {
-        return Word::Timer;
+        return Some(EventWord::Timer);
     }
     if same_bytes(f, b"error") {
-        return Word::Error;
+        return Some(EventWord::Error);
     }
     if same_bytes(f, b"warning") {
-        return Word::Warning;
+        return Some(EventWord::Warning);
     }
-    Word::Unknown
+    None
 }
 
 #[derive(Clone, Copy)]
-pub enum BlockWord {
+pub enum BlockKind {
     Step,
     Text,
-    Unknown,
 }
 
 // The kind of a block that starts or ends.
-pub fn block_kind(f: &[u8]) -> BlockWord
-    ensures { result ≡ block_as (word_in f.now block_kinds) }
+pub fn block_kind(f: &[u8]) -> Option<BlockKind>
+    ensures { on_some block_in result ≡ word_in f.now block_kinds }
 {
     if same_bytes(f, b"step") {
-        return BlockWord::Step;
+        return Some(BlockKind::Step);
     }
     if same_bytes(f, b"text") {
-        return BlockWord::Text;
+        return Some(BlockKind::Text);
     }
-    BlockWord::Unknown
+    None
 }
 
 #[derive(Clone, Copy)]
-pub enum ValueWord {
+pub enum ValueKind {
     Number,
     Range,
-    Text,
-    Unknown,
+    Textual,
 }
 
 // The kind of a value.
-pub fn value_kind(f: &[u8]) -> ValueWord
-    ensures { result ≡ value_as (word_in f.now value_kinds) }
+pub fn value_kind(f: &[u8]) -> Option<ValueKind>
+    ensures { on_some kind_in result ≡ word_in f.now value_kinds }
 {
     if same_bytes(f, b"n") {
-        return ValueWord::Number;
+        return Some(ValueKind::Number);
     }
     if same_bytes(f, b"r") {
-        return ValueWord::Range;
+        return Some(ValueKind::Range);
     }
     if same_bytes(f, b"t") {
-        return ValueWord::Text;
+        return Some(ValueKind::Textual);
     }
-    ValueWord::Unknown
+    None
 }
 
 #[derive(Clone, Copy)]
-pub enum KeyWord {
+pub enum ConfigKey {
     Define,
     Duplicate,
-    Unknown,
 }
 
 // A config key, with its brackets.
-pub fn config_key(f: &[u8]) -> KeyWord
-    ensures { result ≡ key_as (word_in (chars f.now) config_keys) }
+pub fn config_key(f: &[u8]) -> Option<ConfigKey>
+    ensures { on_some key_in result ≡ word_in (chars f.now) config_keys }
 {
     if same_bytes(f, b"[mode]") {
-        return KeyWord::Define;
+        return Some(ConfigKey::Define);
     }
     if same_bytes(f, b"[define]") {
-        return KeyWord::Define;
+        return Some(ConfigKey::Define);
     }
     if same_bytes(f, b"[duplicate]") {
-        return KeyWord::Duplicate;
+        return Some(ConfigKey::Duplicate);
     }
-    KeyWord::Unknown
+    None
 }
 
 #[derive(Clone, Copy)]
-pub enum DefineWord {
+pub enum Define {
     All,
     Components,
     Steps,
     Text,
-    Unknown,
 }
 
 // The value of a `[mode]` or `[define]` line.
-pub fn define_mode(f: &[u8]) -> DefineWord
-    ensures { result ≡ define_as (word_in (chars f.now) define_words) }
+pub fn define_mode(f: &[u8]) -> Option<Define>
+    ensures { on_some define_of result ≡ word_in (chars f.now) define_words }
 {
     if same_bytes(f, b"all") {
-        return DefineWord::All;
+        return Some(Define::All);
     }
     if same_bytes(f, b"default") {
-        return DefineWord::All;
+        return Some(Define::All);
     }
     if same_bytes(f, b"components") {
-        return DefineWord::Components;
+        return Some(Define::Components);
     }
     if same_bytes(f, b"ingredients") {
-        return DefineWord::Components;
+        return Some(Define::Components);
     }
     if same_bytes(f, b"steps") {
-        return DefineWord::Steps;
+        return Some(Define::Steps);
     }
     if same_bytes(f, b"text") {
-        return DefineWord::Text;
+        return Some(Define::Text);
     }
-    DefineWord::Unknown
+    None
 }
 
 #[derive(Clone, Copy)]
-pub enum DuplicateWord {
+pub enum Duplicate {
     New,
     Reference,
-    Unknown,
 }
 
 // The value of a `[duplicate]` line.
-pub fn duplicate_mode(f: &[u8]) -> DuplicateWord
-    ensures { result ≡ duplicate_as (word_in (chars f.now) duplicate_words) }
+pub fn duplicate_mode(f: &[u8]) -> Option<Duplicate>
+    ensures { on_some duplicate_of result ≡ word_in (chars f.now) duplicate_words }
 {
     if same_bytes(f, b"new") {
-        return DuplicateWord::New;
+        return Some(Duplicate::New);
     }
     if same_bytes(f, b"default") {
-        return DuplicateWord::New;
+        return Some(Duplicate::New);
     }
     if same_bytes(f, b"reference") {
-        return DuplicateWord::Reference;
+        return Some(Duplicate::Reference);
     }
     if same_bytes(f, b"ref") {
-        return DuplicateWord::Reference;
+        return Some(Duplicate::Reference);
     }
-    DuplicateWord::Unknown
-}
-
-#[derive(Clone, Copy)]
-pub enum Number {
-    Value(u32),
-    Bad,
+    None
 }
 
 // A number in decimal, without leading zeros, of at most `most`.
-fn read_up_to(f: &[u8], most: u16) -> Number
-    ensures { result ≡ number_as (number_up_to most f.now) }
+fn read_up_to(f: &[u8], most: u16) -> Option<u32>
+    ensures { result ≡ number_up_to most f.now }
 {
     if f.len() == 0 {
-        return Number::Bad;
+        return None;
     }
     if f[0] == b'0' {
         if f.len() == 1 {
-            return Number::Value(0);
+            return Some(0);
         } else {
-            return Number::Bad;
+            return None;
         }
     }
     let mut n: u32 = 0;
     let mut i = 0;
     while i < f.len() {
         let c = f[i];
-        if c < b'0' {
-            return Number::Bad;
-        }
-        if b'9' < c {
-            return Number::Bad;
+        if c < b'0' || b'9' < c {
+            return None;
         }
         n = n * 10 + ((c - b'0') as u32);
         if (most as u32) < n {
-            return Number::Bad;
+            return None;
         }
         i += 1;
     }
-    Number::Value(n)
+    Some(n)
 }
 
 // A number of the sheet.
-pub fn read_number(f: &[u8]) -> Number
-    ensures { result ≡ number_as (number_of f.now) }
+pub fn read_number(f: &[u8]) -> Option<u32>
+    ensures { result ≡ number_of f.now }
 {
     read_up_to(f, 65535)
 }
@@ -362,56 +338,40 @@ pub fn read_number(f: &[u8]) -> Number
 pub enum Signed {
     Plus(u32),
     Minus(u32),
-    Bad,
 }
 
-pub fn read_signed(f: &[u8]) -> Signed
-    ensures { result ≡ signed_number_as (signed_of f.now) }
+pub fn read_signed(f: &[u8]) -> Option<Signed>
+    ensures { on_some signed_in result ≡ signed_of f.now }
 {
     if f.len() == 0 {
-        return Signed::Bad;
+        return None;
     }
     if f[0] == b'-' {
-        let Number::Value(n) = read_up_to(&f[1..], 32768) else {
-            return Signed::Bad;
-        };
+        let n = read_up_to(&f[1..], 32768)?;
         if n == 0 {
-            return Signed::Bad;
+            return None;
         }
-        return Signed::Minus(n);
+        return Some(Signed::Minus(n));
     }
-    let Number::Value(m) = read_up_to(f, 32767) else {
-        return Signed::Bad;
-    };
-    Signed::Plus(m)
+    let m = read_up_to(f, 32767)?;
+    Some(Signed::Plus(m))
 }
 
-// What a letter after a backslash stands for, or 0.
-pub fn letter(c: u8) -> u8
-    ensures { result ≡ or_zero (escaped c) }
+// What a letter after a backslash stands for.
+pub fn letter(c: u8) -> Option<u8>
+    ensures { result ≡ escaped c }
 {
-    if c == b'\\' {
-        return b'\\';
+    match c {
+        b'\\' => Some(b'\\'),
+        b't' => Some(b'\t'),
+        b'n' => Some(b'\n'),
+        _ => None,
     }
-    if c == b't' {
-        return b'\t';
-    }
-    if c == b'n' {
-        return b'\n';
-    }
-    0
-}
-
-#[derive(Clone, Copy)]
-pub enum Length {
-    Len(usize),
-    // A backslash in the field stands before no letter of an escape.
-    Ill,
 }
 
 // How many bytes a field has without its escapes.
-pub fn unescaped_len(f: &[u8]) -> Length
-    ensures { result ≡ length_as (unescape f.now) }
+pub fn unescaped_len(f: &[u8]) -> Option<usize>
+    ensures { result ≡ on_some length (unescape f.now) }
 {
     let mut i = 0;
     let mut n = 0;
@@ -419,11 +379,9 @@ pub fn unescaped_len(f: &[u8]) -> Length
         if f[i] == b'\\' {
             let j = i + 1;
             if f.len() <= j {
-                return Length::Ill;
+                return None;
             }
-            if letter(f[j]) == 0 {
-                return Length::Ill;
-            }
+            letter(f[j])?;
             i = j + 1;
             n += 1;
         } else {
@@ -431,37 +389,33 @@ pub fn unescaped_len(f: &[u8]) -> Length
             n += 1;
         }
     }
-    Length::Len(n)
+    Some(n)
 }
 
 pub fn is_well_escaped(f: &[u8]) -> bool
     ensures { result ≡ is_some (unescape f.now) }
 {
-    match unescaped_len(f) {
-        Length::Len(n) => true,
-        Length::Ill => false,
-    }
+    unescaped_len(f).is_some()
 }
 
+// Why a field is not written without its escapes.
 #[derive(Clone, Copy)]
-pub enum Unescaped {
-    // The field's text stands at the front of the buffer, so many bytes of it.
-    Done(usize),
+pub enum NotUnescaped {
     // An escape of the field is ill-formed.
     Ill,
     // The text is longer than the buffer.
     NoRoom,
 }
 
-// Writes a field without its escapes at the front of `out`, and nothing where that cannot be done.
-pub fn unescape_into(out: &mut [u8], f: &[u8]) -> Unescaped
+// Writes a field without its escapes at the front of `out` and answers their number, and writes nothing where that cannot be done.
+pub fn unescape_into(out: &mut [u8], f: &[u8]) -> Result<usize, NotUnescaped>
     ensures { Unescapes f.now out.old out.new result }
 {
-    let Length::Len(k) = unescaped_len(f) else {
-        return Unescaped::Ill;
+    let Some(k) = unescaped_len(f) else {
+        return Err(NotUnescaped::Ill);
     };
     if out.len() < k {
-        return Unescaped::NoRoom;
+        return Err(NotUnescaped::NoRoom);
     }
     let mut n = 0;
     let mut i = 0;
@@ -470,7 +424,9 @@ pub fn unescape_into(out: &mut [u8], f: &[u8]) -> Unescaped
         if c == b'\\' {
             let j = i + 1;
             let d = f[j];
-            let e = letter(d);
+            let Some(e) = letter(d) else {
+                return Err(NotUnescaped::Ill);
+            };
             n = output::put_byte(out, n, e);
             i = j + 1;
         } else {
@@ -478,5 +434,5 @@ pub fn unescape_into(out: &mut [u8], f: &[u8]) -> Unescaped
             i += 1;
         }
     }
-    Unescaped::Done(k)
+    Ok(k)
 }

@@ -55,8 +55,8 @@ pub one_span : {text : List ℕ} {s : Span} {r : Bool} → r ≡ is_good_span te
 unfolding all
 one_span e = record { is = e ∙ sym (and_true _) }
 
-pub and_then : {text : List ℕ} {xs ys : List Span} {a b r : Bool} → Goods text xs a → Goods text ys b → r ≡ (a && b) → Goods text (xs ++ ys) r
-and_then {text} {xs} {ys} p q e = record { is = e ∙ rw (p.is, q.is) (sym (all_append (is_good_span text (length text)) xs ys)) }
+pub and_then : {text : List ℕ} {xs ys : List Span} {a b : Bool} → Goods text xs a → Goods text ys b → Goods text (xs ++ ys) (a && b)
+and_then {text} {xs} {ys} p q = record { is = rw (p.is, q.is) (sym (all_append (is_good_span text (length text)) xs ys)) }
 
 -- the spans of a value that is told
 pub shown : {A : Type 0} (spans : A → List Span) {v u : A} → v ≡ u → {text : List ℕ} {r : Bool} → Goods text (spans u) r → Goods text (spans v) r

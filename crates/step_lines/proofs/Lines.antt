@@ -2,7 +2,7 @@
 use Prim.Native.Nat.{ℕ, suc}
 use mathlib.Core.Path.{◌≡◌, refl, sym, ap, ◌∙◌}
 use mathlib.Core.List.{List, [], ◌∷◌, ◌++◌, reverse, reverse_aux, reverse-cons, append_assoc, append-nil}
-use mathlib.Core.Option.{Option, none, some}
+use Rattle.std.specs.Prelude.{Option, None, Some}
 use mathlib.Core.Bool.{false}
 use lib.ListN.{length}
 use Rattle.rules.specs.Basic.{codes, tab, lf, minus, decimal, concat, join_by, each, on_some}
@@ -101,7 +101,7 @@ text_item_put {f} h p q e = text_is _ (text_line 0 h) (put_seq (put_seq p q) e)
 
 -- ---- inline quantities
 
-unit_bytes : {u : List ℕ} → Field u → tabbed (optional (some (content_in u)) ∷ []) ≡ (tab ∷ 61 ∷ []) ++ u
+unit_bytes : {u : List ℕ} → Field u → tabbed (optional (Some (content_in u)) ∷ []) ≡ (tab ∷ 61 ∷ []) ++ u
 unfolding optional escape escape_char
 unit_bytes {u} h = tabbed_one (61 ∷ encode (content_in u)) ∙ ap (λ (l : List ℕ). tab ∷ 61 ∷ l) (field_spell h)
 
@@ -110,9 +110,9 @@ module _ {a u : List ℕ} {o₀ o₁ o₂ o₃ o₄ o₅ o₆ o₇ : List ℕ} {
   unfolding inline_line quantity_as escape escape_char
   inline_put i h g p₁ p₂ p₃ p₄ p₅ p₆ p₇ =
       let q : Put (tabbed (encode (content_in a) ∷ [])) o₂ m₂ o₄ m₄ = text_is _ (tabbed_field h) (put_seq p₃ p₄) in
-      let s : Put (tabbed (optional (some (content_in u)) ∷ [])) o₄ m₄ o₆ m₆ = text_is _ (unit_bytes g) (put_seq p₅ p₆) in
-      put_line (codes "inline") (decimal i ∷ encode (content_in a) ∷ optional (some (content_in u)) ∷ []) p₁
-      (put_fields (decimal i ∷ []) (encode (content_in a) ∷ optional (some (content_in u)) ∷ []) p₂ (put_fields (encode (content_in a) ∷ []) (optional (some (content_in u)) ∷ []) q s))
+      let s : Put (tabbed (optional (Some (content_in u)) ∷ [])) o₄ m₄ o₆ m₆ = text_is _ (unit_bytes g) (put_seq p₅ p₆) in
+      put_line (codes "inline") (decimal i ∷ encode (content_in a) ∷ optional (Some (content_in u)) ∷ []) p₁
+      (put_fields (decimal i ∷ []) (encode (content_in a) ∷ optional (Some (content_in u)) ∷ []) p₂ (put_fields (encode (content_in a) ∷ []) (optional (Some (content_in u)) ∷ []) q s))
       p₇
 
 -- ---- timers
@@ -131,7 +131,7 @@ pub section_put : (f : List ℕ) {o₀ o₁ o₂ o₃ : List ℕ} {at m k r : �
 unfolding escape escape_char
 section_put f p q e = put_line (codes "section") (f ∷ []) p q e
 
-pub unnamed_put : {o₀ o : List ℕ} {at r : ℕ} → Put (codes "section" ++ (tab ∷ minus ∷ lf ∷ [])) o₀ at o r → Put (line_of (codes "section" ∷ optional none ∷ [])) o₀ at o r
+pub unnamed_put : {o₀ o : List ℕ} {at r : ℕ} → Put (codes "section" ++ (tab ∷ minus ∷ lf ∷ [])) o₀ at o r → Put (line_of (codes "section" ∷ optional None ∷ [])) o₀ at o r
 unfolding optional line_of join_by each escape escape_char
 unnamed_put p = p
 

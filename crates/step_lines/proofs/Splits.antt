@@ -21,10 +21,9 @@ use Rattle.content.specs.Parts.{Field}
 use Rattle.content.proofs.Spells.{field_spell}
 use Rattle.utf8.proofs.Firsts.{part_rest}
 use Rattle.inline.specs.Scans.{part}
-use Rattle.inline.specs.Found.{FoundAt, InlineAt}
+use Rattle.inline.specs.Found.{FoundAt}
 use Rattle.inline.specs.declared.Inline.{Inline}
-use Rattle.inline.specs.declared.Inline.TheVariants.{Found, Nothing}
-use Rattle.inline.proofs.Items.{Counting, counting_start, counting_end, counting_more, counting_less, counting_to, pieces_none, pieces_found, text_piece_lem, text_none, text_quantities}
+use Rattle.inline.proofs.Items.{Counting, counting_start, counting_end, counting_more, text_piece_lem, text_none, text_quantities}
 use Rattle.parts.specs.Views as views
 use Rattle.parts.specs.declared.Part.{Part}
 use Rattle.parts.specs.declared.TextView.{TextView}
@@ -87,22 +86,17 @@ pub split_start : {text : ℕ → List Piece → List ℕ} {us : List NamedUnit}
 split_start {text} {us} {s} {first = first} h =
     record { leads = turn (rw (add-zero first)) starts; most = omega arith; items = 0; counting = counting_start us s h }
 
-module _ {text : ℕ → List Piece → List ℕ} {us : List NamedUnit} {s : List ℕ} {first : ℕ} {o₀ o : List ℕ} {at n k : ℕ} {f : Inline} (i : Splitting text us s first o₀ o at n k) (q : InlineAt us s at f) where
-  pub split_less : {a b u v e : ℕ} → f ≡ Found a b u v e → at < e
-  split_less h = counting_less i.counting q h
-
-  pub split_to : {a b u v e : ℕ} → f ≡ Found a b u v e → e ≤ length s
-  split_to h = counting_to i.counting q h
-
-  more : {a b u v e : ℕ} {o' : List ℕ} {n' : ℕ} (w : List ℕ) → f ≡ Found a b u v e → text (first + k) (text_if_any (content.content_in (part at a s)) ++ (quantity_piece (content.content_in (part a b s)) (content.content_in (part u v s)) ∷ inline_pieces us (content.content_in (drop e s)))) ≡ w ++ text (suc (first + k)) (inline_pieces us (content.content_in (drop e s)))
-      → Put w o n o' n' → Splitting text us s first o₀ o' e n' (k + 1)
-  more {e = e} {o' = o'} w h z p =
+module _ {text : ℕ → List Piece → List ℕ} {us : List NamedUnit} {s : List ℕ} {first : ℕ} {o₀ o : List ℕ} {at n k : ℕ} {f : Inline} (i : Splitting text us s first o₀ o at n k) (q : FoundAt us s at f) where
+  more : {o' : List ℕ} {n' : ℕ} (w : List ℕ)
+      → text (first + k) (text_if_any (content.content_in (part at f.number_from s)) ++ (quantity_piece (content.content_in (part f.number_from f.number_to s)) (content.content_in (part f.unit_from f.unit_to s)) ∷ inline_pieces us (content.content_in (drop f.after s)))) ≡ w ++ text (suc (first + k)) (inline_pieces us (content.content_in (drop f.after s)))
+      → Put w o n o' n' → Splitting text us s first o₀ o' f.after n' (k + 1)
+  more {o' = o'} w z p =
       let l : first + (k + 1) ≡ suc (first + k) = omega arith in
       record {
-        leads = step _ (turn (ap (text (first + k)) (pieces_found q h) ∙ (z ∙ rw l)) i.leads) p;
+        leads = step _ (turn (ap (text (first + k)) q.is ∙ (z ∙ rw l)) i.leads) p;
         most = omega (arith, put_most p, keeps p);
         items = _;
-        counting = counting_more i.counting q h refl;
+        counting = counting_more i.counting q refl;
       }
 
 pub ends_most : {w o₀ o : List ℕ} {at n : ℕ} → Leads w o₀ at [] o n → n ≤ length o + 1 → Put w o₀ at o n
@@ -122,48 +116,32 @@ unfolding inline_text
 last_quantities n [] = unfold text_if_any quantities_of lines_from in refl
 last_quantities n (c ∷ x) = unfold text_if_any quantities_of lines_from in refl
 
-module _ {us : List NamedUnit} {s : List ℕ} {first : ℕ} {o₀ o : List ℕ} {at n k : ℕ} {f : Inline} where
-  pub items_next : {a b u v e : ℕ} {o₁ o₂ : List ℕ} {m n' : ℕ} → Splitting item_text us s first o₀ o at n k → InlineAt us s at f → f ≡ Found a b u v e → Put (text_text (part at a s)) o n o₁ m → Put (item_line 0 (item_as kind.Inline (first + k))) o₁ m o₂ n' → Splitting item_text us s first o₀ o₂ e n' (k + 1)
-  items_next {a = a} i q h p r = more i q _ h (items_split (first + k) (part at a s) _ _ _) (put_seq p r)
+module _ {us : List NamedUnit} {s : List ℕ} {first : ℕ} {o₀ o : List ℕ} {at n k : ℕ} where
+  module _ {f : Inline} where
+    pub items_next : {o₁ o₂ : List ℕ} {m n' : ℕ} → Splitting item_text us s first o₀ o at n k → FoundAt us s at f → Put (text_text (part at f.number_from s)) o n o₁ m → Put (item_line 0 (item_as kind.Inline (first + k))) o₁ m o₂ n' → Splitting item_text us s first o₀ o₂ f.after n' (k + 1)
+    items_next i q p r = more i q _ (items_split (first + k) (part at f.number_from s) _ _ _) (put_seq p r)
 
-  pub quantities_next : {a b u v e : ℕ} {o' : List ℕ} {n' : ℕ} → Splitting inline_text us s first o₀ o at n k → InlineAt us s at f → f ≡ Found a b u v e → Put (inline_line (first + k) (quantity_as (part a b s) (part u v s))) o n o' n' → Splitting inline_text us s first o₀ o' e n' (k + 1)
-  quantities_next {a} {b} {u} {v} i q h p = more i q _ h (inline_split (first + k) (content.content_in (part at a s)) (part a b s) (part u v s) _) p
+    pub quantities_next : {o' : List ℕ} {n' : ℕ} → Splitting inline_text us s first o₀ o at n k → FoundAt us s at f → Put (inline_line (first + k) (quantity_as (part f.number_from f.number_to s) (part f.unit_from f.unit_to s))) o n o' n' → Splitting inline_text us s first o₀ o' f.after n' (k + 1)
+    quantities_next i q p = more i q _ (inline_split (first + k) (content.content_in (part at f.number_from s)) (part f.number_from f.number_to s) (part f.unit_from f.unit_to s) _) p
 
-  pub items_end : {o' : List ℕ} {r : ℕ} → Splitting item_text us s first o₀ o at n k → InlineAt us s at f → f ≡ Nothing → Put (text_text (part at (length s) s)) o n o' r → TextLines item_text (inline_pieces us (content.content_in s)) first o₀ o' (record { count = r; inline = k })
-  items_end {o' = o'} i q h p =
-      record {
-        lines = ends_most (step [] (turn (ap (item_text (first + k)) (pieces_none q h) ∙ (last_text (first + k) (drop at s) ∙ ap (λ (l : List ℕ). text_text l ++ []) (sym (part_rest s at)))) i.leads) p) (omega (arith, put_most p, keeps p));
-        quantities = (counting_end i.counting q h refl).quantities;
-      }
+  -- the rest has no quantity
+  module _ (h : inline_pieces us (content.content_in (drop at s)) ≡ text_if_any (content.content_in (drop at s))) where
+    pub items_end : {o' : List ℕ} {r : ℕ} → Splitting item_text us s first o₀ o at n k → Put (text_text (part at (length s) s)) o n o' r → TextLines item_text (inline_pieces us (content.content_in s)) first o₀ o' (record { count = r; inline = k })
+    items_end {o' = o'} i p =
+        record {
+          lines = ends_most (step [] (turn (ap (item_text (first + k)) h ∙ (last_text (first + k) (drop at s) ∙ ap (λ (l : List ℕ). text_text l ++ []) (sym (part_rest s at)))) i.leads) p) (omega (arith, put_most p, keeps p));
+          quantities = (counting_end i.counting h refl).quantities;
+        }
 
-  pub quantities_end : Splitting inline_text us s first o₀ o at n k → InlineAt us s at f → f ≡ Nothing → TextLines inline_text (inline_pieces us (content.content_in s)) first o₀ o (record { count = n; inline = k })
-  quantities_end i q h =
-      record {
-        lines = ends_most (turn (ap (inline_text (first + k)) (pieces_none q h) ∙ last_quantities (first + k) (content.content_in (drop at s))) i.leads) i.most;
-        quantities = (counting_end i.counting q h refl).quantities;
-      }
+    pub quantities_end : Splitting inline_text us s first o₀ o at n k → TextLines inline_text (inline_pieces us (content.content_in s)) first o₀ o (record { count = n; inline = k })
+    quantities_end i =
+        record {
+          lines = ends_most (turn (ap (inline_text (first + k)) h ∙ last_quantities (first + k) (content.content_in (drop at s))) i.leads) i.most;
+          quantities = (counting_end i.counting h refl).quantities;
+        }
 
--- ---- the bounds of a turn
-
-module _ {text : ℕ → List Piece → List ℕ} {us : List NamedUnit} {s : List ℕ} {first : ℕ} {o₀ o : List ℕ} {at n k : ℕ} (i : Splitting text us s first o₀ o at n k) where
-  pub split_at : at ≤ length s
-  split_at = i.counting.to
-
-  pub split_left : Field (drop at s)
-  split_left = i.counting.left
-
-  pub split_few : k ≤ at
-  split_few = i.counting.fewer
-
-  pub split_rest : Field (part at (length s) s)
-  split_rest = rw (part_rest s at) i.counting.left
-
-module _ {us : List NamedUnit} {s : List ℕ} {at : ℕ} {f : Inline} {a b u v e : ℕ} (q : InlineAt us s at f) (h : f ≡ Found a b u v e) where
-  pub found_at : FoundAt s at a b u v e
-  found_at = q.found a b u v e h
-
-  pub found_room : a ≤ length s
-  found_room = omega (arith, found_at.number, found_at.gap, found_at.unit, found_at.rest, found_at.end)
+pub split_rest : {text : ℕ → List Piece → List ℕ} {us : List NamedUnit} {s : List ℕ} {first : ℕ} {o₀ o : List ℕ} {at n k : ℕ} → Splitting text us s first o₀ o at n k → Field (part at (length s) s)
+split_rest {s = s} {at = at} i = rw (part_rest s at) i.counting.left
 
 -- ---- the text of a view
 

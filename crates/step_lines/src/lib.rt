@@ -2,8 +2,7 @@
 // and returns how many bytes it wrote, or one more than there is room for.
 #![tactic(auto)]
 
-ghost use Rattle.std.specs.Prelude.{◌≡◌, true, [], ◌∷◌, ◌++◌, ◌+◌, ◌^◌, ◌<◌, length};
-ghost use Rattle.std.proofs.Math.Option.{none};
+ghost use Rattle.std.specs.Prelude.{◌≡◌, true, [], ◌∷◌, ◌++◌, ◌+◌, ◌^◌, ◌<◌, length, None};
 ghost use Rattle.rules.specs.Basic.{codes, tab, lf, decimal, on_some};
 ghost use Rattle.rules.specs.Utf8.{is_utf8};
 ghost use Rattle.rules.specs.Sheet.{line_of};
@@ -23,7 +22,7 @@ ghost use Rattle.parts.specs.Views.{text_in, span_in, opt_text_in, opt_quantity_
 ghost use Rattle.known_events.specs.Fields.{TextField, OptTextField, OptQuantityFields};
 ghost use Rattle.step_lines.specs.Lines.{kind_word, item_as, PutItem, quantity_as, TextLines, item_text, inline_text, text_text};
 
-use parts::{OptQuantity, OptText, Span, TextView};
+use parts::{QuantityView, Span, TextView};
 
 // What an item refers to by its index.
 #[derive(Clone, Copy)]
@@ -111,29 +110,16 @@ fn split_items(
     let mut n = 0;
     let mut quantities = 0;
     let mut at = 0;
-    loop {
-        let f = inline::find_inline_quantity(t, units, index, s, at);
-        match f {
-            inline::Inline::Nothing => {
-                let count = put_text(rest, n, &s[at..]);
-                return TextItems {
-                    count,
-                    inline: quantities,
-                };
-            }
-            inline::Inline::Found {
-                number_from,
-                number_to: _,
-                unit_from: _,
-                unit_to: _,
-                after,
-            } => {
-                let m = put_text(rest, n, &s[at..number_from]);
-                n = put_item(rest, m, ItemKind::Inline, first + quantities);
-                quantities += 1;
-                at = after;
-            }
-        }
+    while let Some(q) = inline::find_inline_quantity(t, units, index, s, at) {
+        let m = put_text(rest, n, &s[at..q.number_from]);
+        n = put_item(rest, m, ItemKind::Inline, first + quantities);
+        quantities += 1;
+        at = q.after;
+    }
+    let count = put_text(rest, n, &s[at..]);
+    TextItems {
+        count,
+        inline: quantities,
     }
 }
 
@@ -199,34 +185,20 @@ fn split_quantities(
     let mut count = 0;
     let mut quantities = 0;
     let mut at = 0;
-    loop {
-        let f = inline::find_inline_quantity(t, units, index, s, at);
-        match f {
-            inline::Inline::Nothing => {
-                return TextItems {
-                    count,
-                    inline: quantities,
-                };
-            }
-            inline::Inline::Found {
-                number_from,
-                number_to,
-                unit_from,
-                unit_to,
-                after,
-            } => {
-                let nth = first + quantities;
-                count = put_inline(
-                    rest,
-                    count,
-                    nth,
-                    &s[number_from..number_to],
-                    &s[unit_from..unit_to],
-                );
-                quantities += 1;
-                at = after;
-            }
-        }
+    while let Some(q) = inline::find_inline_quantity(t, units, index, s, at) {
+        count = put_inline(
+            rest,
+            count,
+            first + quantities,
+            &s[q.number_from..q.number_to],
+            &s[q.unit_from..q.unit_to],
+        );
+        quantities += 1;
+        at = q.after;
+    }
+    TextItems {
+        count,
+        inline: quantities,
     }
 }
 
@@ -256,7 +228,7 @@ pub fn inline_lines(
 }
 
 // The first line of a section with an optional name.
-pub fn section_line(t: &[u32], rest: &mut [u8], line: &[u8], name: OptText) -> usize
+pub fn section_line(t: &[u32], rest: &mut [u8], line: &[u8], name: Option<TextView>) -> usize
     requires { (t.now ≡ unicode_tables) × OptTextField line.now name }
     ensures { Put (line_of (codes "section" ∷ optional (on_some trimmed_text (opt_text_in line.now name)) ∷ [])) rest.old 0 rest.new result }
 {
@@ -266,7 +238,7 @@ pub fn section_line(t: &[u32], rest: &mut [u8], line: &[u8], name: OptText) -> u
 }
 
 pub fn unnamed_section_line(rest: &mut [u8]) -> usize
-    ensures { Put (line_of (codes "section" ∷ optional none ∷ [])) rest.old 0 rest.new result }
+    ensures { Put (line_of (codes "section" ∷ optional None ∷ [])) rest.old 0 rest.new result }
 {
     output::put_bytes(rest, 0, b"section\t-\n")
 }
@@ -276,8 +248,8 @@ pub fn timer_line(
     rest: &mut [u8],
     line: &[u8],
     index: u32,
-    name: OptText,
-    quantity: OptQuantity,
+    name: Option<TextView>,
+    quantity: Option<QuantityView>,
 ) -> usize
     requires { (t.now ≡ unicode_tables) × OptTextField line.now name × OptQuantityFields line.now quantity }
     ensures { Put (timer_line index (timer_of (opt_text_in line.now name) (opt_quantity_in line.now quantity))) rest.old 0 rest.new result }

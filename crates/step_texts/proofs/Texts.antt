@@ -27,7 +27,7 @@ use Rattle.parts.specs.declared.TextView.{TextView}
 use Rattle.parts.proofs.Contents.{content_of_lem}
 use Rattle.model.specs.Blank.{blank, blank_place, blank_kept, blank_tables, blank_inline}
 use Rattle.model.specs.Rows.{finding_of}
-use Rattle.model.specs.Memory.{define_of, state_of, state_in, Sound}
+use Rattle.model.specs.Memory.{state_of, state_in, Sound}
 use Rattle.model.specs.Small.{with_inline}
 use Rattle.model.specs.declared.Noted.{Noted}
 use Rattle.model.specs.declared.Held.{Held}
@@ -38,6 +38,7 @@ use Rattle.blocks.specs.Lined.{ItemsPushed}
 use Rattle.blocks.proofs.Lines.{components_of, found_one, found_at, went_none}
 use Rattle.blocks.proofs.Fitting.{items_fit, items_sound}
 use Rattle.step_texts.specs.Texts.{PiecesPushed, TextDone}
+use Rattle.sheet.specs.Words.{define_of}
 
 -- ---- pieces
 

@@ -3,16 +3,14 @@ use Prim.Native.Nat.{ℕ, zero, suc, ◌+◌, ◌-◌, ◌*◌, ◌≤◌, ◌<�
 use mathlib.Core.Path.{◌≡◌, refl}
 use mathlib.Core.Bool.{and-false}
 use mathlib.Core.List.{List}
-use mathlib.Core.Option.{Option, none, some}
+use Rattle.std.specs.Prelude.{Option, None, Some}
 use native.Mathlib.Numerals.{add-one}
 use native.Mathlib.Omega.{arith}
 use borrow.Author.Tests.{eq-eqb, ne_eqb, le-leb, lt-leb, lt-ltb, le-ltb}
 use lib.ListN.{length, get_or, drop, drop_of_length-le}
 use lib.Seq.{drop-cons}
 use Rattle.stored_cases.specs.declared.Number.{Number}
-use Rattle.stored_cases.specs.declared.Read.{Read}
-use Rattle.stored_cases.specs.declared.Read.TheVariants.{At, Ill}
-use Rattle.stored_cases.specs.Cases.{number_from, number_at, read_as}
+use Rattle.stored_cases.specs.Cases.{number_from, number_at}
 
 -- ---- so many digits make a number below a power of ten
 unfoldable pub ten_to : ℕ → ℕ
@@ -41,46 +39,35 @@ nine_digits (suc (suc (suc (suc (suc (suc (suc (suc zero)))))))) n h l = omega a
 nine_digits (suc (suc (suc (suc (suc (suc (suc (suc (suc k))))))))) n h l = absurd (omega arith)
 
 -- ---- one turn
-pub number_starts : (s : List ℕ) (at end : ℕ) → read_as (number_from end 0 0 at (drop at s)) ≡ read_as (number_at s at end)
+pub number_starts : (s : List ℕ) (at end : ℕ) → number_from end 0 0 at (drop at s) ≡ number_at s at end
 unfolding number_at
 number_starts s at end = refl
 
-module _ (end : ℕ) (s : List ℕ) (n count i : ℕ) {r : Read} (e : read_as (number_from end n count i (drop i s)) ≡ r) where
-  pub file_ends : length s ≤ i → Ill ≡ r
-  unfolding number_from read_as
+module _ (end : ℕ) (s : List ℕ) (n count i : ℕ) {r : Option Number} (e : number_from end n count i (drop i s) ≡ r) where
+  pub file_ends : length s ≤ i → None ≡ r
+  unfolding number_from
   file_ends h = simp (drop_of_length-le s h) at e
 
-  pub no_digit : i < length s → get_or s i 0 ≡ end → count ≡ 0 → Ill ≡ r
-  unfolding number_from read_as
+  pub no_digit : i < length s → get_or s i 0 ≡ end → count ≡ 0 → None ≡ r
+  unfolding number_from
   no_digit h p q = simp (drop-cons s i 0 h, eq-eqb (get_or s i 0) end p, eq-eqb count 0 q) at e
 
-  pub number_ends : i < length s → get_or s i 0 ≡ end → (count ≡ 0 → ⊥) → At (record { value = n; next = i + 1 }) ≡ r
-  unfolding number_from read_as
+  pub number_ends : i < length s → get_or s i 0 ≡ end → (count ≡ 0 → ⊥) → Some (record { value = n; next = i + 1 }) ≡ r
+  unfolding number_from
   number_ends h p q = simp (drop-cons s i 0 h, eq-eqb (get_or s i 0) end p, ne_eqb count 0 q) at e
 
-  pub byte_below : i < length s → (get_or s i 0 ≡ end → ⊥) → get_or s i 0 < 48 → Ill ≡ r
-  unfolding number_from read_as
+  pub byte_below : i < length s → (get_or s i 0 ≡ end → ⊥) → get_or s i 0 < 48 → None ≡ r
+  unfolding number_from
   byte_below h p q = simp (drop-cons s i 0 h, ne_eqb (get_or s i 0) end p, lt-leb 48 (get_or s i 0) q) at e
 
-  pub byte_above : i < length s → (get_or s i 0 ≡ end → ⊥) → 57 < get_or s i 0 → Ill ≡ r
-  unfolding number_from read_as
+  pub byte_above : i < length s → (get_or s i 0 ≡ end → ⊥) → 57 < get_or s i 0 → None ≡ r
+  unfolding number_from
   byte_above h p q = simp (drop-cons s i 0 h, ne_eqb (get_or s i 0) end p, lt-leb (get_or s i 0) 57 q, and-false) at e
 
-  pub tenth_digit : i < length s → (get_or s i 0 ≡ end → ⊥) → 9 ≤ count → Ill ≡ r
-  unfolding number_from read_as
+  pub tenth_digit : i < length s → (get_or s i 0 ≡ end → ⊥) → 9 ≤ count → None ≡ r
+  unfolding number_from
   tenth_digit h p q = simp (drop-cons s i 0 h, ne_eqb (get_or s i 0) end p, le-ltb count 9 q, and-false) at e
 
-  pub digit : i < length s → (get_or s i 0 ≡ end → ⊥) → 48 ≤ get_or s i 0 → get_or s i 0 ≤ 57 → count < 9 → {b : ℕ} → b ≡ get_or s i 0 → read_as (number_from end (n * 10 + (b - 48)) (count + 1) (i + 1) (drop (i + 1) s)) ≡ r
+  pub digit : i < length s → (get_or s i 0 ≡ end → ⊥) → 48 ≤ get_or s i 0 → get_or s i 0 ≤ 57 → count < 9 → {b : ℕ} → b ≡ get_or s i 0 → number_from end (n * 10 + (b - 48)) (count + 1) (i + 1) (drop (i + 1) s) ≡ r
   unfolding number_from
   digit h p l u q w = rw w (simp add-one (simp (drop-cons s i 0 h, ne_eqb (get_or s i 0) end p, le-leb 48 (get_or s i 0) l, le-leb (get_or s i 0) 57 u, lt-ltb count 9 q, add-one) at e))
-
--- ---- what a number that was told says of the option behind it
-pub told_ill : (o : Option Number) {a : Read} → a ≡ read_as o → a ≡ Ill → o ≡ none
-unfolding read_as
-told_ill none p e = refl
-told_ill (some n) p e = absurd (let z : ◌≡◌ {A = ℕ} 0 1 = cc in omega arith)
-
-pub told_at : (o : Option Number) {a : Read} {n : Number} → a ≡ read_as o → a ≡ At n → o ≡ some n
-unfolding read_as
-told_at none p e = absurd (let z : ◌≡◌ {A = ℕ} 0 1 = cc in omega arith)
-told_at (some m) p e = cc

@@ -1,13 +1,9 @@
 -- What stands in a file of stored cases (crates/replay/data/README.md).
-use Rattle.std.specs.Prelude.{ℕ, ◌+◌, ◌-◌, ◌*◌, Bool, ◌&&◌, List, [], ◌∷◌, eqb, leb, ltb, length, get_or, take, drop}
-use Rattle.std.proofs.Math.Option.{Option, none, some, bind}
+use Rattle.std.specs.Prelude.{ℕ, ◌+◌, ◌-◌, ◌*◌, Bool, ◌&&◌, List, [], ◌∷◌, eqb, leb, ltb, length, get_or, take, drop, Option, None, Some}
+use Rattle.std.specs.Option.{option_and_then}
 use Rattle.rules.specs.Basic.{pick, codes, blank, lf, is_digit, eq_list}
 use Rattle.stored_cases.specs.declared.Number.{Number}
-use Rattle.stored_cases.specs.declared.Read.{Read}
-use Rattle.stored_cases.specs.declared.Read.TheVariants as read
 use Rattle.stored_cases.specs.declared.Case.{Case}
-use Rattle.stored_cases.specs.declared.Stored.{Stored}
-use Rattle.stored_cases.specs.declared.Stored.TheVariants as stored
 
 -- ---- places
 
@@ -27,19 +23,15 @@ starts_with s word = eq_list (part_of s 0 (length word)) word
 module _ (end : ℕ) where
   -- the number that goes on with the bytes s at a place, after `count` digits that make n
   unfoldable pub number_from : ℕ → ℕ → ℕ → List ℕ → Option Number
-  number_from n count at [] = none
+  number_from n count at [] = None
   number_from n count at (b ∷ s) =
       pick
       (eqb b end)
-      (pick (eqb count 0) none (some (record { value = n; next = at + 1 })))
-      (pick (is_digit b && ltb count 9) (number_from (n * 10 + (b - 48)) (count + 1) (at + 1) s) none)
+      (pick (eqb count 0) None (Some (record { value = n; next = at + 1 })))
+      (pick (is_digit b && ltb count 9) (number_from (n * 10 + (b - 48)) (count + 1) (at + 1) s) None)
 
 unfoldable pub number_at : List ℕ → ℕ → ℕ → Option Number
 number_at s at end = number_from end 0 0 at (drop at s)
-
-unfoldable pub read_as : Option Number → Read
-read_as none = read.Ill
-read_as (some n) = read.At n
 
 -- ---- cases
 
@@ -65,28 +57,27 @@ laid_out s room name sheet text units flags collect plain =
       end = g;
     }
 
+-- what f makes of what o holds, if it holds something
+abbrev pub given : {A B : Type 0} → Option A → (A → Option B) → Option B
+given o f = option_and_then f o
+
 -- the case whose eight numbers start at a place
 unfoldable pub parts_at : List ℕ → ℕ → Option Case
 parts_at s at =
-    bind (number_at s at blank) (λ room.
-    bind (number_at s room.next blank) (λ name.
-    bind (number_at s name.next blank) (λ sheet.
-    bind (number_at s sheet.next blank) (λ text.
-    bind (number_at s text.next blank) (λ units.
-    bind (number_at s units.next blank) (λ flags.
-    bind (number_at s flags.next blank) (λ collect.
-    bind (number_at s collect.next lf) (λ plain.
-    some (laid_out s room name sheet text units flags collect plain)))))))))
+    given (number_at s at blank) (λ room.
+    given (number_at s room.next blank) (λ name.
+    given (number_at s name.next blank) (λ sheet.
+    given (number_at s sheet.next blank) (λ text.
+    given (number_at s text.next blank) (λ units.
+    given (number_at s units.next blank) (λ flags.
+    given (number_at s flags.next blank) (λ collect.
+    given (number_at s collect.next lf) (λ plain.
+    Some (laid_out s room name sheet text units flags collect plain)))))))))
 
 -- a case is ended by an LF within the file, so all its parts are within it
-unfoldable pub ended : List ℕ → Option Case → Option Case
-ended s none = none
-ended s (some c) = pick (eqb (get_or s c.end 0) lf) (some c) none
+unfoldable pub ended : List ℕ → Case → Option Case
+ended s c = pick (eqb (get_or s c.end 0) lf) (Some c) None
 
 -- the case whose first line starts at a place; none where that is not as the format says
 unfoldable pub case_at : List ℕ → ℕ → Option Case
-case_at s at = pick (starts_with (part_of s at (length s)) (codes "case ")) (ended s (parts_at s (after_of s at 5))) none
-
-unfoldable pub stored_as : Option Case → Stored
-stored_as none = stored.Ill
-stored_as (some c) = stored.At c
+case_at s at = pick (starts_with (part_of s at (length s)) (codes "case ")) (given (parts_at s (after_of s at 5)) (ended s)) None

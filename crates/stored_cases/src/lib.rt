@@ -4,7 +4,7 @@
 
 ghost use Rattle.std.specs.Prelude.{◌≡◌, length, get_or, replicate};
 ghost use Rattle.std.specs.Io.{ReadsAtMost};
-ghost use Rattle.stored_cases.specs.Cases.{part_of, after_of, starts_with, number_at, read_as, laid_out, parts_at, case_at, stored_as};
+ghost use Rattle.stored_cases.specs.Cases.{part_of, after_of, starts_with, number_at, laid_out, parts_at, case_at};
 
 use std::rt::Files;
 use std::{fs, io};
@@ -14,13 +14,6 @@ use std::{fs, io};
 struct Number {
     value: u32,
     next: usize,
-}
-
-#[derive(Clone, Copy)]
-enum Read {
-    At(Number),
-    // Not as the format says.
-    Ill,
 }
 
 // How many bytes of output are lent, and where the parts of a case start in its file; each ends where the next starts.
@@ -35,13 +28,6 @@ pub struct Case {
     pub collect: usize,
     pub plain: usize,
     pub end: usize,
-}
-
-#[derive(Clone, Copy)]
-pub enum Stored {
-    At(Case),
-    // Not as the format says.
-    Ill,
 }
 
 fn wide(b: u8) -> u32
@@ -67,8 +53,8 @@ fn byte(s: &[u8], at: usize) -> u8
 }
 
 // The decimal number at a place: one to nine digits, and then this byte.
-fn read_number(s: &[u8], at: usize, end: u8) -> Read
-    ensures { result ≡ read_as (number_at s.now at end) }
+fn read_number(s: &[u8], at: usize, end: u8) -> Option<Number>
+    ensures { result ≡ number_at s.now at end }
 {
     let mut n: u32 = 0;
     let mut count: u32 = 0;
@@ -77,27 +63,27 @@ fn read_number(s: &[u8], at: usize, end: u8) -> Read
         let b = s[i];
         if b == end {
             if count == 0 {
-                return Read::Ill;
+                return None;
             }
-            return Read::At(Number {
+            return Some(Number {
                 value: n,
                 next: i + 1,
             });
         }
         if b < b'0' {
-            return Read::Ill;
+            return None;
         }
         if b'9' < b {
-            return Read::Ill;
+            return None;
         }
         if 9 <= count {
-            return Read::Ill;
+            return None;
         }
         n = n * 10 + (wide(b) - 48);
         count += 1;
         i += 1;
     }
-    Read::Ill
+    None
 }
 
 // So many bytes on from a place, or the end.
@@ -168,51 +154,33 @@ fn laid_out(
 }
 
 // The case whose eight numbers start at a place.
-fn parts_at(s: &[u8], at: usize) -> Stored
-    ensures { result ≡ stored_as (parts_at s.now at) }
+fn parts_at(s: &[u8], at: usize) -> Option<Case>
+    ensures { result ≡ parts_at s.now at }
 {
-    let Read::At(room) = read_number(s, at, b' ') else {
-        return Stored::Ill;
-    };
-    let Read::At(name) = read_number(s, room.next, b' ') else {
-        return Stored::Ill;
-    };
-    let Read::At(sheet) = read_number(s, name.next, b' ') else {
-        return Stored::Ill;
-    };
-    let Read::At(text) = read_number(s, sheet.next, b' ') else {
-        return Stored::Ill;
-    };
-    let Read::At(units) = read_number(s, text.next, b' ') else {
-        return Stored::Ill;
-    };
-    let Read::At(flags) = read_number(s, units.next, b' ') else {
-        return Stored::Ill;
-    };
-    let Read::At(collect) = read_number(s, flags.next, b' ') else {
-        return Stored::Ill;
-    };
-    let Read::At(plain) = read_number(s, collect.next, b'\n') else {
-        return Stored::Ill;
-    };
+    let room = read_number(s, at, b' ')?;
+    let name = read_number(s, room.next, b' ')?;
+    let sheet = read_number(s, name.next, b' ')?;
+    let text = read_number(s, sheet.next, b' ')?;
+    let units = read_number(s, text.next, b' ')?;
+    let flags = read_number(s, units.next, b' ')?;
+    let collect = read_number(s, flags.next, b' ')?;
+    let plain = read_number(s, collect.next, b'\n')?;
     let c = laid_out(s, room, name, sheet, text, units, flags, collect, plain);
-    Stored::At(c)
+    Some(c)
 }
 
 // The case whose first line starts at a place; an LF ends it, and the next starts after that.
-pub fn case_at(s: &[u8], at: usize) -> Stored
-    ensures { result ≡ stored_as (case_at s.now at) }
+pub fn case_at(s: &[u8], at: usize) -> Option<Case>
+    ensures { result ≡ case_at s.now at }
 {
     if !starts(part(s, at, s.len()), b"case ") {
-        return Stored::Ill;
+        return None;
     }
-    let Stored::At(c) = parts_at(s, after(s, at, 5)) else {
-        return Stored::Ill;
-    };
+    let c = parts_at(s, after(s, at, 5))?;
     if byte(s, c.end) != b'\n' {
-        return Stored::Ill;
+        return None;
     }
-    Stored::At(c)
+    Some(c)
 }
 
 // Where the case after this one starts.

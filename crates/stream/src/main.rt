@@ -9,7 +9,7 @@ ghost use Rattle.std.specs.Prelude.{◌≡◌, ◌≤◌, length};
 ghost use Rattle.letters.specs.Tables.{unicode_tables};
 
 use std::io;
-use text::Step;
+use text::Cursor;
 
 #[derive(Clone, Copy)]
 struct Counts {
@@ -30,12 +30,6 @@ fn one(yes: bool) -> u64
     ensures { result ≤ 1 }
 {
     if yes { 1 } else { 0 }
-}
-
-fn wide(n: usize) -> u64
-    ensures { result ≡ n }
-{
-    n as u64
 }
 
 fn count(t: &[u32], s: &[u8]) -> Counts
@@ -77,10 +71,10 @@ fn folded(t: &[u32], s: &[u8]) -> Sum
     loop {
         let p = text::next_folded(t, s, c);
         match p {
-            Step::End => {
+            None => {
                 return sum;
             }
-            Step::Code(x, k) => {
+            Some((x, k)) => {
                 sum = and(sum, x);
                 c = k;
             }
@@ -102,8 +96,8 @@ fn show_counts(rt: &impl Print, n: Counts) -> io::Result<()> {
 
 fn show_place(rt: &impl Print, line: &[u8]) -> io::Result<()> {
     let p = content::name_place(line);
-    put(rt, wide(p.end), b"\t")?;
-    put(rt, wide(p.start), b"\t")
+    put(rt, p.end as u64, b"\t")?;
+    put(rt, p.start as u64, b"\t")
 }
 
 fn show_same(rt: &impl Print, t: &[u32], before: &[u8], line: &[u8]) -> io::Result<()>
@@ -130,9 +124,9 @@ fn show_trimmed(rt: &impl Print, t: &[u32], line: &[u8], work: &mut [u8]) -> io:
     requires { t.now ≡ unicode_tables }
 {
     let r = text::text_outer_trimmed(t, line);
-    put(rt, wide(r.len()), b"\t")?;
+    put(rt, r.len() as u64, b"\t")?;
     let n = text::put_text_trimmed(t, work, 0, line);
-    put(rt, wide(n), b"\t")
+    put(rt, n as u64, b"\t")
 }
 
 fn show_line(

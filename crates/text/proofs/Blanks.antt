@@ -3,7 +3,7 @@ use Prim.Native.Nat.{ℕ, suc, ◌-◌, ◌≤◌, ◌<◌, ◌+◌}
 use mathlib.Core.Path.{◌≡◌, refl, sym, ap, ◌∙◌}
 use mathlib.Core.Bool.{Bool, true, false}
 use mathlib.Core.List.{List, [], ◌∷◌, ◌++◌, append-nil, append_assoc}
-use mathlib.Core.Option.{none}
+use Rattle.std.specs.Prelude.{None}
 use native.Mathlib.Omega.{arith}
 use lib.ListN.{length, get_or, take, drop, drop_of_length-le}
 use lib.Seq.{drop-cons, get_or-drop}
@@ -29,7 +29,7 @@ blanks_starts : {q : List ℕ} → Blanks q → later (get_or q 0 0) ≡ false
 blanks_starts no_blanks = later_ascii 0 (omega arith)
 blanks_starts (more_blanks b) = later_ascii 32 (omega arith)
 
-blanks_apart : {q : List ℕ} → Blanks q → escaped (get_or q 0 0) ≡ none
+blanks_apart : {q : List ℕ} → Blanks q → escaped (get_or q 0 0) ≡ None
 unfolding escaped
 blanks_apart no_blanks = refl
 blanks_apart (more_blanks b) = refl

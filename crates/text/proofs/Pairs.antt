@@ -248,7 +248,7 @@ module _ (a : List ℕ) (i : ℕ) (b : List ℕ) (j : ℕ) {x y : Char} (p : Kep
 -- ---- characters that take as many bytes in both names
 
 eq_front : (zs xs ys : List ℕ) → eq_list (zs ++ xs) (zs ++ ys) ≡ eq_list xs ys
-eq_front [] xs ys = refl
+eq_front [] _ _ = refl
 eq_front (z ∷ zs) xs ys = eq_tails z (zs ++ xs) (zs ++ ys) ∙ eq_front zs xs ys
 
 same_front : (a b : List ℕ) (k : ℕ) (zs : List ℕ) → k ≤ length a → k ≤ length b → fold_from a 0 ≡ zs ++ fold_from a k → fold_from b 0 ≡ zs ++ fold_from b k → Seam a b k

@@ -3,7 +3,7 @@ use Prim.Native.Nat.{ℕ, zero, suc, pred, ◌+◌, ◌-◌, ◌≤◌, ◌<◌}
 use mathlib.Core.Path.{◌≡◌, refl, sym, ap, ◌∙◌}
 use mathlib.Core.Bool.{true, false}
 use mathlib.Core.List.{List, [], ◌∷◌, ◌++◌, append-nil, append_assoc}
-use mathlib.Core.Option.{Option, none, some}
+use Rattle.std.specs.Prelude.{Option, None, Some}
 use native.Mathlib.Omega.{arith}
 use lib.ListN.{length, get_or, take, drop, length-drop, take-append-drop}
 use lib.Seq.{get_or-drop, take-take, take-add, drop-drop, drop_at, length-take-le}
@@ -44,24 +44,24 @@ unfolding char_of
 wide_over a s k h l n = go (first_of a s) refl l
   where
     go : (o : Option ℕ) → first_of a s ≡ o → k < suc (followers a o) → ⊥
-    go none e l = unfold followers in absurd (omega arith)
-    go (some c) e l = unfold followers in no_truth (sym n ∙ wide_inside k (begins a s c e) h (omega arith))
+    go None e l = unfold followers in absurd (omega arith)
+    go (Some c) e l = unfold followers in no_truth (sym n ∙ wide_inside k (begins a s c e) h (omega arith))
 
-pair_over : (s : List ℕ) (k : ℕ) → 0 < k → k < (char_in (92 ∷ s)).size → (get_or (92 ∷ s) (k - 1) 0 ≡ 92 → escaped (get_or (92 ∷ s) k 0) ≡ none) → ⊥
+pair_over : (s : List ℕ) (k : ℕ) → 0 < k → k < (char_in (92 ∷ s)).size → (get_or (92 ∷ s) (k - 1) 0 ≡ 92 → escaped (get_or (92 ∷ s) k 0) ≡ None) → ⊥
 pair_over [] k h l f = let m : k < 1 = rw char_last at l in absurd (omega arith)
 pair_over (d ∷ s) k h l f = unfold char_in in go (escaped d) refl l
   where
     go : (o : Option ℕ) → escaped d ≡ o → k < (pair_in o).size → ⊥
-    go none e l = unfold pair_in in absurd (omega arith)
-    go (some x) e l =
+    go None e l = unfold pair_in in absurd (omega arith)
+    go (Some x) e l =
         unfold pair_in in (let z : k ≡ 1 = omega arith in
-        let g : escaped d ≡ none = (rw z at f) refl in
+        let g : escaped d ≡ None = (rw z at f) refl in
         no_some (sym g ∙ e))
 
 not_over : (t : List ℕ) (k : ℕ) → 0 < k → CharStarts t k → (char_in t).size ≤ k
 not_over t k h c = by_order (char_in t).size k (λ l. l) (λ l. absurd (go t l (c.starts h) (c.apart h)))
   where
-    go : (t : List ℕ) → k < (char_in t).size → later (get_or t k 0) ≡ false → (get_or t (k - 1) 0 ≡ 92 → escaped (get_or t k 0) ≡ none) → ⊥
+    go : (t : List ℕ) → k < (char_in t).size → later (get_or t k 0) ≡ false → (get_or t (k - 1) 0 ≡ 92 → escaped (get_or t k 0) ≡ None) → ⊥
     go [] l n f = unfold char_in char_of in absurd (omega arith)
     go (a ∷ s) l n f = by_backslash a (λ e. pair_over s k h (rw e at l) (rw e at f)) (λ m. wide_over a s k h (rw (char_plain a s m) at l) n)
 

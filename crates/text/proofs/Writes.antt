@@ -4,7 +4,7 @@ use mathlib.Core.Path.{◌≡◌, ap, ◌∙◌}
 use mathlib.Core.Bool.{Bool, true, false, ◌&&◌, not}
 use mathlib.Core.List.{List, [], ◌∷◌, ◌++◌}
 use native.Mathlib.Numerals.{add-one}
-use borrow.Author.Tests.{eq-eqb, ne_eqb, not-true, not-false}
+use borrow.Author.Tests.{not-true, not-false}
 use lib.Dec.{eqb}
 use lib.ListN.{length, get_or, drop, drop_of_length-le}
 use lib.Seq.{drop-cons}
@@ -17,12 +17,6 @@ use Rattle.content.proofs.Retains.{field_retain, kept_trimmed}
 use Rattle.text.specs.Trims.{TrimmedTo, PutTrimmed}
 
 -- ---- the loop
-pub goes_blank : (b prev : ℕ) → b ≡ 32 → eqb prev 32 ≡ (eqb b blank && eqb prev blank)
-goes_blank b prev e = rw (eq-eqb b 32 e)
-
-pub goes_other : (b prev : ℕ) → (b ≡ 32 → ⊥) → false ≡ (eqb b blank && eqb prev blank)
-goes_other b prev n = rw (ne_eqb b 32 n)
-
 module _ (w : List ℕ) (i prev b : ℕ) (gone : Bool) (h : i < length w) (eb : b ≡ get_or w i 0) (eg : gone ≡ (eqb b blank && eqb prev blank)) where
   retain_next : retain prev (drop i w) ≡ pick gone (retain b (drop (i + 1) w)) (b ∷ retain b (drop (i + 1) w))
   unfolding retain

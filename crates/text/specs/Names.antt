@@ -1,5 +1,5 @@
 -- What a cursor in a name has yet to give.
-use Rattle.std.specs.Prelude.{ℕ, List, [], ◌∷◌, ◌++◌, drop}
+use Rattle.std.specs.Prelude.{ℕ, List, [], ◌∷◌, ◌++◌, drop, None, Option, Some}
 use Rattle.rules.specs.Unicode.{fold_name}
 use Rattle.content.specs.Contents.{kept_in}
 use Rattle.letters.specs.declared.Folded.{Folded}
@@ -7,8 +7,6 @@ use Rattle.letters.specs.declared.Folded.TheVariants as folded
 use Rattle.text.specs.declared.Pending.{Pending}
 use Rattle.text.specs.declared.Pending.TheVariants.{Nothing, One, Two}
 use Rattle.text.specs.declared.Cursor.{Cursor}
-use Rattle.text.specs.declared.Step.{Step}
-use Rattle.text.specs.declared.Step.TheVariants.{Code, End}
 
 unfoldable pub pending_of : Pending → List ℕ
 pending_of Nothing = []
@@ -24,16 +22,16 @@ unfoldable pub rest : List ℕ → Cursor → List ℕ
 rest s c = pending_of c.pending ++ fold_from s c.at
 
 -- what a step has given, and what is left after it
-unfoldable pub told : List ℕ → Step → List ℕ
-told s End = []
-told s (Code x c) = x ∷ rest s c
+unfoldable pub told : List ℕ → Option (ℕ × Cursor) → List ℕ
+told s None = []
+told s (Some (x, c)) = x ∷ rest s c
 
 -- the cursor at the front of a text
 abbrev pub start_cursor : Cursor
 start_cursor = record { at = 0; pending = Nothing }
 
 -- the step that gives the first code point of a folding and goes on with the others, then at a place
-unfoldable pub step_of : Folded → ℕ → Step
-step_of (folded.One a) at = Code a (record { at = at; pending = Nothing })
-step_of (folded.Two a b) at = Code a (record { at = at; pending = One b })
-step_of (folded.Three a b c) at = Code a (record { at = at; pending = Two b c })
+unfoldable pub step_of : Folded → ℕ → Option (ℕ × Cursor)
+step_of (folded.One a) at = Some (a, (record { at = at; pending = Nothing }))
+step_of (folded.Two a b) at = Some (a, (record { at = at; pending = One b }))
+step_of (folded.Three a b c) at = Some (a, (record { at = at; pending = Two b c }))

@@ -1,6 +1,5 @@
 -- What the trimmings of fields give.
-use Rattle.std.specs.Prelude.{ℕ, ◌-◌, ◌≤◌, ◌<◌, ◌≡◌, Bool, true, false, List, [], ◌∷◌, ◌++◌, length, get_or, take, drop}
-use Rattle.std.proofs.Math.Option.{none}
+use Rattle.std.specs.Prelude.{ℕ, ◌-◌, ◌≤◌, ◌<◌, ◌≡◌, Bool, true, false, List, [], ◌∷◌, ◌++◌, length, get_or, take, drop, None}
 use Rattle.rules.specs.Basic.{backslash}
 use Rattle.rules.specs.Sheet.{escaped}
 use Rattle.rules.specs.Text.{trim_start, trim_end, text_outer_trimmed, retain, text_trimmed, is_not_alphabetic}
@@ -39,7 +38,7 @@ pub record LastStart (s : List ℕ) (r : ℕ) : Type 0 where
 -- and no escape
 pub record CharStarts (s : List ℕ) (i : ℕ) : Type 0 where
   pub starts : 0 < i → later (get_or s i 0) ≡ false
-  pub apart : 0 < i → get_or s (i - 1) 0 ≡ backslash → escaped (get_or s i 0) ≡ none
+  pub apart : 0 < i → get_or s (i - 1) 0 ≡ backslash → escaped (get_or s i 0) ≡ None
 
 -- the last character of s is c, and starts at i
 pub record LastChar (s : List ℕ) (i c : ℕ) : Type 0 where

@@ -24,10 +24,7 @@ pub(crate) fn is_parted(a: &[u8], i: usize, b: &[u8], j: usize) -> bool
     if x % 32 == y % 32 {
         return false;
     }
-    if !content::is_plain(x) {
-        return false;
-    }
-    content::is_plain(y)
+    content::is_plain(x) && content::is_plain(y)
 }
 
 // Whether the last bytes of two names tell that they are not the same: the bytes before them start no escape, and both are
@@ -54,16 +51,7 @@ pub(crate) fn is_parted_last(a: &[u8], b: &[u8]) -> bool
     if b[m - 2] == b'\\' {
         return false;
     }
-    if !content::is_plain(x) {
-        return false;
-    }
-    content::is_plain(y)
-}
-
-fn wide(b: u8) -> u32
-    ensures { result ≡ b }
-{
-    b as u32
+    content::is_plain(x) && content::is_plain(y)
 }
 
 // Four bytes as one number.
@@ -71,8 +59,8 @@ fn word(s: &[u8], i: usize) -> u32
     requires { i + 4 ≤ length s.now }
     ensures { WordAt s.now i result }
 {
-    let lower = wide(s[i]) + wide(s[i + 1]) * 256;
-    let upper = wide(s[i + 2]) + wide(s[i + 3]) * 256;
+    let lower = (s[i] as u32) + (s[i + 1] as u32) * 256;
+    let upper = (s[i + 2] as u32) + (s[i + 3] as u32) * 256;
     lower + upper * 65536
 }
 
@@ -147,10 +135,7 @@ fn is_seam(a: &[u8], b: &[u8], i: usize) -> bool
     if a[i - 1] == b'\\' {
         return false;
     }
-    if !opens(a, i) {
-        return false;
-    }
-    opens(b, i)
+    opens(a, i) && opens(b, i)
 }
 
 // A length of the common front that leaves two names with the same answer.

@@ -107,10 +107,7 @@ pub fn text_outer_trimmed<'a>(t: &[u32], s: &'a [u8]) -> &'a [u8]
 fn goes(b: u8, prev: u8) -> bool
     ensures { result ≡ (eqb b blank && eqb prev blank) }
 {
-    if b == 32 {
-        return prev == 32;
-    }
-    false
+    b == 32 && prev == 32
 }
 
 // The first blank at or after `at`, or the end.
@@ -134,10 +131,7 @@ fn is_blank_after(w: &[u8], at: usize) -> bool
     ensures { result ≡ eqb (get_or w.now (at + 1) 0) blank }
 {
     let i = at + 1;
-    if w.len() <= i {
-        return false;
-    }
-    w[i] == b' '
+    i < w.len() && w[i] == b' '
 }
 
 // Whether no two blanks follow one another.
@@ -263,13 +257,6 @@ pub struct Cursor {
     pub pending: Pending,
 }
 
-// A folded code point and where to go on, or the end of the text.
-#[derive(Clone, Copy)]
-pub enum Step {
-    Code(u32, Cursor),
-    End,
-}
-
 pub fn start() -> Cursor
     ensures { result ≡ start_cursor }
 {
@@ -280,48 +267,48 @@ pub fn start() -> Cursor
 }
 
 // The first of a folding's code points, with the others pending, before the text from at on.
-fn emit(f: Folded, at: usize) -> Step
+fn emit(f: Folded, at: usize) -> Option<(u32, Cursor)>
     ensures { result ≡ step_of f at }
 {
     match f {
-        Folded::One(a) => Step::Code(
+        Folded::One(a) => Some((
             a,
             Cursor {
                 at,
                 pending: Pending::Nothing,
             },
-        ),
-        Folded::Two(a, b) => Step::Code(
+        )),
+        Folded::Two(a, b) => Some((
             a,
             Cursor {
                 at,
                 pending: Pending::One(b),
             },
-        ),
-        Folded::Three(a, b, c) => Step::Code(
+        )),
+        Folded::Three(a, b, c) => Some((
             a,
             Cursor {
                 at,
                 pending: Pending::Two(b, c),
             },
-        ),
+        )),
     }
 }
 
 // The first folded code point of the text from at on.
-fn fresh(t: &[u32], s: &[u8], at: usize) -> Step
+fn fresh(t: &[u32], s: &[u8], at: usize) -> Option<(u32, Cursor)>
     requires { t.now ≡ unicode_tables }
     ensures { told s.now result ≡ fold_from s.now at }
 {
     if s.len() <= at {
-        return Step::End;
+        return None;
     }
     let c = content::kept_char(s, at);
     emit(letters::fold(t, c.code), at + c.size)
 }
 
 // The next folded code point.
-pub fn next_folded(t: &[u32], s: &[u8], c: Cursor) -> Step
+pub fn next_folded(t: &[u32], s: &[u8], c: Cursor) -> Option<(u32, Cursor)>
     requires { t.now ≡ unicode_tables }
     ensures { told s.now result ≡ rest s.now c }
 {
@@ -329,20 +316,20 @@ pub fn next_folded(t: &[u32], s: &[u8], c: Cursor) -> Step
     let p = c.pending;
     match p {
         Pending::Nothing => fresh(t, s, at),
-        Pending::One(x) => Step::Code(
+        Pending::One(x) => Some((
             x,
             Cursor {
                 at,
                 pending: Pending::Nothing,
             },
-        ),
-        Pending::Two(x, y) => Step::Code(
+        )),
+        Pending::Two(x, y) => Some((
             x,
             Cursor {
                 at,
                 pending: Pending::One(y),
             },
-        ),
+        )),
     }
 }
 
@@ -357,22 +344,22 @@ fn same_rest(t: &[u32], a: &[u8], b: &[u8]) -> bool
         let p = next_folded(t, a, i);
         let q = next_folded(t, b, j);
         match p {
-            Step::End => {
+            None => {
                 match q {
-                    Step::End => {
+                    None => {
                         return true;
                     }
-                    Step::Code(_, _) => {
+                    Some((_, _)) => {
                         return false;
                     }
                 }
             }
-            Step::Code(x, k) => {
+            Some((x, k)) => {
                 match q {
-                    Step::End => {
+                    None => {
                         return false;
                     }
-                    Step::Code(y, l) => {
+                    Some((y, l)) => {
                         if x != y {
                             return false;
                         }

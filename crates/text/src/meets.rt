@@ -149,10 +149,7 @@ fn starts_ss(s: &[u8]) -> bool
     if s.len() < 2 {
         return false;
     }
-    if !is_s(s[0]) {
-        return false;
-    }
-    is_s(s[1])
+    is_s(s[0]) && is_s(s[1])
 }
 
 // Whether it starts with ß.

@@ -1,17 +1,17 @@
 -- One law for each way through a `timer` line.
 use Prim.Native.Nat.{ℕ, suc, ◌+◌, ◌<◌, ◌≤◌, ◌/◌, ◌%◌}
 use mathlib.Core.Path.{◌≡◌, refl, sym, ap, ◌∙◌}
-use mathlib.Core.Bool.{Bool, true, false}
+use mathlib.Core.Bool.{Bool, true, false, not}
 use mathlib.Core.List.{List, [], ◌∷◌}
-use mathlib.Core.Option.{Option, none, some}
+use Rattle.std.specs.Prelude.{Option, None, Some}
 use native.Mathlib.Omega.{arith}
 use native.Mathlib.Numerals.{add-one}
 use borrow.Author.Tests.{eq-eqb, ne_eqb}
 use lib.ListN.{length, replicate, length-replicate}
-use Rattle.rules.specs.Basic.{when, is_some}
+use Rattle.rules.specs.Basic.{pick, when, is_some}
 use Rattle.rules.specs.Event as rules
 use Rattle.rules.specs.Finding.{Finding, found}
-use Rattle.rules.specs.Units.{NamedUnit, PhysicalQuantity, volume, mass, len, temperature, time, physical_number, same_physical, find_unit, read_units}
+use Rattle.rules.specs.Units.{NamedUnit, PhysicalQuantity, time, same_physical, find_unit, read_units}
 use Rattle.rules.specs.Answer.{units_or}
 use Rattle.rules.specs.Modes.{has_advanced_units}
 use Rattle.rules.specs.Model.{Timer, Item, timer_item, is_textual, trimmed_text}
@@ -20,19 +20,13 @@ use Rattle.rules.specs.Components.{lock_findings, time_unit, timer_unit, timer_c
 use Rattle.rules.specs.Pass.{push_items, push_timer}
 use Rattle.content.specs.Contents.{kept_in}
 use Rattle.text.specs.Trims.{TrimmedTo}
-use Rattle.units.specs.Quantities.{physical_as}
 use Rattle.units.specs.Lists.{units_from}
-use Rattle.units.specs.declared.Physical.{Physical}
 use Rattle.units.proofs.Walks.{units_start}
-use Rattle.parts.specs.Views.{part_of, span_in, text_in, opt_text_in, OptTextWithin, kind_in, quantity_in, opt_quantity_in}
+use Rattle.parts.specs.Views.{part_of, span_in, text_in, opt_text_in, OptTextWithin, quantity_in, opt_quantity_in}
 use Rattle.parts.specs.declared.TextView.{TextView}
-use Rattle.parts.specs.declared.OptText.{OptText}
-use Rattle.parts.specs.declared.OptText.TheVariants as text
-use Rattle.parts.specs.declared.ValueKind.{ValueKind}
-use Rattle.parts.specs.declared.ValueKind.TheVariants as kind
+use Rattle.sheet.specs.declared.ValueKind.{ValueKind}
+use Rattle.sheet.specs.declared.ValueKind.TheVariants as kind
 use Rattle.parts.specs.declared.QuantityView.{QuantityView}
-use Rattle.parts.specs.declared.OptQuantity.{OptQuantity}
-use Rattle.parts.specs.declared.OptQuantity.TheVariants as quantity
 use Rattle.compatible.proofs.Laws.{text_kept, within_present}
 use Rattle.model.specs.Blank.{blank, blank_place, blank_kept, blank_tables, blank_timer}
 use Rattle.model.specs.Memory.{state_of, state_in, Sound}
@@ -46,15 +40,16 @@ use Rattle.checks.proofs.Laws.{none_found, said}
 use Rattle.blocks.specs.Lined.{ItemsPushed}
 use Rattle.blocks.proofs.Fitting.{items_fit, items_sound}
 use Rattle.timers.specs.Timed.{LockChecked, time_code, UnitChecked, TimeChecked, with_timer, TimerPushed, TimerDone}
+use Rattle.sheet.specs.Words.{kind_in}
 
 -- ---- 6
 
-module _ {q : OptQuantity} {w₀ : List ℕ} {h₀ : Held} where
-  pub lock_none : q ≡ quantity.Absent → LockChecked q w₀ h₀ w₀ h₀
+module _ {q : Option QuantityView} {w₀ : List ℕ} {h₀ : Held} where
+  pub lock_none : q ≡ None → LockChecked q w₀ h₀ w₀ h₀
   unfolding lock_findings opt_quantity_in
   lock_none e = record { is = λ line. none_found (rw e) }
 
-  module _ (v : QuantityView) (e : q ≡ quantity.Present v) where
+  module _ (v : QuantityView) (e : q ≡ Some v) where
     pub lock_free : v.lock ≡ false → LockChecked q w₀ h₀ w₀ h₀
     unfolding lock_findings opt_quantity_in quantity_in when
     lock_free b = record { is = λ line. none_found (rw (e, b)) }
@@ -65,14 +60,14 @@ module _ {q : OptQuantity} {w₀ : List ℕ} {h₀ : Held} where
 
 lock_short : (o : Option rules.Quantity) → length (lock_findings o) ≤ 1
 unfolding lock_findings
-lock_short none = omega arith
-lock_short (some q) = by q.lock
+lock_short None = omega arith
+lock_short (Some q) = by q.lock
   where
     by : (b : Bool) → length (when b (found 6 q.value_span)) ≤ 1
     by true = unfold when in omega arith
     by false = unfold when in omega arith
 
-pub lock_room : {q : OptQuantity} {w₀ w : List ℕ} {h₀ h : Held} → LockChecked q w₀ h₀ w h → h₀.counts.findings + 2 < 1544 → h.counts.findings + 1 < 1544
+pub lock_room : {q : Option QuantityView} {w₀ w : List ℕ} {h₀ h : Held} → LockChecked q w₀ h₀ w h → h₀.counts.findings + 2 < 1544 → h.counts.findings + 1 < 1544
 lock_room {q} l b = let k = reported_count (l.is []) in let m = lock_short (opt_quantity_in [] q) in omega arith
 
 -- ---- 21
@@ -93,38 +88,38 @@ module _ {k : ValueKind} (f : Finding) where
 -- ---- 22 and 23
 
 module _ (us : List NamedUnit) (flags : ℕ) (s : rules.Span) where
-  time_none : (o : Option PhysicalQuantity) → time_code (physical_as o) ≡ 0 → time_unit us flags s o ≡ []
-  unfolding time_code physical_as time_unit same_physical physical_number when
-  time_none none e = absurd (omega arith)
-  time_none (some volume) e = absurd (omega arith)
-  time_none (some mass) e = absurd (omega arith)
-  time_none (some len) e = absurd (omega arith)
-  time_none (some temperature) e = absurd (omega arith)
-  time_none (some time) e = refl
+  time_none : (o : Option PhysicalQuantity) → time_code o ≡ 0 → time_unit us flags s o ≡ []
+  unfolding time_code time_unit
+  time_none None e = absurd (omega arith)
+  time_none (Some p) e = go (same_physical p time) e
+    where
+      go : (b : Bool) → ◌≡◌ {A = ℕ} (pick b 0 22) 0 → when (not b) (found 22 s) ≡ []
+      go true e = unfold when in refl
+      go false e = absurd (omega arith)
 
-  time_found : (o : Option PhysicalQuantity) → (time_code (physical_as o) ≡ 0 → ⊥) → time_unit us flags s o ≡ found (time_code (physical_as o)) s ∷ []
-  unfolding time_code physical_as time_unit same_physical physical_number when
-  time_found none n = refl
-  time_found (some volume) n = refl
-  time_found (some mass) n = refl
-  time_found (some len) n = refl
-  time_found (some temperature) n = refl
-  time_found (some time) n = absurd (n refl)
+  time_found : (o : Option PhysicalQuantity) → (time_code o ≡ 0 → ⊥) → time_unit us flags s o ≡ found (time_code o) s ∷ []
+  unfolding time_code time_unit
+  time_found None n = refl
+  time_found (Some p) n = go (same_physical p time) n
+    where
+      go : (b : Bool) → (◌≡◌ {A = ℕ} (pick b 0 22) 0 → ⊥) → when (not b) (found 22 s) ≡ found (pick b 0 22) s ∷ []
+      go true n = absurd (n refl)
+      go false n = unfold when in refl
 
-pub unit_none : {us : List NamedUnit} {line : List ℕ} {u : OptText} {w : List ℕ} {h : Held} → u ≡ text.Absent → UnitChecked us line u w h w h
+pub unit_none : {us : List NamedUnit} {line : List ℕ} {u : Option TextView} {w : List ℕ} {h : Held} → u ≡ None → UnitChecked us line u w h w h
 unfolding timer_unit opt_text_in
 unit_none e = record { is = λ flags. none_found (rw e) }
 
-unit_is : (us : List NamedUnit) (line : List ℕ) {u : OptText} (v : TextView) → u ≡ text.Present v → (flags : ℕ) → timer_unit us flags (opt_text_in line u) ≡ time_unit us flags (span_in v.span) (find_unit (trimmed_text (text_in line v)) us)
+unit_is : (us : List NamedUnit) (line : List ℕ) {u : Option TextView} (v : TextView) → u ≡ Some v → (flags : ℕ) → timer_unit us flags (opt_text_in line u) ≡ time_unit us flags (span_in v.span) (find_unit (trimmed_text (text_in line v)) us)
 unfolding timer_unit opt_text_in text_in
 unit_is us line v e flags = rw e
 
-module _ (s : List ℕ) (line : List ℕ) {u : OptText} (v : TextView) (g : is_some (read_units s) ≡ true) (z : OptTextWithin line u) (e : u ≡ text.Present v) (x : List ℕ) (t : TrimmedTo (part_of line v.content) x)
-    {p : Physical} (f : p ≡ physical_as (find_unit (kept_in x) (units_from s 0))) {n : ℕ} (c : n ≡ time_code p) where
-  unit_code_lem : n ≡ time_code (physical_as (find_unit (trimmed_text (text_in line v)) (units_or (read_units s))))
+module _ (s : List ℕ) (line : List ℕ) {u : Option TextView} (v : TextView) (g : is_some (read_units s) ≡ true) (z : OptTextWithin line u) (e : u ≡ Some v) (x : List ℕ) (t : TrimmedTo (part_of line v.content) x)
+    {p : Option PhysicalQuantity} (f : p ≡ find_unit (kept_in x) (units_from s 0)) {n : ℕ} (c : n ≡ time_code p) where
+  unit_code_lem : n ≡ time_code (find_unit (trimmed_text (text_in line v)) (units_or (read_units s)))
   unit_code_lem =
-      c ∙ ap time_code (f ∙ (ap (λ (y : List ℕ). physical_as (find_unit y (units_from s 0))) (text_kept line v x (within_present line u v z e) t)
-      ∙ ap (λ (us : List NamedUnit). physical_as (find_unit (trimmed_text (text_in line v)) us)) (units_start s g)))
+      c ∙ ap time_code (f ∙ (ap (λ (y : List ℕ). find_unit y (units_from s 0)) (text_kept line v x (within_present line u v z e) t)
+      ∙ ap (λ (us : List NamedUnit). find_unit (trimmed_text (text_in line v)) us) (units_start s g)))
 
   pub unit_time : {w : List ℕ} {h : Held} → n ≡ 0 → UnitChecked (units_or (read_units s)) line u w h w h
   unit_time o = record { is = λ flags. none_found (unit_is _ line v e flags ∙ time_none _ flags _ _ (sym unit_code_lem ∙ o)) }
@@ -137,12 +132,12 @@ module _ (s : List ℕ) (line : List ℕ) {u : OptText} (v : TextView) (g : is_s
 
 -- ---- 21 to 23
 
-module _ {us : List NamedUnit} {line : List ℕ} {q : OptQuantity} {w₀ : List ℕ} {h₀ : Held} where
-  pub checks_none : q ≡ quantity.Absent → TimeChecked us line q w₀ h₀ w₀ h₀
+module _ {us : List NamedUnit} {line : List ℕ} {q : Option QuantityView} {w₀ : List ℕ} {h₀ : Held} where
+  pub checks_none : q ≡ None → TimeChecked us line q w₀ h₀ w₀ h₀
   unfolding timer_checks opt_quantity_in
   checks_none e = record { is = λ flags. none_found (rw e) }
 
-  pub checks_both : {w₁ w : List ℕ} {h₁ h : Held} (v : QuantityView) → q ≡ quantity.Present v → Reported (when (is_textual (kind_in v.kind)) (found 21 (span_in v.value_span))) w₀ h₀ w₁ h₁
+  pub checks_both : {w₁ w : List ℕ} {h₁ h : Held} (v : QuantityView) → q ≡ Some v → Reported (when (is_textual (kind_in v.kind)) (found 21 (span_in v.value_span))) w₀ h₀ w₁ h₁
       → UnitChecked us line v.unit w₁ h₁ w h → TimeChecked us line q w₀ h₀ w h
   unfolding timer_checks opt_quantity_in quantity_in
   checks_both v e a b = record { is = λ flags. said (rw e) (reported_seq a (b.is flags)) }
@@ -199,7 +194,7 @@ timer_swap : (us : List NamedUnit) (flags : ℕ) (n : Option rules.Text) (q : Op
 unfolding with_timer push_timer report push_items set_block set_place set_kept set_timers set_tables
 timer_swap us flags n q st = refl
 
-module _ {us : List NamedUnit} {flags : ℕ} {line : List ℕ} {name : OptText} {q : OptQuantity} {w₀ w : List ℕ} {h₀ h r : Held} where
+module _ {us : List NamedUnit} {flags : ℕ} {line : List ℕ} {name : Option TextView} {q : Option QuantityView} {w₀ w : List ℕ} {h₀ h r : Held} where
   timer_done : Reported (timer_findings us flags (opt_quantity_in line q)) w₀ h₀ w h → Sound w₀ h₀ → TimerPushed h r → TimerDone us flags line name q w₀ h₀ w r
   timer_done f z p =
       let t = timer_of (opt_text_in line name) (opt_quantity_in line q) in

@@ -1,39 +1,34 @@
 -- What `timer` lines leave in work memory. Of a timer only that it is there is kept.
-use Rattle.std.specs.Prelude.{ℕ, List, [], ◌∷◌, length}
-use Rattle.rules.specs.Units.{NamedUnit}
+use Rattle.std.specs.Prelude.{ℕ, List, [], ◌∷◌, length, Option, None, Some}
+use Rattle.rules.specs.Basic.{pick}
+use Rattle.rules.specs.Units.{NamedUnit, PhysicalQuantity, time, same_physical}
 use Rattle.rules.specs.Model.{Timer, timer_item}
 use Rattle.rules.specs.State.{State, set_timers}
 use Rattle.rules.specs.Components.{lock_findings, timer_unit, timer_checks}
 use Rattle.rules.specs.Pass.{push_items, push_timer}
-use Rattle.units.specs.declared.Physical.{Physical}
-use Rattle.units.specs.declared.Physical.TheVariants.{Volume, Mass, Length, Temperature, Time, Unknown}
 use Rattle.parts.specs.Views.{opt_text_in, opt_quantity_in}
-use Rattle.parts.specs.declared.OptText.{OptText}
-use Rattle.parts.specs.declared.OptQuantity.{OptQuantity}
 use Rattle.model.specs.Fits.{AllFit}
 use Rattle.model.specs.declared.Held.{Held}
 use Rattle.checks.specs.Reports.{Reported}
 use Rattle.blocks.specs.Lined.{Told, Went}
+use Rattle.parts.specs.declared.TextView.{TextView}
+use Rattle.parts.specs.declared.QuantityView.{QuantityView}
 
 -- 6, whatever the line is
-pub record LockChecked (q : OptQuantity) (w₀ : List ℕ) (h₀ : Held) (w : List ℕ) (h : Held) : Type 0 where
+pub record LockChecked (q : Option QuantityView) (w₀ : List ℕ) (h₀ : Held) (w : List ℕ) (h : Held) : Type 0 where
   pub is : (line : List ℕ) → Reported (lock_findings (opt_quantity_in line q)) w₀ h₀ w h
 
 -- the code for a timer's unit; 0 where it is of time
-unfoldable pub time_code : Physical → ℕ
-time_code Volume = 22
-time_code Mass = 22
-time_code Length = 22
-time_code Temperature = 22
-time_code Time = 0
-time_code Unknown = 23
+unfoldable pub time_code : Option PhysicalQuantity → ℕ
+time_code None = 23
+time_code (Some p) = pick (same_physical p time) 0 22
 
 -- 22 and 23; the flags do not matter here
-pub record UnitChecked (us : List NamedUnit) (line : List ℕ) (u : OptText) (w₀ : List ℕ) (h₀ : Held) (w : List ℕ) (h : Held) : Type 0 where
+pub record UnitChecked (us : List NamedUnit) (line : List ℕ) (u : Option TextView) (w₀ : List ℕ) (h₀ : Held) (w : List ℕ) (h : Held) : Type 0 where
   pub is : (flags : ℕ) → Reported (timer_unit us flags (opt_text_in line u)) w₀ h₀ w h
 
 -- 21 to 23
-pub record TimeChecked (us : List NamedUnit) (line : List ℕ) (q : OptQuantity) (w₀ : List ℕ) (h₀ : Held) (w : List ℕ) (h : Held) : Type 0 where
+pub record TimeChecked (us : List NamedUnit) (line : List ℕ) (q : Option QuantityView) (w₀ : List ℕ) (h₀ : Held) (w : List ℕ) (h : Held) : Type 0 where
   pub is : (flags : ℕ) → Reported (timer_checks us flags (opt_quantity_in line q)) w₀ h₀ w h
 
 -- one timer and its item more
@@ -45,6 +40,6 @@ pub record TimerPushed (h₀ h : Held) : Type 0 where
   pub fit : (sheet w : List ℕ) → AllFit sheet w h₀ → AllFit sheet w h
 
 -- a `timer` line
-pub record TimerDone (us : List NamedUnit) (flags : ℕ) (line : List ℕ) (name : OptText) (q : OptQuantity) (w₀ : List ℕ) (h₀ : Held) (w : List ℕ) (h : Held) : Type 0 where
+pub record TimerDone (us : List NamedUnit) (flags : ℕ) (line : List ℕ) (name : Option TextView) (q : Option QuantityView) (w₀ : List ℕ) (h₀ : Held) (w : List ℕ) (h : Held) : Type 0 where
   pub went : Went (push_timer us flags (opt_text_in line name) (opt_quantity_in line q) []) w₀ h₀ w h
   pub fit : (sheet : List ℕ) → AllFit sheet w₀ h₀ → AllFit sheet w h

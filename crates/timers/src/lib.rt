@@ -2,21 +2,24 @@
 #![tactic(auto)]
 
 ghost use Rattle.std.specs.Prelude.{◌≡◌, [], ◌∷◌, ◌+◌, ◌<◌};
-ghost use Rattle.rules.specs.Basic.{when};
+ghost use Rattle.rules.specs.Basic.{when, on_some};
 ghost use Rattle.rules.specs.Units.{read_units};
 ghost use Rattle.rules.specs.Answer.{units_or};
 ghost use Rattle.unit_index.specs.Index.{Indexed};
 ghost use Rattle.rules.specs.Finding.{found};
 ghost use Rattle.rules.specs.Model.{is_textual};
 ghost use Rattle.letters.specs.Tables.{unicode_tables};
-ghost use Rattle.parts.specs.Views.{span_in, kind_in, OptTextWithin, OptQuantityWithin};
+ghost use Rattle.sheet.specs.Words.{kind_in};
+ghost use Rattle.units.specs.Quantities.{physical_in};
+ghost use Rattle.parts.specs.Views.{span_in, OptTextWithin, OptQuantityWithin};
 ghost use Rattle.model.specs.Memory.{Sound};
 ghost use Rattle.model.specs.Small.{with_timers};
 ghost use Rattle.checks.specs.Reports.{Reported};
 ghost use Rattle.timers.specs.Timed.{LockChecked, time_code, UnitChecked, TimeChecked, TimerPushed, TimerDone};
 
 use model::Held;
-use parts::{OptQuantity, OptText, Span, ValueKind};
+use parts::{QuantityView, Span, TextView};
+use sheet::ValueKind;
 use units::Physical;
 
 // A finding with one span.
@@ -29,13 +32,13 @@ fn push_one(words: &mut [u32], h: Held, code: u32, s: Span) -> Held
 }
 
 // 6, lock.
-pub fn lock_finding(words: &mut [u32], h: Held, quantity: OptQuantity) -> Held
+pub fn lock_finding(words: &mut [u32], h: Held, quantity: Option<QuantityView>) -> Held
     requires { Sound words.old h × (h.counts.findings < 1544) }
     ensures { LockChecked quantity words.old h words.new result }
 {
     match quantity {
-        OptQuantity::Absent => h,
-        OptQuantity::Present(q) => {
+        None => h,
+        Some(q) => {
             if q.lock {
                 return push_one(words, h, 6, q.value_span);
             }
@@ -57,16 +60,15 @@ fn text_finding(words: &mut [u32], h: Held, kind: ValueKind, s: Span) -> Held
 }
 
 // 22 where a unit is not of time, 23 where it is unknown, else 0.
-fn time_code(p: Physical) -> u32
-    ensures { result ≡ time_code p }
+fn time_code(p: Option<Physical>) -> u32
+    ensures { result ≡ time_code (on_some physical_in p) }
 {
-    match p {
-        Physical::Volume => 22,
-        Physical::Mass => 22,
-        Physical::Length => 22,
-        Physical::Temperature => 22,
+    let Some(q) = p else {
+        return 23;
+    };
+    match q {
         Physical::Time => 0,
-        Physical::Unknown => 23,
+        _ => 22,
     }
 }
 
@@ -77,17 +79,16 @@ fn unit_finding(
     words: &mut [u32],
     h: Held,
     line: &[u8],
-    unit: OptText,
+    unit: Option<TextView>,
 ) -> Held
     requires { (t.now ≡ unicode_tables) × Indexed units.now index.now × OptTextWithin line.now unit × Sound words.old h × (h.counts.findings < 1544) }
     ensures { UnitChecked (units_or (read_units units.now)) line.now unit words.old h words.new result }
 {
     match unit {
-        OptText::Absent => h,
-        OptText::Present(v) => {
+        None => h,
+        Some(v) => {
             let name = compatible::text_part(t, line, v);
-            let p = unit_index::find_named(units, index, name);
-            let code = time_code(p);
+            let code = time_code(unit_index::find_named(units, index, name));
             if code == 0 {
                 return h;
             }
@@ -104,14 +105,14 @@ fn time_checks(
     words: &mut [u32],
     h: Held,
     line: &[u8],
-    quantity: OptQuantity,
+    quantity: Option<QuantityView>,
 ) -> Held
     requires { (t.now ≡ unicode_tables) × Indexed units.now index.now × OptQuantityWithin line.now quantity × Sound words.old h × (h.counts.findings + 1 < 1544) }
     ensures { TimeChecked (units_or (read_units units.now)) line.now quantity words.old h words.new result }
 {
     match quantity {
-        OptQuantity::Absent => h,
-        OptQuantity::Present(q) => {
+        None => h,
+        Some(q) => {
             let kind = q.kind;
             let unit = q.unit;
             let k = text_finding(words, h, kind, q.value_span);
@@ -145,8 +146,8 @@ pub fn on_timer(
     index: &[u32],
     flags: u32,
     line: &[u8],
-    name: OptText,
-    quantity: OptQuantity,
+    name: Option<TextView>,
+    quantity: Option<QuantityView>,
     words: &mut [u32],
     h: Held,
 ) -> Held

@@ -1,4 +1,5 @@
 -- The checks of notes and quantities against a row, and all checks after a reference.
+use Rattle.std.specs.Prelude.{None, Option, Some}
 use Prim.Native.Nat.{ℕ, zero, suc, ◌+◌, ◌-◌, ◌*◌, ◌/◌, ◌%◌, ◌≤◌, ◌<◌}
 use mathlib.Core.Path.{◌≡◌, refl, ap, sym, ◌∙◌}
 use mathlib.Core.Bool.{Bool, true, false, ◌&&◌, not}
@@ -6,7 +7,7 @@ use mathlib.Core.List.{List, [], ◌∷◌, ◌++◌}
 use native.Mathlib.Omega.{arith}
 use lib.Dec.{eqb}
 use lib.ListN.{length, get_or, take, drop, length-append, length-reverse}
-use borrow.Author.Tests.{eq-eqb, ne_eqb, not-true, not-false}
+use borrow.Author.Tests.{eq-eqb, ne_eqb}
 use Rattle.rules.specs.Basic.{pick, on_some}
 use Rattle.rules.specs.Units.{NamedUnit}
 use Rattle.rules.specs.Modes.{has_advanced_units}
@@ -16,7 +17,6 @@ use Rattle.rules.specs.Reference.{Earlier, entry_at, referrers}
 use Rattle.rules.specs.Checks.{is_defined_in_step, unit_against, units_against, unit_check, reference_checks}
 use Rattle.rules.specs.Components.{checks_after}
 use Rattle.rules.specs.State.{table_of}
-use Rattle.parts.specs.declared.OptQuantity.{OptQuantity}
 use Rattle.parts.specs.Views.{opt_quantity_in}
 use Rattle.components.specs.declared.ComponentView.{ComponentView}
 use Rattle.components.specs.Views.{component_in, ComponentWithin}
@@ -25,6 +25,8 @@ use Rattle.model.specs.Memory.{windows_of, state_in, Sound}
 use Rattle.model.specs.Fits.{AllFit}
 use Rattle.model.specs.declared.Relation.{Relation}
 use Rattle.model.specs.declared.Relation.TheVariants.{Definition, Reference}
+use Rattle.model.specs.declared.Kind as kinds
+use Rattle.model.specs.declared.Kind.TheVariants as kind
 use Rattle.model.specs.declared.Row.{Row}
 use Rattle.model.specs.declared.Held.{Held}
 use Rattle.model.proofs.Entries.{entry_relation}
@@ -33,13 +35,13 @@ use Rattle.checks.specs.Reports.{Reported, NoteWithin, ReferenceChecked}
 use Rattle.checks.proofs.Reports.{reported_seq, reported_sound, reported_fit, reported_count}
 use Rattle.checks.proofs.Frames.{framed_count, reported_framed}
 use Rattle.checks.proofs.Laws.{none_found, said, note_read}
-use Rattle.lookup.specs.declared.Same.{Same}
-use Rattle.lookup.specs.declared.Same.TheVariants.{At, Nothing}
-use Rattle.lookup.specs.Names.{kind_of, rows_in, pairs_in, same_of, earlier_at}
+use Rattle.lookup.specs.Names.{rows_in, pairs_in, earlier_at}
 use Rattle.recall.specs.Recalls.{Recalled}
 use Rattle.unit_checks.specs.Checked.{InStep, UnitChecked, UnitsAfter, EntryChecked, ChecksDone}
 use Rattle.unit_checks.proofs.Rows.{earlier_row, framed_earlier, row_fits, old_source, old_amount}
 use Rattle.unit_checks.proofs.Units.{sample, sample_of, against_few, referrers_none}
+use Rattle.parts.specs.declared.QuantityView.{QuantityView}
+use Rattle.model.specs.Kinds.{kind_of}
 
 -- ---- notes and quantities
 
@@ -81,22 +83,22 @@ and_none : (x : Bool) (fs : List Finding) → pick (x && false) fs [] ≡ []
 and_none true fs = refl
 and_none false fs = refl
 
-module _ (b : Bool) {us : List NamedUnit} {flags : ℕ} {sheet line : List ℕ} {a : OptQuantity} {d : ℕ} {w₀ : List ℕ} {h₀ : Held} where
-  pub after_cookware : not b ≡ true → UnitsAfter us flags (kind_of b) sheet line a d w₀ h₀ w₀ h₀
-  after_cookware t = rw (not-true b t) (record { is = λ new n. none_found (unfold is_ingredient in refl) })
+module _ (b : kinds.Kind) {us : List NamedUnit} {flags : ℕ} {sheet line : List ℕ} {a : Option QuantityView} {d : ℕ} {w₀ : List ℕ} {h₀ : Held} where
+  pub after_cookware : b ≡ kind.Cookware → UnitsAfter us flags (kind_of b) sheet line a d w₀ h₀ w₀ h₀
+  after_cookware e = rw e (record { is = λ new n. none_found (unfold is_ingredient in refl) })
 
   pub after_off : (flags / 4 % 2 ≡ 1 → ⊥) → UnitsAfter us flags (kind_of b) sheet line a d w₀ h₀ w₀ h₀
   after_off u =
       let e : has_advanced_units flags ≡ false = (unfold has_advanced_units in ne_eqb (flags / 4 % 2) 1 u) in
       record { is = λ new n. none_found (rw e (and_none (is_ingredient (kind_of b)) _)) }
 
-  pub after_on : {w : List ℕ} {h : Held} → not b ≡ false → flags / 4 % 2 ≡ 1 → UnitChecked us sheet line a d w₀ h₀ w h → UnitsAfter us flags (kind_of b) sheet line a d w₀ h₀ w h
+  pub after_on : {w : List ℕ} {h : Held} → b ≡ kind.Ingredient → flags / 4 % 2 ≡ 1 → UnitChecked us sheet line a d w₀ h₀ w h → UnitsAfter us flags (kind_of b) sheet line a d w₀ h₀ w h
   after_on t u c =
       let e : has_advanced_units flags ≡ true = (unfold has_advanced_units in eq-eqb (flags / 4 % 2) 1 u) in
-      rw (not-false b t) (record { is = λ new n. said (rw e (unfold is_ingredient in refl)) (c.is new n.is_source (unfold is_ingredient in n.is_amount)) })
+      rw t (record { is = λ new n. said (rw e (unfold is_ingredient in refl)) (c.is new n.is_source (unfold is_ingredient in n.is_amount)) })
 
-pub below_ingredient : (b : Bool) (d : ℕ) (h : Held) → not b ≡ false → d < count_of (kind_of b) h → d < h.counts.ingredients
-below_ingredient b d h t l = rw (not-false b t) at l
+pub below_ingredient : (b : kinds.Kind) (d : ℕ) (h : Held) → b ≡ kind.Ingredient → d < count_of (kind_of b) h → d < h.counts.ingredients
+below_ingredient b d h t l = rw t at l
 
 -- ---- how many findings it makes
 
@@ -143,7 +145,7 @@ after_most us true ingredient new table sheet w h d = check_few sheet w h d us n
 after_most us false ingredient new table sheet w h d = omega arith
 after_most us x cookware new table sheet w h d = omega arith
 
-module _ {us : List NamedUnit} {flags : ℕ} {k : Kind} {sheet line : List ℕ} {a : OptQuantity} {d : ℕ} {w₀ w : List ℕ} {h₀ h : Held} (c : UnitsAfter us flags k sheet line a d w₀ h₀ w h) where
+module _ {us : List NamedUnit} {flags : ℕ} {k : Kind} {sheet line : List ℕ} {a : Option QuantityView} {d : ℕ} {w₀ w : List ℕ} {h₀ h : Held} (c : UnitsAfter us flags k sheet line a d w₀ h₀ w h) where
   told : Reported (pick (is_ingredient k && has_advanced_units flags) (unit_check us (sample k line a) (table_of k (state_in sheet w₀ h₀)) (earlier_at k sheet w₀ h₀ d)) []) w₀ h₀ w h
   told = c.is (sample k line a) (sample_of k line a)
 
@@ -161,19 +163,19 @@ module _ {us : List NamedUnit} {flags : ℕ} {k : Kind} {sheet line : List ℕ} 
 
   -- ---- all checks
 
-  pub done_at : {v : ComponentView} {to : Same} {w₁ : List ℕ} {h₁ : Held} → a ≡ v.quantity → to ≡ At d → EntryChecked k sheet line v d w h w₁ h₁ → ChecksDone us flags k sheet line v to w₀ h₀ w₁ h₁
+  pub done_at : {v : ComponentView} {to : Option ℕ} {w₁ : List ℕ} {h₁ : Held} → a ≡ v.quantity → to ≡ Some d → EntryChecked k sheet line v d w h w₁ h₁ → ChecksDone us flags k sheet line v to w₀ h₀ w₁ h₁
   done_at {v} {to} {w₁} {h₁} m e n =
       record {
         is =
             λ new p q r.
             said (all new)
-            (reported_seq (c.is new (record { is_source = unfold source_of component_in in ap (λ (x : Source). x.quantity) p ∙ ap (opt_quantity_in line) (sym m); is_amount = q ∙ ap (λ (x : OptQuantity). on_some (amount_of (is_ingredient k)) (opt_quantity_in line x)) (sym m) }))
+            (reported_seq (c.is new (record { is_source = unfold source_of component_in in ap (λ (x : Source). x.quantity) p ∙ ap (opt_quantity_in line) (sym m); is_amount = q ∙ ap (λ (x : Option QuantityView). on_some (amount_of (is_ingredient k)) (opt_quantity_in line x)) (sym m) }))
             (said (ap (λ (x : Earlier). reference_checks (not new.modifiers.ref) new x.entry) (sym (framed_earlier (reported_framed told) k sheet d))) (n.is new (record { is_source = p; is_amount = q; is_ref = r }))));
       }
     where
-      all : (new : Entry) → checks_after us flags k new (table_of k (state_in sheet w₀ h₀)) (on_some (earlier_at k sheet w₀ h₀) (same_of to))
+      all : (new : Entry) → checks_after us flags k new (table_of k (state_in sheet w₀ h₀)) (on_some (earlier_at k sheet w₀ h₀) to)
           ≡ pick (is_ingredient k && has_advanced_units flags) (unit_check us new (table_of k (state_in sheet w₀ h₀)) (earlier_at k sheet w₀ h₀ d)) [] ++ reference_checks (not new.modifiers.ref) new (earlier_at k sheet w₀ h₀ d).entry
-      all new = rw e (unfold on_some same_of checks_after in refl)
+      all new = rw e (unfold on_some checks_after in refl)
 
-pub done_none : {us : List NamedUnit} {flags : ℕ} {k : Kind} {sheet line : List ℕ} {v : ComponentView} {to : Same} {w : List ℕ} {h : Held} → to ≡ Nothing → ChecksDone us flags k sheet line v to w h w h
-done_none e = record { is = λ new p q r. none_found (rw e (unfold on_some same_of checks_after in refl)) }
+pub done_none : {us : List NamedUnit} {flags : ℕ} {k : Kind} {sheet line : List ℕ} {v : ComponentView} {to : Option ℕ} {w : List ℕ} {h : Held} → to ≡ None → ChecksDone us flags k sheet line v to w h w h
+done_none e = record { is = λ new p q r. none_found (rw e (unfold on_some checks_after in refl)) }

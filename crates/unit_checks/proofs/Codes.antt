@@ -3,7 +3,7 @@ use Prim.Native.Nat.{ℕ, suc, ◌+◌, ◌-◌, ◌*◌, ◌≤◌, ◌<◌}
 use mathlib.Core.Path.{◌≡◌, refl, ap, sym, ◌∙◌}
 use mathlib.Core.Bool.{Bool, true, false, ◌&&◌}
 use mathlib.Core.List.{List}
-use mathlib.Core.Option.{Option, none, some}
+use Rattle.std.specs.Prelude.{Option, None, Some}
 use native.Mathlib.Omega.{arith}
 use native.Mathlib.Numerals.{add-one}
 use borrow.Author.Tests.{eqb-true, eqb-false, eq-eqb, ne_eqb, lt-ltb, le-ltb}
@@ -57,7 +57,7 @@ module _ {old : List ℕ} {p : UnitPlace} (q : UnitRecalled old p) where
   place_is : {r : UnitPlace} → p ≡ r → unit_of (component_of_line ingredient old).quantity ≡ unit_as old r
   place_is e = q.is ∙ ap (unit_as old) e
 
-  unit_content : (z : Quantity) (s : Text) → (component_of_line ingredient old).quantity ≡ some z → z.unit ≡ some s → unit_of (component_of_line ingredient old).quantity ≡ some (some s.content)
+  unit_content : (z : Quantity) (s : Text) → (component_of_line ingredient old).quantity ≡ Some z → z.unit ≡ Some s → unit_of (component_of_line ingredient old).quantity ≡ Some (Some s.content)
   unfolding unit_of content_if on_some
   unit_content z s a u = rw (a, u) refl
 
@@ -65,21 +65,21 @@ module _ {old : List ℕ} {p : UnitPlace} (q : UnitRecalled old p) where
   unfolding unit_as unit_of on_some line_code amount_code
   word_absent units e = plain_word (omega arith) (go (component_of_line ingredient old).quantity (place_is e))
     where
-      go : (o : Option Quantity) → unit_of o ≡ none → 8 ≡ amount_code (units_from units 0) o
-      go none k = refl
-      go (some x) k = no_some (sym k)
+      go : (o : Option Quantity) → unit_of o ≡ None → 8 ≡ amount_code (units_from units 0) o
+      go None k = refl
+      go (Some x) k = no_some (sym k)
 
   pub word_unitless : (units : List ℕ) → p ≡ NoUnit → LineWord units old 7
   unfolding unit_as unit_of content_if on_some line_code amount_code text_code
   word_unitless units e = plain_word (omega arith) (go (component_of_line ingredient old).quantity (place_is e))
     where
-      none_there : (u : Option Text) → content_if u ≡ none → 7 ≡ text_code (units_from units 0) u
-      none_there none k = refl
-      none_there (some t) k = no_some (sym k)
+      none_there : (u : Option Text) → content_if u ≡ None → 7 ≡ text_code (units_from units 0) u
+      none_there None k = refl
+      none_there (Some t) k = no_some (sym k)
 
-      go : (o : Option Quantity) → unit_of o ≡ some none → 7 ≡ amount_code (units_from units 0) o
-      go none k = no_some k
-      go (some x) k = none_there x.unit (some_inj k)
+      go : (o : Option Quantity) → unit_of o ≡ Some None → 7 ≡ amount_code (units_from units 0) o
+      go None k = no_some k
+      go (Some x) k = none_there x.unit (some_inj k)
 
   pub same_absent : {f : List ℕ} {r : Bool} → p ≡ NoQuantity → SameUnit old f r
   unfolding unit_as
@@ -90,7 +90,7 @@ module _ {old : List ℕ} {p : UnitPlace} (q : UnitRecalled old p) where
   same_unitless n = record { is = λ z s e u. no_some (some_inj (sym (place_is n) ∙ unit_content z s e u)) }
 
   module _ {x : Part} (e : p ≡ At x) where
-    unit_is : (z : Quantity) (s : Text) → (component_of_line ingredient old).quantity ≡ some z → z.unit ≡ some s → trimmed_text s ≡ trimmed_in (part_of old x)
+    unit_is : (z : Quantity) (s : Text) → (component_of_line ingredient old).quantity ≡ Some z → z.unit ≡ Some s → trimmed_text s ≡ trimmed_in (part_of old x)
     unfolding unit_as trimmed_text trimmed_in
     unit_is z s a u = ap text_trimmed (sym (some_inj (some_inj (sym (place_is e) ∙ unit_content z s a u))))
 
@@ -102,16 +102,16 @@ module _ {old : List ℕ} {p : UnitPlace} (q : UnitRecalled old p) where
       unfolding unit_as unit_of content_if on_some line_code amount_code text_code
       code_there = go (component_of_line ingredient old).quantity (place_is e)
         where
-          unit_there : (u : Option Text) → content_if u ≡ some (content_in (part_of old x)) → m + 1 ≡ text_code (units_from units 0) u
-          unit_there none k = no_some k
-          unit_there (some s) k =
+          unit_there : (u : Option Text) → content_if u ≡ Some (content_in (part_of old x)) → m + 1 ≡ text_code (units_from units 0) u
+          unit_there None k = no_some k
+          unit_there (Some s) k =
               let w : trimmed_text s ≡ trimmed_in (part_of old x) = unfold trimmed_text trimmed_in in ap text_trimmed (some_inj k) in
               let z : trimmed_text s ≡ kept_in y = w ∙ ap trimmed_in (sym i) ∙ sym (trimmed_is t) in
               rw (add-one m) (ap suc (c ∙ ap (unit_code (units_from units 0)) (sym z)))
 
-          go : (o : Option Quantity) → unit_of o ≡ some (some (content_in (part_of old x))) → m + 1 ≡ amount_code (units_from units 0) o
-          go none k = no_some k
-          go (some z) k = unit_there z.unit (some_inj k)
+          go : (o : Option Quantity) → unit_of o ≡ Some (Some (content_in (part_of old x))) → m + 1 ≡ amount_code (units_from units 0) o
+          go None k = no_some k
+          go (Some z) k = unit_there z.unit (some_inj k)
 
       pub word_coded : LineWord units old (m + 1)
       word_coded = plain_word (omega (arith, up_to_five (units_from units 0) (kept_in y) c)) code_there
@@ -171,7 +171,7 @@ pub codes_none : {units sheet : List ℕ} → CodesKept units sheet (replicate 1
 codes_none =
     record {
       long = length-replicate {A = ℕ} 1539 0;
-      is = λ i few some. absurd (some (get_or-replicate {A = ℕ} 1539 (i * 3 + 2) 0 0 (omega (arith, few))));
+      is = λ i few there. absurd (there (get_or-replicate {A = ℕ} 1539 (i * 3 + 2) 0 0 (omega (arith, few))));
     }
 
 module _ {units sheet codes : List ℕ} (v : CodesKept units sheet codes) (i : ℕ) (l : i < 513) where
@@ -238,14 +238,14 @@ module _ {units sheet codes : List ℕ} (v : CodesKept units sheet codes) (i : �
 
 text_small : (us : List NamedUnit) (u : Option Text) → text_code us u ≤ 7
 unfolding text_code
-text_small us none = omega arith
-text_small us (some t) = omega (arith, code_small us (trimmed_text t))
+text_small us None = omega arith
+text_small us (Some t) = omega (arith, code_small us (trimmed_text t))
 
 -- a line without a quantity draws nothing
 pub fits_absent : (us : List NamedUnit) (old : Option Quantity) (b : Option (List ℕ)) {o : ℕ} → o ≡ amount_code us old → o ≡ 8 → true ≡ fits_unit us old b
 unfolding fits_unit amount_code
-fits_absent us none b e n = refl
-fits_absent us (some q) b e n = absurd (omega (arith, text_small us q.unit, e))
+fits_absent us None b e n = refl
+fits_absent us (Some q) b e n = absurd (omega (arith, text_small us q.unit, e))
 
 module _ (us : List NamedUnit) {f x : List ℕ} (t : TrimmedTo f x) {m : ℕ} (c : m ≡ unit_code us (kept_in x)) where
   new_small : m ≤ 5
@@ -255,12 +255,12 @@ module _ (us : List NamedUnit) {f x : List ℕ} (t : TrimmedTo f x) {m : ℕ} (c
   new_code = c ∙ ap (unit_code us) (trimmed_is t)
 
   module _ {o : ℕ} {r : Bool} where
-    unit_fits : (u : Option Text) (has : Bool) → o ≡ text_code us u → (eqb o 6 && has && eqb m 5) ≡ false → r ≡ code_fits o has m → r ≡ eqb (compatible_unit us (on_some trimmed_text u) (pick has (some (trimmed_in f)) none)) 0
+    unit_fits : (u : Option Text) (has : Bool) → o ≡ text_code us u → (eqb o 6 && has && eqb m 5) ≡ false → r ≡ code_fits o has m → r ≡ eqb (compatible_unit us (on_some trimmed_text u) (pick has (Some (trimmed_in f)) None)) 0
     unfolding text_code code_fits on_some compatible_unit
-    unit_fits none true e n k = k ∙ ne_eqb o (m + 1) (λ z. omega (arith, new_small))
-    unit_fits none false e n k = k ∙ eq-eqb o 7 e
-    unit_fits (some s) false e n k = k ∙ ne_eqb o 7 (λ z. omega (arith, code_small us (trimmed_text s)))
-    unit_fits (some s) true e n k =
+    unit_fits None true e n k = k ∙ ne_eqb o (m + 1) (λ z. omega (arith, new_small))
+    unit_fits None false e n k = k ∙ eq-eqb o 7 e
+    unit_fits (Some s) false e n k = k ∙ ne_eqb o 7 (λ z. omega (arith, code_small us (trimmed_text s)))
+    unit_fits (Some s) true e n k =
         unfold known_of in codes_fit us (trimmed_text s) (trimmed_in f) refl new_code (λ z y. no_truth (sym n ∙ rw (eq-eqb o 6 (omega arith), eq-eqb m 5 y) refl)) r (k ∙ both)
       where
         both : eqb o (m + 1) ≡ eqb (unit_code us (trimmed_text s)) m
@@ -271,26 +271,26 @@ module _ (us : List NamedUnit) {f x : List ℕ} (t : TrimmedTo f x) {m : ℕ} (c
             same false w = ne_eqb o (m + 1) (λ y. eqb-false (unit_code us (trimmed_text s)) m w (omega arith))
 
     -- where no unit has to be compared as it is written
-    pub fits_coded : (old : Option Quantity) (has : Bool) {b : Bool} → o ≡ amount_code us old → (o ≡ 8 → ⊥) → b ≡ (eqb o 6 && has && eqb m 5) → b ≡ false → r ≡ code_fits o has m → r ≡ fits_unit us old (pick has (some (trimmed_in f)) none)
+    pub fits_coded : (old : Option Quantity) (has : Bool) {b : Bool} → o ≡ amount_code us old → (o ≡ 8 → ⊥) → b ≡ (eqb o 6 && has && eqb m 5) → b ≡ false → r ≡ code_fits o has m → r ≡ fits_unit us old (pick has (Some (trimmed_in f)) None)
     unfolding fits_unit amount_code
-    fits_coded none has e n s l k = absurd (n e)
-    fits_coded (some q) has e n s l k = unit_fits q.unit has e (sym s ∙ l) k
+    fits_coded None has e n s l k = absurd (n e)
+    fits_coded (Some q) has e n s l k = unit_fits q.unit has e (sym s ∙ l) k
 
     -- where it has
-    text_fits : (u : Option Text) → o ≡ text_code us u → o ≡ 6 → ((s : Text) → u ≡ some s → r ≡ eq_list (trimmed_text s) (trimmed_in f)) → r ≡ eqb (compatible_unit us (on_some trimmed_text u) (some (trimmed_in f))) 0
+    text_fits : (u : Option Text) → o ≡ text_code us u → o ≡ 6 → ((s : Text) → u ≡ Some s → r ≡ eq_list (trimmed_text s) (trimmed_in f)) → r ≡ eqb (compatible_unit us (on_some trimmed_text u) (Some (trimmed_in f))) 0
     unfolding text_code on_some compatible_unit
-    text_fits none e n k = absurd (omega arith)
-    text_fits (some s) e n k = unfold known_of in names_fit us (trimmed_text s) (trimmed_in f) refl (omega arith) r (k s refl)
+    text_fits None e n k = absurd (omega arith)
+    text_fits (Some s) e n k = unfold known_of in names_fit us (trimmed_text s) (trimmed_in f) refl (omega arith) r (k s refl)
 
     pub fits_written : (line : List ℕ) (has : Bool) {b : Bool} → o ≡ amount_code us (component_of_line ingredient line).quantity → b ≡ (eqb o 6 && has && eqb m 5) → b ≡ true → SameUnit line f r
-        → r ≡ fits_unit us (component_of_line ingredient line).quantity (pick has (some (trimmed_in f)) none)
+        → r ≡ fits_unit us (component_of_line ingredient line).quantity (pick has (Some (trimmed_in f)) None)
     unfolding fits_unit amount_code
     fits_written line has e s l k = go has (sym s ∙ l) (component_of_line ingredient line).quantity refl e
       where
-        go : (h : Bool) → (eqb o 6 && h && eqb m 5) ≡ true → (q : Option Quantity) → (component_of_line ingredient line).quantity ≡ q → o ≡ amount_code us q → r ≡ fits_unit us q (pick h (some (trimmed_in f)) none)
-        go h z none a w = absurd (omega (arith, eqb-true o 6 (and_left _ _ (and_left _ _ z))))
-        go false z (some q) a w = no_truth (and_right (eqb o 6) false (and_left _ _ z))
-        go true z (some q) a w = text_fits q.unit w (eqb-true o 6 (and_left _ _ (and_left _ _ z))) (λ t u. k.is q t a u)
+        go : (h : Bool) → (eqb o 6 && h && eqb m 5) ≡ true → (q : Option Quantity) → (component_of_line ingredient line).quantity ≡ q → o ≡ amount_code us q → r ≡ fits_unit us q (pick h (Some (trimmed_in f)) None)
+        go h z None a w = absurd (omega (arith, eqb-true o 6 (and_left _ _ (and_left _ _ z))))
+        go false z (Some q) a w = no_truth (and_right (eqb o 6) false (and_left _ _ z))
+        go true z (Some q) a w = text_fits q.unit w (eqb-true o 6 (and_left _ _ (and_left _ _ z))) (λ t u. k.is q t a u)
 
   zero_not : (has : Bool) → code_fits 0 has m ≡ true → ⊥
   unfolding code_fits
@@ -305,12 +305,12 @@ module _ (us : List NamedUnit) {f x : List ℕ} (t : TrimmedTo f x) {m : ℕ} (c
 -- by the word that is kept
 module _ {units sheet codes : List ℕ} (v : CodesKept units sheet codes) (i : ℕ) (l : i < 513) {f x : List ℕ} (t : TrimmedTo f x) {m : ℕ} (c : m ≡ unit_code (units_from units 0) (kept_in x)) where
   pub fits_kept : (at end : ℕ) (has : Bool) {r : Bool} → r ≡ known_fits (code_in (kept_word codes i at end)) has m → r ≡ true
-      → true ≡ fits_unit (units_from units 0) (component_of_line ingredient (take (end - at) (drop at sheet))).quantity (pick has (some (trimmed_in f)) none)
+      → true ≡ fits_unit (units_from units 0) (component_of_line ingredient (take (end - at) (drop at sheet))).quantity (pick has (Some (trimmed_in f)) None)
   unfolding known_fits line_code
   fits_kept at end has {r} k z = by (code_in (kept_word codes i at end)) refl (eqb (code_in (kept_word codes i at end)) 6 && has && eqb m 5) refl (sym k ∙ z)
     where
       by : (o : ℕ) → code_in (kept_word codes i at end) ≡ o → (b : Bool) → (eqb (code_in (kept_word codes i at end)) 6 && has && eqb m 5) ≡ b → pick b false (code_fits (code_in (kept_word codes i at end)) has m) ≡ true
-          → true ≡ fits_unit (units_from units 0) (component_of_line ingredient (take (end - at) (drop at sheet))).quantity (pick has (some (trimmed_in f)) none)
+          → true ≡ fits_unit (units_from units 0) (component_of_line ingredient (take (end - at) (drop at sheet))).quantity (pick has (Some (trimmed_in f)) None)
       by o e true p q = no_truth q
       by o e false p q =
           let u : code_fits o has m ≡ true = rw e at q in

@@ -3,22 +3,19 @@ use Prim.Native.Nat.{ℕ, ◌-◌}
 use mathlib.Core.Path.{◌≡◌, refl, ap, ◌∙◌}
 use mathlib.Core.Bool.{Bool, true, false}
 use mathlib.Core.List.{List, []}
-use mathlib.Core.Option.{Option, none, some}
+use Rattle.std.specs.Prelude.{Option, None, Some}
 use borrow.Author.Tests.{eqb-true}
 use Rattle.rules.specs.Basic.{pick, is_some, on_some}
 use Rattle.rules.specs.Event.{Text, Quantity}
 use Rattle.rules.specs.Units.{NamedUnit}
-use Rattle.rules.specs.Model.{ingredient, trimmed_text, amount_of, Entry}
+use Rattle.rules.specs.Model.{trimmed_text, amount_of, Entry}
 use Rattle.rules.specs.Checks.{compatible_unit, unit_finding, unit_pair}
 use Rattle.rules.proofs.Basics.{no_some, some_inj}
 use Rattle.content.specs.Contents.{kept_in}
 use Rattle.content.proofs.Plains as plains
 use Rattle.text.specs.Trims.{TrimmedTo}
-use Rattle.parts.specs.declared.OptText.TheVariants as text
 use Rattle.parts.specs.declared.TextView.{TextView}
 use Rattle.parts.specs.declared.QuantityView.{QuantityView}
-use Rattle.parts.specs.declared.OptQuantity.{OptQuantity}
-use Rattle.parts.specs.declared.OptQuantity.TheVariants as quantity
 use Rattle.parts.specs.Views.{part_of, text_in, opt_text_in, quantity_in, opt_quantity_in, TextWithin, OptTextWithin, QuantityWithin, OptQuantityWithin}
 use Rattle.parts.proofs.Contents.{content_of_lem}
 use Rattle.compatible.specs.Fitting.{unit_code, trimmed_in}
@@ -26,56 +23,56 @@ use Rattle.unit_checks.specs.Checked.{HasUnit, UnitField, UnitKnown, fits_unit}
 
 -- ---- the unit of a new quantity
 
-module _ {a : OptQuantity} where
-  pub has_none : a ≡ quantity.Absent → HasUnit a false
+module _ {a : Option QuantityView} where
+  pub has_none : a ≡ None → HasUnit a false
   unfolding opt_quantity_in
   has_none e = record { is = λ line q k. no_some (rw e at k) }
 
-  pub has_no : {v : QuantityView} → a ≡ quantity.Present v → v.unit ≡ text.Absent → HasUnit a false
+  pub has_no : {v : QuantityView} → a ≡ Some v → v.unit ≡ None → HasUnit a false
   unfolding opt_quantity_in quantity_in opt_text_in is_some
   has_no e n = record { is = λ line q k. let z = rw e at k in rw (← some_inj z, n) }
 
-  pub has_yes : {v : QuantityView} {u : TextView} → a ≡ quantity.Present v → v.unit ≡ text.Present u → HasUnit a true
+  pub has_yes : {v : QuantityView} {u : TextView} → a ≡ Some v → v.unit ≡ Some u → HasUnit a true
   unfolding opt_quantity_in quantity_in opt_text_in is_some
   has_yes e n = record { is = λ line q k. let z = rw e at k in rw (← some_inj z, n) }
 
   module _ {line : List ℕ} where
-    pub field_none : {f : List ℕ} → a ≡ quantity.Absent → UnitField line a f
+    pub field_none : {f : List ℕ} → a ≡ None → UnitField line a f
     unfolding opt_quantity_in
     field_none e = record { is = λ w q t k u. no_some (rw e at k) }
 
-    pub field_absent : {v : QuantityView} {f : List ℕ} → a ≡ quantity.Present v → v.unit ≡ text.Absent → UnitField line a f
+    pub field_absent : {v : QuantityView} {f : List ℕ} → a ≡ Some v → v.unit ≡ None → UnitField line a f
     unfolding opt_quantity_in quantity_in opt_text_in
     field_absent e n = record { is = λ w q t k u. let z = rw e at k in no_some (rw n at (ap (λ (x : Quantity). x.unit) (some_inj z) ∙ u)) }
 
-    pub field_there : {v : QuantityView} {u : TextView} {f : List ℕ} → a ≡ quantity.Present v → v.unit ≡ text.Present u → f ≡ part_of line u.content → UnitField line a f
+    pub field_there : {v : QuantityView} {u : TextView} {f : List ℕ} → a ≡ Some v → v.unit ≡ Some u → f ≡ part_of line u.content → UnitField line a f
     unfolding opt_quantity_in quantity_in opt_text_in text_in trimmed_text trimmed_in OptQuantityWithin OptTextWithin
     field_there {v} {u} e n p =
         record {
           is =
               λ w q t k s.
               let z = rw e at k in
-              let y : some (text_in line u) ≡ some t = rw n at (ap (λ (x : Quantity). x.unit) (some_inj z) ∙ s) in
+              let y : Some (text_in line u) ≡ Some t = rw n at (ap (λ (x : Quantity). x.unit) (some_inj z) ∙ s) in
               let within : QuantityWithin line v = rw e at w in
               let x : TextWithin line u = let m = within.unit in rw n at m in
               rw (← some_inj y, p, plains.content_of_lem (part_of line u.content) (content_of_lem line u.content x.content));
         }
 
-module _ {us : List NamedUnit} {line : List ℕ} {a : OptQuantity} {has : Bool} {f x : List ℕ} {m : ℕ} where
+module _ {us : List NamedUnit} {line : List ℕ} {a : Option QuantityView} {has : Bool} {f x : List ℕ} {m : ℕ} where
   pub unit_known : OptQuantityWithin line a → HasUnit a has → UnitField line a f → TrimmedTo f x → m ≡ unit_code us (kept_in x) → UnitKnown us line a has f x m
   unit_known w h u t c = record { is = λ q e. go q.unit (h.is line q e) (λ s k. u.is w q s e k); trimmed = t; code = c }
     where
-      go : (o : Option Text) → is_some o ≡ has → ((s : Text) → o ≡ some s → trimmed_text s ≡ trimmed_in f) → on_some trimmed_text o ≡ pick has (some (trimmed_in f)) none
-      go none e g = rw (← e) (unfold is_some on_some in refl)
-      go (some s) e g = rw (← e) (unfold is_some on_some in rw (g s refl))
+      go : (o : Option Text) → is_some o ≡ has → ((s : Text) → o ≡ Some s → trimmed_text s ≡ trimmed_in f) → on_some trimmed_text o ≡ pick has (Some (trimmed_in f)) None
+      go None e g = rw (← e) (unfold is_some on_some in refl)
+      go (Some s) e g = rw (← e) (unfold is_some on_some in rw (g s refl))
 
 -- ---- nothing is drawn
 
-pub finding_none : (us : List NamedUnit) (new : Entry) (a b : Option Quantity) (old : Entry) → ((q : Quantity) → a ≡ some q → fits_unit us b (on_some trimmed_text q.unit) ≡ true)
+pub finding_none : (us : List NamedUnit) (new : Entry) (a b : Option Quantity) (old : Entry) → ((q : Quantity) → a ≡ Some q → fits_unit us b (on_some trimmed_text q.unit) ≡ true)
     → unit_pair us new (on_some (amount_of true) a) (on_some (amount_of true) b) old ≡ []
 unfolding unit_pair on_some fits_unit amount_of unit_finding
-finding_none us new none b old h = refl
-finding_none us new (some q) none old h = refl
-finding_none us new (some q) (some p) old h =
+finding_none us new None b old h = refl
+finding_none us new (Some q) None old h = refl
+finding_none us new (Some q) (Some p) old h =
     let e : compatible_unit us (on_some trimmed_text p.unit) (on_some trimmed_text q.unit) ≡ 0 = eqb-true (compatible_unit us (on_some trimmed_text p.unit) (on_some trimmed_text q.unit)) 0 (h q refl) in
     rw e

@@ -1,8 +1,8 @@
 -- The rows of earlier components: what they stand for, their lines read again, and that findings leave them.
 use Prim.Native.Nat.{ℕ, zero, suc, ◌+◌, ◌-◌, ◌*◌, ◌≤◌, ◌<◌}
 use mathlib.Core.Path.{◌≡◌, refl, ap, sym, ◌∙◌}
-use mathlib.Core.Bool.{Bool, true, false}
-use mathlib.Core.Option.{Option, none, some}
+use mathlib.Core.Bool.{Bool, true}
+use Rattle.std.specs.Prelude.{Option, None, Some}
 use mathlib.Core.List.{List}
 use native.Mathlib.Omega.{arith}
 use lib.ListN.{length, take, drop, length-drop}
@@ -17,7 +17,6 @@ use Rattle.rules.specs.Checks.{is_defined_in_step}
 use Rattle.rules.specs.State.{table_of}
 use Rattle.rules.proofs.Basics.{no_truth}
 use Rattle.rules.proofs.Fields.{Without}
-use Rattle.parts.specs.declared.OptQuantity.{OptQuantity}
 use Rattle.parts.specs.Views.{opt_quantity_in}
 use Rattle.components.specs.declared.ComponentView.{ComponentView}
 use Rattle.components.specs.Views.{component_in}
@@ -28,21 +27,25 @@ use Rattle.model.specs.declared.Target.{Target}
 use Rattle.model.specs.declared.Target.TheVariants.{Ingredient, Step, Section}
 use Rattle.model.specs.declared.Relation.TheVariants.{Definition, Reference}
 use Rattle.model.specs.declared.RelationRecord.{RelationRecord}
+use Rattle.model.specs.declared.Kind as kinds
+use Rattle.model.specs.declared.Kind.TheVariants as kind
 use Rattle.model.specs.declared.Row.{Row}
 use Rattle.model.specs.declared.Held.{Held}
 use Rattle.model.proofs.Tables.{entries_length, entries_at}
 use Rattle.model.proofs.Entries.{entry_quantity, entry_source}
 use Rattle.memory.specs.Pushes.{count_of, pairs_of}
 use Rattle.checks.proofs.Frames.{Framed, framed_pairs}
-use Rattle.lookup.specs.Names.{kind_of, rows_in, pairs_in, earlier_in, earlier_at}
+use Rattle.lookup.specs.Names.{rows_in, pairs_in, earlier_in, earlier_at}
 use Rattle.lookup.proofs.Names.{part_slice}
 use Rattle.recall.specs.Recalls.{Recalled, QuantityRecalled}
-use Rattle.unit_checks.specs.Checked.{room_of, InStep}
+use Rattle.unit_checks.specs.Checked.{InStep}
+use Rattle.parts.specs.declared.QuantityView.{QuantityView}
+use Rattle.model.specs.Kinds.{kind_of, room_of}
 
 -- ---- the entry of an index
 
 module _ (k : Kind) (sheet rows pairs : List ℕ) (m : ℕ) where
-  entries_past : (i n : ℕ) → n ≤ i → entry_at i (entries_in k sheet rows pairs m n) ≡ none
+  entries_past : (i n : ℕ) → n ≤ i → entry_at i (entries_in k sheet rows pairs m n) ≡ None
   unfolding entries_in entry_at
   entries_past i zero h = refl
   entries_past i (suc n) h = rw (entries_length k sheet rows pairs m n, ne_eqb i n (λ q. omega arith)) (entries_past i n (omega arith))
@@ -53,10 +56,10 @@ table_is ingredient sheet w h = refl
 table_is cookware sheet w h = refl
 
 module _ (k : Kind) (sheet w : List ℕ) (h : Held) (i : ℕ) where
-  pub entry_past : count_of k h ≤ i → entry_at i (table_of k (state_in sheet w h)) ≡ none
+  pub entry_past : count_of k h ≤ i → entry_at i (table_of k (state_in sheet w h)) ≡ None
   entry_past l = ap (entry_at i) (table_is k sheet w h) ∙ entries_past k sheet (rows_in k w) (pairs_in k w) (pairs_of k h) i (count_of k h) l
 
-  pub entry_there : i < count_of k h → entry_at i (table_of k (state_in sheet w h)) ≡ some (earlier_at k sheet w h i).entry
+  pub entry_there : i < count_of k h → entry_at i (table_of k (state_in sheet w h)) ≡ Some (earlier_at k sheet w h i).entry
   unfolding earlier_in
   entry_there l = ap (entry_at i) (table_is k sheet w h) ∙ entries_at k sheet (rows_in k w) (pairs_in k w) (pairs_of k h) i (count_of k h) l
 
@@ -91,8 +94,8 @@ row_room z cookware i l = omega (arith, z.room.cookware)
 
 some_kind : (k : Kind) (o : Option Event) → is_of_kind k o ≡ true → is_some o ≡ true
 unfolding is_of_kind is_some
-some_kind k none e = no_truth e
-some_kind k (some x) e = refl
+some_kind k None e = no_truth e
+some_kind k (Some x) e = refl
 
 module _ (k : Kind) {sheet : List ℕ} {r : Row} (f : Fits k sheet r) where
   -- its line, as it is lent
@@ -127,7 +130,7 @@ module _ {sheet : List ℕ} {r : Row} (f : Fits ingredient sheet r) where
   line_amount by = entry_quantity ingredient sheet r by ∙ ap (λ (l : List ℕ). on_some (amount_of true) (component_of_line ingredient l).quantity) (sym (lent ingredient f))
 
 -- the quantity of its line alone
-module _ {sheet : List ℕ} {r : Row} (f : Fits ingredient sheet r) {b : OptQuantity} (q : QuantityRecalled (take (r.line_end - r.line_at) (drop r.line_at sheet)) b) where
+module _ {sheet : List ℕ} {r : Row} (f : Fits ingredient sheet r) {b : Option QuantityView} (q : QuantityRecalled (take (r.line_end - r.line_at) (drop r.line_at sheet)) b) where
   quantity_is : (component_of_line ingredient (slice r.line_at r.line_end sheet)).quantity ≡ opt_quantity_in (take (r.line_end - r.line_at) (drop r.line_at sheet)) b
   quantity_is = sym (q.is ∙ ap (λ (l : List ℕ). (component_of_line ingredient l).quantity) (lent ingredient f))
 
@@ -140,24 +143,24 @@ module _ {sheet : List ℕ} {r : Row} (f : Fits ingredient sheet r) {b : OptQuan
 window_long : (a n : ℕ) (w : List ℕ) → 24157 ≤ length w → a + n ≤ 24157 → length (take n (drop a w)) ≡ n
 window_long a n w l m = length-take-le n (drop a w) (omega (arith, length-drop a w))
 
-module _ (w : List ℕ) (b : Bool) (i : ℕ) where
-  pub ingredient_room : b ≡ true → 24157 ≤ length w → i < room_of (kind_of b) → (i < 513) × (i * 12 + 12 ≤ length (take 6156 (drop 0 w)))
+module _ (w : List ℕ) {b : kinds.Kind} (i : ℕ) where
+  pub ingredient_room : b ≡ kind.Ingredient → 24157 ≤ length w → i < room_of (kind_of b) → (i < 513) × (i * 12 + 12 ≤ length (take 6156 (drop 0 w)))
   ingredient_room e l m =
       let k : i < 513 = rw e at m in
       let n : length (take 6156 (drop 0 w)) ≡ 6156 = window_long 0 6156 w l (omega arith) in
       (k, omega arith)
 
-  pub cookware_room : b ≡ false → 24157 ≤ length w → i < room_of (kind_of b) → (i < 513) × (i * 12 + 12 ≤ length (take 3084 (drop 6156 w)))
+  pub cookware_room : b ≡ kind.Cookware → 24157 ≤ length w → i < room_of (kind_of b) → (i < 513) × (i * 12 + 12 ≤ length (take 3084 (drop 6156 w)))
   cookware_room e l m =
       let k : i < 257 = rw e at m in
       let n : length (take 3084 (drop 6156 w)) ≡ 3084 = window_long 6156 3084 w l (omega arith) in
       (omega arith, omega arith)
 
-  pub ingredient_row : {r : Row} → b ≡ true → r ≡ row_of (row_at 12 (take 6156 (drop 0 w)) i) → r ≡ row_of (row_at 12 (rows_in (kind_of b) w) i)
+  pub ingredient_row : {r : Row} → b ≡ kind.Ingredient → r ≡ row_of (row_at 12 (take 6156 (drop 0 w)) i) → r ≡ row_of (row_at 12 (rows_in (kind_of b) w) i)
   unfolding windows_of
   ingredient_row e q = rw e q
 
-  pub cookware_row : {r : Row} → b ≡ false → r ≡ row_of (row_at 12 (take 3084 (drop 6156 w)) i) → r ≡ row_of (row_at 12 (rows_in (kind_of b) w) i)
+  pub cookware_row : {r : Row} → b ≡ kind.Cookware → r ≡ row_of (row_at 12 (take 3084 (drop 6156 w)) i) → r ≡ row_of (row_at 12 (rows_in (kind_of b) w) i)
   unfolding windows_of
   cookware_row e q = rw e q
 

@@ -2,7 +2,7 @@
 use Prim.Native.Nat.{ℕ, zero, suc, ◌+◌, ◌-◌, ◌*◌, ◌≤◌, ◌<◌}
 use mathlib.Core.Path.{◌≡◌, refl, ap, sym, ◌∙◌}
 use mathlib.Core.Bool.{Bool, true, false}
-use mathlib.Core.Option.{Option, none, some}
+use Rattle.std.specs.Prelude.{Option, None, Some}
 use mathlib.Core.List.{List, [], ◌∷◌, ◌++◌, append-nil}
 use native.Mathlib.Omega.{arith}
 use borrow.Author.Tests.{lt-ltb, le-ltb}
@@ -16,8 +16,6 @@ use Rattle.rules.specs.Model.{Kind, ingredient, is_ingredient, Amount, amount_of
 use Rattle.rules.specs.Reference.{entry_at, referrers}
 use Rattle.rules.specs.Checks.{unit_finding, unit_pair, unit_against, units_against, unit_check}
 use Rattle.rules.specs.State.{table_of}
-use Rattle.parts.specs.declared.OptQuantity.{OptQuantity}
-use Rattle.parts.specs.declared.OptQuantity.TheVariants.{Absent}
 use Rattle.parts.specs.Views.{opt_quantity_in}
 use Rattle.model.specs.Blank.{blank_span}
 use Rattle.compatible.specs.Fitting.{trimmed_in}
@@ -25,8 +23,6 @@ use Rattle.model.specs.Rows.{row_at, row_of, component_of_line, entry_as, relati
 use Rattle.model.specs.Memory.{windows_of, state_in, Sound}
 use Rattle.model.specs.Fits.{Fits, AllFit}
 use Rattle.model.specs.Searches.{NextReferrer, NextAs}
-use Rattle.model.specs.declared.Next.{Next}
-use Rattle.model.specs.declared.Next.TheVariants.{Referrer, NoMore}
 use Rattle.model.specs.declared.Target.{Target}
 use Rattle.model.specs.declared.Target.TheVariants.{Ingredient, Step, Section}
 use Rattle.model.specs.declared.Relation.TheVariants.{Definition, Reference}
@@ -44,11 +40,12 @@ use Rattle.recall.specs.Recalls.{QuantityRecalled}
 use Rattle.unit_checks.specs.Checked.{QuantityOf, UnitKnown, fits_unit, fits_row, RowChecked, ReferrersChecked, UnitChecked}
 use Rattle.unit_checks.proofs.Rows.{entry_past, entry_there, earlier_row, row_fits, line_amount, quantity_source}
 use Rattle.unit_checks.proofs.Fitting.{finding_none}
+use Rattle.parts.specs.declared.QuantityView.{QuantityView}
 
 -- ---- one row
 
 module _ (us : List NamedUnit) (new : Entry) where
-  against_some : (old : Entry) → unit_against us new (some old) ≡ unit_pair us new new.quantity old.quantity old
+  against_some : (old : Entry) → unit_against us new (Some old) ≡ unit_pair us new new.quantity old.quantity old
   unfolding unit_against
   against_some old = refl
 
@@ -56,7 +53,7 @@ module _ (us : List NamedUnit) (new : Entry) where
   unfolding units_against
   units_more table i is = refl
 
-amount_is : {new : Entry} {line : List ℕ} {a : OptQuantity} → QuantityOf new ingredient line a → new.quantity ≡ on_some (amount_of true) (opt_quantity_in line a)
+amount_is : {new : Entry} {line : List ℕ} {a : Option QuantityView} → QuantityOf new ingredient line a → new.quantity ≡ on_some (amount_of true) (opt_quantity_in line a)
 unfolding is_ingredient
 amount_is n = n.is_amount
 
@@ -68,18 +65,18 @@ module _ (w : List ℕ) (i : ℕ) where
   pub window_fits : {sheet : List ℕ} {h : Held} {r : Row} → AllFit sheet w h → i < h.counts.ingredients → r ≡ row_of (row_at 12 (take 6156 (drop 0 w)) i) → Fits ingredient sheet r
   window_fits a l e = row_fits a ingredient i l (row_window e)
 
-pub row_none : {us : List NamedUnit} {sheet line : List ℕ} {a : OptQuantity} {i : ℕ} {w : List ℕ} {h : Held} → h.counts.ingredients ≤ i → RowChecked us sheet line a i w h w h
+pub row_none : {us : List NamedUnit} {sheet line : List ℕ} {a : Option QuantityView} {i : ℕ} {w : List ℕ} {h : Held} → h.counts.ingredients ≤ i → RowChecked us sheet line a i w h w h
 row_none {us} {sheet} {i = i} {w = w} {h = h} l = record { is = λ new q. none_found (ap (unit_against us new) (entry_past ingredient sheet w h i l) ∙ (unfold unit_against in refl)) }
 
 module _ (i : ℕ) {sheet w₀ : List ℕ} {h₀ : Held} {r : Row} (f : AllFit sheet w₀ h₀) (l : i < h₀.counts.ingredients) (e : r ≡ row_of (row_at 12 (take 6156 (drop 0 w₀)) i)) where
   abbrev by : List ℕ
   by = referrers_in (pairs_in ingredient w₀) i h₀.counts.ingredient_pairs
 
-  row_entry : entry_at i (table_of ingredient (state_in sheet w₀ h₀)) ≡ some (entry_as ingredient sheet r by)
-  row_entry = entry_there ingredient sheet w₀ h₀ i l ∙ ap (λ (x : Entry). some x) (earlier_row ingredient sheet w₀ h₀ i (row_window w₀ i e))
+  row_entry : entry_at i (table_of ingredient (state_in sheet w₀ h₀)) ≡ Some (entry_as ingredient sheet r by)
+  row_entry = entry_there ingredient sheet w₀ h₀ i l ∙ ap (λ (x : Entry). Some x) (earlier_row ingredient sheet w₀ h₀ i (row_window w₀ i e))
 
   -- one that fits draws nothing
-  row_pair : (us : List NamedUnit) (new : Entry) {line : List ℕ} {a : OptQuantity} → QuantityOf new ingredient line a
+  row_pair : (us : List NamedUnit) (new : Entry) {line : List ℕ} {a : Option QuantityView} → QuantityOf new ingredient line a
       → unit_against us new (entry_at i (table_of ingredient (state_in sheet w₀ h₀)))
       ≡ unit_pair us new (on_some (amount_of true) (opt_quantity_in line a)) (on_some (amount_of true) (component_of_line ingredient (take (r.line_end - r.line_at) (drop r.line_at sheet))).quantity) (entry_as ingredient sheet r by)
   row_pair us new {line} {a} n =
@@ -88,8 +85,8 @@ module _ (i : ℕ) {sheet w₀ : List ℕ} {h₀ : Held} {r : Row} (f : AllFit s
       ∙ ap (λ (x : Option Amount). unit_pair us new x (entry_as ingredient sheet r by).quantity (entry_as ingredient sheet r by)) (amount_is n)
       ∙ ap (λ (x : Option Amount). unit_pair us new (on_some (amount_of true) (opt_quantity_in line a)) x (entry_as ingredient sheet r by)) (line_amount (window_fits w₀ i f l e) by)
 
-  pub row_fitting : {us vs : List NamedUnit} {line : List ℕ} {a : OptQuantity} {has : Bool} {g x : List ℕ} {m : ℕ} {t : Bool} → us ≡ vs → UnitKnown us line a has g x m
-      → t ≡ fits_unit us (component_of_line ingredient (take (r.line_end - r.line_at) (drop r.line_at sheet))).quantity (pick has (some (trimmed_in g)) none) → t ≡ true
+  pub row_fitting : {us vs : List NamedUnit} {line : List ℕ} {a : Option QuantityView} {has : Bool} {g x : List ℕ} {m : ℕ} {t : Bool} → us ≡ vs → UnitKnown us line a has g x m
+      → t ≡ fits_unit us (component_of_line ingredient (take (r.line_end - r.line_at) (drop r.line_at sheet))).quantity (pick has (Some (trimmed_in g)) None) → t ≡ true
       → RowChecked vs sheet line a i w₀ h₀ w₀ h₀
   row_fitting {us} {line = line} {a} ev k t z =
       rw (← ev)
@@ -101,14 +98,14 @@ module _ (i : ℕ) {sheet w₀ : List ℕ} {h₀ : Held} {r : Row} (f : AllFit s
   unfolding fits_row
   fits_there us b t = rw (lt-ltb i h₀.counts.ingredients l, ← row_window w₀ i e) t
 
-  module _ {b : OptQuantity} (q : QuantityRecalled (take (r.line_end - r.line_at) (drop r.line_at sheet)) b) where
-    same : (us : List NamedUnit) {line : List ℕ} {a : OptQuantity} (new : Entry) → QuantityOf new ingredient line a
+  module _ {b : Option QuantityView} (q : QuantityRecalled (take (r.line_end - r.line_at) (drop r.line_at sheet)) b) where
+    same : (us : List NamedUnit) {line : List ℕ} {a : Option QuantityView} (new : Entry) → QuantityOf new ingredient line a
         → unit_against us new (entry_at i (table_of ingredient (state_in sheet w₀ h₀)))
         ≡ unit_pair us new (on_some (amount_of true) (opt_quantity_in line a)) (on_some (amount_of true) (opt_quantity_in (take (r.line_end - r.line_at) (drop r.line_at sheet)) b)) (entry_as ingredient sheet r by)
     same us {line} {a} new n =
         row_pair us new n ∙ ap (λ (x : Option rules.Quantity). unit_pair us new (on_some (amount_of true) (opt_quantity_in line a)) (on_some (amount_of true) x) (entry_as ingredient sheet r by)) (sym q.is)
 
-    pub row_checked : {us : List NamedUnit} {line : List ℕ} {a : OptQuantity} {w : List ℕ} {h : Held}
+    pub row_checked : {us : List NamedUnit} {line : List ℕ} {a : Option QuantityView} {w : List ℕ} {h : Held}
         → UnitsChecked us line a (take (r.line_end - r.line_at) (drop r.line_at sheet)) b w₀ h₀ w h → RowChecked us sheet line a i w₀ h₀ w h
     row_checked {us} u =
         record {
@@ -127,30 +124,30 @@ module _ (us : List NamedUnit) (sheet w : List ℕ) (h : Held) (i : ℕ) (b : Op
   not_past e n = by_order h.counts.ingredients i (λ l. no_truth (sym n ∙ e ∙ sym (fits_past l))) (λ l. l)
 
 -- a row that fits draws nothing
-pub row_skipped : {us vs : List NamedUnit} {sheet line : List ℕ} {a : OptQuantity} {has : Bool} {g x : List ℕ} {m i : ℕ} {w : List ℕ} {h : Held} {t : Bool} → AllFit sheet w h → us ≡ vs → UnitKnown us line a has g x m
-    → t ≡ fits_row us sheet w h i (pick has (some (trimmed_in g)) none) → t ≡ true → RowChecked vs sheet line a i w h w h
+pub row_skipped : {us vs : List NamedUnit} {sheet line : List ℕ} {a : Option QuantityView} {has : Bool} {g x : List ℕ} {m i : ℕ} {w : List ℕ} {h : Held} {t : Bool} → AllFit sheet w h → us ≡ vs → UnitKnown us line a has g x m
+    → t ≡ fits_row us sheet w h i (pick has (Some (trimmed_in g)) None) → t ≡ true → RowChecked vs sheet line a i w h w h
 row_skipped {us} {vs} {sheet} {line} {a} {has} {g} {i = i} {w} {h} {t} f ev k e z = by_order h.counts.ingredients i row_none there
   where
     there : i < h.counts.ingredients → RowChecked vs sheet line a i w h w h
-    there l = row_fitting i f l refl ev k (e ∙ sym (fits_there i f l refl us (pick has (some (trimmed_in g)) none) refl)) z
+    there l = row_fitting i f l refl ev k (e ∙ sym (fits_there i f l refl us (pick has (Some (trimmed_in g)) None) refl)) z
 
 -- ---- what it leaves, whatever the entry is
 
 -- some entry with the quantity
-unfoldable pub sample : Kind → List ℕ → OptQuantity → Entry
+unfoldable pub sample : Kind → List ℕ → Option QuantityView → Entry
 sample k line a =
     record {
       name = [];
-      path = none;
-      alias = none;
+      path = None;
+      alias = None;
       quantity = on_some (amount_of (is_ingredient k)) (opt_quantity_in line a);
-      note = none;
+      note = None;
       modifiers = no_modifiers;
       relation = definition true [];
-      source = record { span = blank_span; quantity = opt_quantity_in line a; note = none; modifiers_span = blank_span };
+      source = record { span = blank_span; quantity = opt_quantity_in line a; note = None; modifiers_span = blank_span };
     }
 
-pub sample_of : (k : Kind) (line : List ℕ) (a : OptQuantity) → QuantityOf (sample k line a) k line a
+pub sample_of : (k : Kind) (line : List ℕ) (a : Option QuantityView) → QuantityOf (sample k line a) k line a
 unfolding sample
 sample_of k line a = record { is_source = refl; is_amount = refl }
 
@@ -160,15 +157,15 @@ finding_few zero ps = omega arith
 finding_few (suc n) ps = omega arith
 
 pair_few : (us : List NamedUnit) (new : Entry) (p q : Option Amount) (old : Entry) → length (unit_pair us new p q old) ≤ 1
-pair_few us new none q old = unfold unit_pair in omega arith
-pair_few us new (some x) none old = unfold unit_pair in omega arith
-pair_few us new (some x) (some y) old = unfold unit_pair in finding_few _ _
+pair_few us new None q old = unfold unit_pair in omega arith
+pair_few us new (Some x) None old = unfold unit_pair in omega arith
+pair_few us new (Some x) (Some y) old = unfold unit_pair in finding_few _ _
 
 pub against_few : (us : List NamedUnit) (new : Entry) (o : Option Entry) → length (unit_against us new o) ≤ 1
-against_few us new none = unfold unit_against in omega arith
-against_few us new (some old) = unfold unit_against in pair_few us new new.quantity old.quantity old
+against_few us new None = unfold unit_against in omega arith
+against_few us new (Some old) = unfold unit_against in pair_few us new new.quantity old.quantity old
 
-module _ {us : List NamedUnit} {sheet line : List ℕ} {a : OptQuantity} {i : ℕ} {w₀ w : List ℕ} {h₀ h : Held} (c : RowChecked us sheet line a i w₀ h₀ w h) where
+module _ {us : List NamedUnit} {sheet line : List ℕ} {a : Option QuantityView} {i : ℕ} {w₀ w : List ℕ} {h₀ h : Held} (c : RowChecked us sheet line a i w₀ h₀ w h) where
   row_told : Reported (unit_against us (sample ingredient line a) (entry_at i (table_of ingredient (state_in sheet w₀ h₀)))) w₀ h₀ w h
   row_told = c.is (sample ingredient line a) (sample_of ingredient line a)
 
@@ -200,7 +197,7 @@ unfolding windows_of
 pairs_long z = long_ingredient_pairs z
 
 -- what is found from the pair at `from` on makes the whole
-pub record Going (us : List NamedUnit) (sheet line : List ℕ) (a : OptQuantity) (d : ℕ) (w₀ : List ℕ) (h₀ : Held) (w : List ℕ) (h : Held) (from : ℕ) : Type 0 where
+pub record Going (us : List NamedUnit) (sheet line : List ℕ) (a : Option QuantityView) (d : ℕ) (w₀ : List ℕ) (h₀ : Held) (w : List ℕ) (h : Held) (from : ℕ) : Type 0 where
   pub sound : Sound w h
   pub fit : AllFit sheet w h
   pub framed : Framed w₀ h₀ w h
@@ -210,7 +207,7 @@ pub record Going (us : List NamedUnit) (sheet line : List ℕ) (a : OptQuantity)
       → Reported (units_against us new (table_of ingredient (state_in sheet w₀ h₀)) (referrers_from (windows_of w₀).ingredient_pairs d from (h₀.counts.ingredient_pairs - from))) w h w₂ h₂
       → Reported (units_against us new (table_of ingredient (state_in sheet w₀ h₀)) (referrers_from (windows_of w₀).ingredient_pairs d 0 h₀.counts.ingredient_pairs)) w₀ h₀ w₂ h₂
 
-module _ {us : List NamedUnit} {sheet line : List ℕ} {a : OptQuantity} {d : ℕ} {w₀ : List ℕ} {h₀ : Held} where
+module _ {us : List NamedUnit} {sheet line : List ℕ} {a : Option QuantityView} {d : ℕ} {w₀ : List ℕ} {h₀ : Held} where
   pub going_start : Sound w₀ h₀ → AllFit sheet w₀ h₀ → h₀.counts.findings + h₀.counts.ingredient_pairs ≤ 1544 → Going us sheet line a d w₀ h₀ w₀ h₀ 0
   going_start z f l =
       let e : h₀.counts.ingredient_pairs - 0 ≡ h₀.counts.ingredient_pairs = omega arith in
@@ -233,15 +230,15 @@ module _ {us : List NamedUnit} {sheet line : List ℕ} {a : OptQuantity} {d : �
         let e : h₀.counts.ingredient_pairs - from ≡ 0 = omega arith in
         none_left (rw e (unfold referrers_from in refl))
 
-    module _ {x : Next} (n : NextReferrer (take 1026 (drop 9240 w)) h₀.counts.ingredient_pairs d from x) where
+    module _ {x : Option (ℕ × ℕ)} (n : NextReferrer (take 1026 (drop 9240 w)) h₀.counts.ingredient_pairs d from x) where
       next_is : NextAs (windows_of w₀).ingredient_pairs h₀.counts.ingredient_pairs d from x
       next_is = let e = g.framed.ingredient_pairs in let z : NextReferrer (windows_of w).ingredient_pairs h₀.counts.ingredient_pairs d from x = unfold windows_of in n in rw e at z.is
 
-      pub going_end : x ≡ NoMore → ReferrersChecked us sheet line a d w₀ h₀ w h
+      pub going_end : x ≡ None → ReferrersChecked us sheet line a d w₀ h₀ w h
       going_end e = none_left (let z = next_is in rw e at z)
 
-      module _ (i next : ℕ) (e : x ≡ Referrer i next) where
-        found : NextAs (windows_of w₀).ingredient_pairs h₀.counts.ingredient_pairs d from (Referrer i next)
+      module _ (i next : ℕ) (e : x ≡ Some (i, next)) where
+        found : NextAs (windows_of w₀).ingredient_pairs h₀.counts.ingredient_pairs d from (Some (i, next))
         found = let z = next_is in rw e at z
 
         pub going_less : from < next
@@ -264,26 +261,26 @@ module _ {us : List NamedUnit} {sheet line : List ℕ} {a : OptQuantity} {d : �
 
 -- ---- the definition, and then its referrers
 
-units_none : (us : List NamedUnit) (new : Entry) (table : List Entry) → new.quantity ≡ none → (is : List ℕ) → units_against us new table is ≡ []
+units_none : (us : List NamedUnit) (new : Entry) (table : List Entry) → new.quantity ≡ None → (is : List ℕ) → units_against us new table is ≡ []
 unfolding units_against
 units_none us new table e [] = refl
 units_none us new table e (i ∷ is) = rw (against_none (entry_at i table), units_none us new table e is)
   where
     against_none : (o : Option Entry) → unit_against us new o ≡ []
-    against_none none = unfold unit_against in refl
-    against_none (some old) = unfold unit_against unit_pair in rw e
+    against_none None = unfold unit_against in refl
+    against_none (Some old) = unfold unit_against unit_pair in rw e
 
-pub check_none : {us : List NamedUnit} {sheet line : List ℕ} {a : OptQuantity} {d : ℕ} {w : List ℕ} {h : Held} → a ≡ Absent → UnitChecked us sheet line a d w h w h
+pub check_none : {us : List NamedUnit} {sheet line : List ℕ} {a : Option QuantityView} {d : ℕ} {w : List ℕ} {h : Held} → a ≡ None → UnitChecked us sheet line a d w h w h
 unfolding unit_check opt_quantity_in on_some
 check_none {us} e = record { is = λ new p q. none_found (units_none us new _ (q ∙ rw e) _) }
 
 pub referrers_none : (k : Kind) (x : Target) (in_step : Bool) (index : ℕ) (by : List ℕ) → referrers (relation_as k (Reference x) in_step index by) ≡ []
 unfolding referrers relation_as
-referrers_none k Ingredient in_step index by = refl
-referrers_none k Step in_step index by = refl
-referrers_none k Section in_step index by = refl
+referrers_none k Ingredient in_step index _ = refl
+referrers_none k Step in_step index _ = refl
+referrers_none k Section in_step index _ = refl
 
-module _ {us : List NamedUnit} {sheet line : List ℕ} {a : OptQuantity} {d : ℕ} {w₀ w₁ : List ℕ} {h₀ h₁ : Held} {r : Row} (e : r ≡ row_of (row_at 12 (take 6156 (drop 0 w₀)) d))
+module _ {us : List NamedUnit} {sheet line : List ℕ} {a : Option QuantityView} {d : ℕ} {w₀ w₁ : List ℕ} {h₀ h₁ : Held} {r : Row} (e : r ≡ row_of (row_at 12 (take 6156 (drop 0 w₀)) d))
     (c : RowChecked us sheet line a d w₀ h₀ w₁ h₁) where
   relation_is : (earlier_at ingredient sheet w₀ h₀ d).entry.relation
       ≡ relation_as ingredient r.relation.relation r.relation.in_step r.relation.index (referrers_in (windows_of w₀).ingredient_pairs d h₀.counts.ingredient_pairs)

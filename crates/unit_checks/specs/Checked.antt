@@ -1,11 +1,10 @@
 -- What the unit check, and all checks after a reference, leave in work memory.
-use Rattle.std.specs.Prelude.{ℕ, ◌-◌, ◌<◌, ◌≡◌, List, [], Bool, true, ◌&&◌, not, eqb, ltb, take, drop}
-use Rattle.std.proofs.Math.Option.{Option, none, some}
+use Rattle.std.specs.Prelude.{ℕ, ◌-◌, ◌<◌, ◌≡◌, List, [], Bool, true, ◌&&◌, not, eqb, ltb, take, drop, Option, None, Some}
 use Rattle.rules.specs.Basic.{pick, is_some, on_some}
 use Rattle.rules.specs.Units.{NamedUnit}
 use Rattle.rules.specs.Modes.{has_advanced_units}
 use Rattle.rules.specs.Event.{Text, Quantity}
-use Rattle.rules.specs.Model.{Kind, ingredient, cookware, is_ingredient, trimmed_text, amount_of, source_of, Entry}
+use Rattle.rules.specs.Model.{Kind, ingredient, is_ingredient, trimmed_text, amount_of, source_of, Entry}
 use Rattle.rules.specs.Reference.{entry_at}
 use Rattle.rules.specs.Checks.{is_defined_in_step, compatible_unit, unit_against, units_against, unit_check, reference_checks}
 use Rattle.rules.specs.Components.{checks_after}
@@ -13,7 +12,6 @@ use Rattle.rules.specs.State.{table_of}
 use Rattle.content.specs.Contents.{kept_in}
 use Rattle.text.specs.Trims.{TrimmedTo}
 use Rattle.compatible.specs.Fitting.{unit_code, trimmed_in}
-use Rattle.parts.specs.declared.OptQuantity.{OptQuantity}
 use Rattle.parts.specs.Views.{opt_quantity_in, OptQuantityWithin}
 use Rattle.components.specs.declared.ComponentView.{ComponentView}
 use Rattle.components.specs.Views.{component_in}
@@ -24,38 +22,32 @@ use Rattle.model.specs.declared.Row.{Row}
 use Rattle.model.specs.declared.Held.{Held}
 use Rattle.memory.specs.Pushes.{count_of}
 use Rattle.checks.specs.Reports.{Reported}
-use Rattle.lookup.specs.declared.Same.{Same}
-use Rattle.lookup.specs.declared.Same.TheVariants.{At}
-use Rattle.lookup.specs.Names.{rows_in, same_of, earlier_at}
-
--- as many rows as the window of a kind holds
-abbrev pub room_of : Kind → ℕ
-room_of ingredient = 513
-room_of cookware = 257
+use Rattle.lookup.specs.Names.{rows_in, earlier_at}
+use Rattle.parts.specs.declared.QuantityView.{QuantityView}
 
 -- whether the entry of a relation is defined in a step
 pub record InStep (r : RelationRecord) (b : Bool) : Type 0 where
   pub is : (k : Kind) (by : List ℕ) → is_defined_in_step (relation_in k r by) ≡ b
 
 -- what is referred to is there
-pub record SameBelow (k : Kind) (h : Held) (to : Same) : Type 0 where
-  pub below : (i : ℕ) → to ≡ At i → i < count_of k h
+pub record SameBelow (k : Kind) (h : Held) (to : Option ℕ) : Type 0 where
+  pub below : (i : ℕ) → to ≡ Some i → i < count_of k h
 
 -- a new entry with the quantity of a line
-pub record QuantityOf (new : Entry) (k : Kind) (line : List ℕ) (a : OptQuantity) : Type 0 where
+pub record QuantityOf (new : Entry) (k : Kind) (line : List ℕ) (a : Option QuantityView) : Type 0 where
   pub is_source : new.source.quantity ≡ opt_quantity_in line a
   pub is_amount : new.quantity ≡ on_some (amount_of (is_ingredient k)) (opt_quantity_in line a)
 
 -- whether a quantity has a unit, and its field in the line
-pub record HasUnit (a : OptQuantity) (r : Bool) : Type 0 where
-  pub is : (line : List ℕ) (q : Quantity) → opt_quantity_in line a ≡ some q → is_some q.unit ≡ r
+pub record HasUnit (a : Option QuantityView) (r : Bool) : Type 0 where
+  pub is : (line : List ℕ) (q : Quantity) → opt_quantity_in line a ≡ Some q → is_some q.unit ≡ r
 
-pub record UnitField (line : List ℕ) (a : OptQuantity) (f : List ℕ) : Type 0 where
-  pub is : OptQuantityWithin line a → (q : Quantity) (t : Text) → opt_quantity_in line a ≡ some q → q.unit ≡ some t → trimmed_text t ≡ trimmed_in f
+pub record UnitField (line : List ℕ) (a : Option QuantityView) (f : List ℕ) : Type 0 where
+  pub is : OptQuantityWithin line a → (q : Quantity) (t : Text) → opt_quantity_in line a ≡ Some q → q.unit ≡ Some t → trimmed_text t ≡ trimmed_in f
 
 -- what a new unit is compared by: whether there is one, its field, that trimmed, and the number of its physical quantity
-pub record UnitKnown (us : List NamedUnit) (line : List ℕ) (a : OptQuantity) (has : Bool) (f x : List ℕ) (m : ℕ) : Type 0 where
-  pub is : (q : Quantity) → opt_quantity_in line a ≡ some q → on_some trimmed_text q.unit ≡ pick has (some (trimmed_in f)) none
+pub record UnitKnown (us : List NamedUnit) (line : List ℕ) (a : Option QuantityView) (has : Bool) (f x : List ℕ) (m : ℕ) : Type 0 where
+  pub is : (q : Quantity) → opt_quantity_in line a ≡ Some q → on_some trimmed_text q.unit ≡ pick has (Some (trimmed_in f)) None
   pub trimmed : TrimmedTo f x
   pub code : m ≡ unit_code us (kept_in x)
 
@@ -65,29 +57,29 @@ row_line sheet r = take (r.line_end - r.line_at) (drop r.line_at sheet)
 
 -- whether a quantity, where there is one, draws nothing beside a unit, or none
 unfoldable pub fits_unit : List NamedUnit → Option Quantity → Option (List ℕ) → Bool
-fits_unit us none b = true
-fits_unit us (some q) b = eqb (compatible_unit us (on_some trimmed_text q.unit) b) 0
+fits_unit us None b = true
+fits_unit us (Some q) b = eqb (compatible_unit us (on_some trimmed_text q.unit) b) 0
 
 -- the same of the row i, where it is there: the quantity is that of its line
 unfoldable pub fits_row : List NamedUnit → List ℕ → List ℕ → Held → ℕ → Option (List ℕ) → Bool
 fits_row us sheet w h i b = pick (ltb i h.counts.ingredients) (fits_unit us (component_of_line ingredient (row_line sheet (row_of (row_at 12 (rows_in ingredient w) i)))).quantity b) true
 
 -- whatever else the new entry is: its unit against that of the row i, where there is one
-pub record RowChecked (us : List NamedUnit) (sheet line : List ℕ) (a : OptQuantity) (i : ℕ) (w₀ : List ℕ) (h₀ : Held) (w : List ℕ) (h : Held) : Type 0 where
+pub record RowChecked (us : List NamedUnit) (sheet line : List ℕ) (a : Option QuantityView) (i : ℕ) (w₀ : List ℕ) (h₀ : Held) (w : List ℕ) (h : Held) : Type 0 where
   pub is : (new : Entry) → QuantityOf new ingredient line a → Reported (unit_against us new (entry_at i (table_of ingredient (state_in sheet w₀ h₀)))) w₀ h₀ w h
 
 -- against those of all rows that refer to the row d
-pub record ReferrersChecked (us : List NamedUnit) (sheet line : List ℕ) (a : OptQuantity) (d : ℕ) (w₀ : List ℕ) (h₀ : Held) (w : List ℕ) (h : Held) : Type 0 where
+pub record ReferrersChecked (us : List NamedUnit) (sheet line : List ℕ) (a : Option QuantityView) (d : ℕ) (w₀ : List ℕ) (h₀ : Held) (w : List ℕ) (h : Held) : Type 0 where
   pub is : (new : Entry) → QuantityOf new ingredient line a
       → Reported (units_against us new (table_of ingredient (state_in sheet w₀ h₀)) (referrers_from (windows_of w₀).ingredient_pairs d 0 h₀.counts.ingredient_pairs)) w₀ h₀ w h
 
 -- 15 to 17: the definition at d, then each of its references
-pub record UnitChecked (us : List NamedUnit) (sheet line : List ℕ) (a : OptQuantity) (d : ℕ) (w₀ : List ℕ) (h₀ : Held) (w : List ℕ) (h : Held) : Type 0 where
+pub record UnitChecked (us : List NamedUnit) (sheet line : List ℕ) (a : Option QuantityView) (d : ℕ) (w₀ : List ℕ) (h₀ : Held) (w : List ℕ) (h : Held) : Type 0 where
   pub is : (new : Entry) → new.source.quantity ≡ opt_quantity_in line a → new.quantity ≡ on_some (amount_of true) (opt_quantity_in line a)
       → Reported (unit_check us new (table_of ingredient (state_in sheet w₀ h₀)) (earlier_at ingredient sheet w₀ h₀ d)) w₀ h₀ w h
 
 -- they are for ingredients, with flag 4
-pub record UnitsAfter (us : List NamedUnit) (flags : ℕ) (k : Kind) (sheet line : List ℕ) (a : OptQuantity) (d : ℕ) (w₀ : List ℕ) (h₀ : Held) (w : List ℕ) (h : Held) : Type 0 where
+pub record UnitsAfter (us : List NamedUnit) (flags : ℕ) (k : Kind) (sheet line : List ℕ) (a : Option QuantityView) (d : ℕ) (w₀ : List ℕ) (h₀ : Held) (w : List ℕ) (h : Held) : Type 0 where
   pub is : (new : Entry) → QuantityOf new k line a
       → Reported (pick (is_ingredient k && has_advanced_units flags) (unit_check us new (table_of k (state_in sheet w₀ h₀)) (earlier_at k sheet w₀ h₀ d)) []) w₀ h₀ w h
 
@@ -102,7 +94,7 @@ pub record EntryChecked (k : Kind) (sheet line : List ℕ) (v : ComponentView) (
   pub is : (new : Entry) → NewOf new k line v → Reported (reference_checks (not new.modifiers.ref) new (earlier_at k sheet w₀ h₀ d).entry) w₀ h₀ w h
 
 -- 15 to 20, after a reference to a row or to none
-pub record ChecksDone (us : List NamedUnit) (flags : ℕ) (k : Kind) (sheet line : List ℕ) (v : ComponentView) (to : Same) (w₀ : List ℕ) (h₀ : Held) (w : List ℕ) (h : Held) : Type 0 where
+pub record ChecksDone (us : List NamedUnit) (flags : ℕ) (k : Kind) (sheet line : List ℕ) (v : ComponentView) (to : Option ℕ) (w₀ : List ℕ) (h₀ : Held) (w : List ℕ) (h : Held) : Type 0 where
   pub is : (new : Entry) → new.source ≡ source_of (component_in line v) → new.quantity ≡ on_some (amount_of (is_ingredient k)) (opt_quantity_in line v.quantity)
       → new.modifiers.ref ≡ v.modifiers.reference
-      → Reported (checks_after us flags k new (table_of k (state_in sheet w₀ h₀)) (on_some (earlier_at k sheet w₀ h₀) (same_of to))) w₀ h₀ w h
+      → Reported (checks_after us flags k new (table_of k (state_in sheet w₀ h₀)) (on_some (earlier_at k sheet w₀ h₀) to)) w₀ h₀ w h

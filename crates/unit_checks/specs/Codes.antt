@@ -1,7 +1,6 @@
 -- The codes of earlier ingredients' units, and where those that are not in the list stand, kept so that each line is read for its
 -- unit once.
-use Rattle.std.specs.Prelude.{ℕ, suc, ◌+◌, ◌-◌, ◌*◌, ◌/◌, ◌%◌, ◌≤◌, ◌<◌, ◌≡◌, Bool, false, ◌&&◌, List, eqb, ltb, length, get_or, set, take, drop}
-use Rattle.std.proofs.Math.Option.{Option, none, some}
+use Rattle.std.specs.Prelude.{ℕ, suc, ◌+◌, ◌-◌, ◌*◌, ◌/◌, ◌%◌, ◌≤◌, ◌<◌, ◌≡◌, Bool, false, ◌&&◌, List, eqb, ltb, length, get_or, set, take, drop, Option, None, Some}
 use Rattle.rules.specs.Basic.{pick, eq_list}
 use Rattle.rules.specs.Units.{NamedUnit}
 use Rattle.rules.specs.Event.{Text, Quantity}
@@ -13,13 +12,13 @@ use Rattle.model.specs.Rows.{component_of_line}
 
 -- 1 to 5 for a unit of a physical quantity, 6 for one that is not in the list, 7 for none
 unfoldable pub text_code : List NamedUnit → Option Text → ℕ
-text_code us none = 7
-text_code us (some t) = suc (unit_code us (trimmed_text t))
+text_code us None = 7
+text_code us (Some t) = suc (unit_code us (trimmed_text t))
 
 -- 8 where there is no quantity
 unfoldable pub amount_code : List NamedUnit → Option Quantity → ℕ
-amount_code us none = 8
-amount_code us (some q) = text_code us q.unit
+amount_code us None = 8
+amount_code us (Some q) = text_code us q.unit
 
 -- of an ingredient's line
 unfoldable pub line_code : List ℕ → List ℕ → ℕ
@@ -41,7 +40,7 @@ end_in w = w % 65536
 pub record UnitPlaced (line : List ℕ) (w : ℕ) : Type 0 where
   pub order : start_in w ≤ end_in w
   pub ends : end_in w ≤ length line
-  pub is : (q : Quantity) (s : Text) → (component_of_line ingredient line).quantity ≡ some q → q.unit ≡ some s → trimmed_text s ≡ trimmed_in (take (end_in w - start_in w) (drop (start_in w) line))
+  pub is : (q : Quantity) (s : Text) → (component_of_line ingredient line).quantity ≡ Some q → q.unit ≡ Some s → trimmed_text s ≡ trimmed_in (take (end_in w - start_in w) (drop (start_in w) line))
 
 -- w is a word of a line: it says the line's code, and from 16 on also where the unit stands
 pub record LineWord (units line : List ℕ) (w : ℕ) : Type 0 where
@@ -70,7 +69,7 @@ with_word codes i at end w = set (set (set codes (i * 3) at) (i * 3 + 1) end) (i
 
 -- whether the unit of a line is that of a field
 pub record SameUnit (line f : List ℕ) (r : Bool) : Type 0 where
-  pub is : (q : Quantity) (s : Text) → (component_of_line ingredient line).quantity ≡ some q → q.unit ≡ some s → r ≡ eq_list (trimmed_text s) (trimmed_in f)
+  pub is : (q : Quantity) (s : Text) → (component_of_line ingredient line).quantity ≡ Some q → q.unit ≡ Some s → r ≡ eq_list (trimmed_text s) (trimmed_in f)
 
 -- whether a line with the code o fits a new unit whose physical quantity has the number m, or no unit
 unfoldable pub code_fits : ℕ → Bool → ℕ → Bool

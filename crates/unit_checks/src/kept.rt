@@ -1,6 +1,5 @@
 // What the units of earlier ingredients are, kept in words so that each line is read for its unit once, and whether a new unit fits.
-ghost use Rattle.std.specs.Prelude.{◌≡◌, true, ◌&&◌, ◌+◌, ◌-◌, ◌<◌, ◌≤◌, eqb, length, take, drop};
-ghost use Rattle.std.proofs.Math.Option.{none, some};
+ghost use Rattle.std.specs.Prelude.{◌≡◌, true, ◌&&◌, ◌+◌, ◌-◌, ◌<◌, ◌≤◌, eqb, length, take, drop, None, Some};
 ghost use Rattle.rules.specs.Basic.{pick, eq_list};
 ghost use Rattle.rules.specs.Read.{parse_line};
 ghost use Rattle.rules.specs.Model.{ingredient};
@@ -193,7 +192,7 @@ pub(crate) fn line_fits(
     m: u32,
 ) -> bool
     requires { (t.now ≡ unicode_tables) × Indexed units.now index.now × CodesKept units.now sheet.now codes.old × (at ≤ end) × (end ≤ length sheet.now) × (is_of_kind ingredient (parse_line (take (end - at) (drop at sheet.now))) ≡ true) × (i < 513) × TrimmedTo f.now x.now × (m ≡ unit_code (units_from units.now 0) (kept_in x.now)) }
-    ensures { (result ≡ fits_unit (units_from units.now 0) (component_of_line ingredient (take (end - at) (drop at sheet.now))).quantity (pick has (some (trimmed_in f.now)) none)) × CodesKept units.now sheet.now codes.new }
+    ensures { (result ≡ fits_unit (units_from units.now 0) (component_of_line ingredient (take (end - at) (drop at sheet.now))).quantity (pick has (Some (trimmed_in f.now)) None)) × CodesKept units.now sheet.now codes.new }
 {
     let w = row_word(t, units, index, codes, sheet, at, end, i);
     let o = code_in(w);

@@ -4,10 +4,8 @@
 
 mod kept;
 
-ghost use Rattle.std.specs.Prelude.{◌≡◌, true, ◌+◌, ◌-◌, ◌<◌, ◌≤◌, length};
-ghost use Rattle.std.proofs.Math.Option.{none, some};
+ghost use Rattle.std.specs.Prelude.{◌≡◌, true, ◌+◌, ◌-◌, ◌<◌, ◌≤◌, length, None, Some};
 ghost use Rattle.rules.specs.Basic.{pick};
-ghost use Rattle.rules.specs.Model.{ingredient};
 ghost use Rattle.rules.specs.Units.{read_units};
 ghost use Rattle.rules.specs.Answer.{units_or};
 ghost use Rattle.unit_index.specs.Index.{Indexed};
@@ -22,26 +20,26 @@ ghost use Rattle.model.specs.Rows.{row_at, row_of};
 ghost use Rattle.model.specs.Memory.{Sound};
 ghost use Rattle.model.specs.Fits.{AllFit};
 ghost use Rattle.memory.specs.Pushes.{count_of};
-ghost use Rattle.lookup.specs.Names.{kind_of, rows_in};
+ghost use Rattle.lookup.specs.Names.{rows_in};
 ghost use Rattle.unit_checks.specs.Codes.{CodesKept};
-ghost use Rattle.unit_checks.specs.Checked.{room_of, InStep, SameBelow, HasUnit, UnitField, UnitKnown, fits_row, RowChecked, ReferrersChecked, UnitChecked, UnitsAfter, EntryChecked, ChecksDone};
+ghost use Rattle.unit_checks.specs.Checked.{InStep, SameBelow, HasUnit, UnitField, UnitKnown, fits_row, RowChecked, ReferrersChecked, UnitChecked, UnitsAfter, EntryChecked, ChecksDone};
+ghost use Rattle.model.specs.Kinds.{kind_of, room_of};
 
 use components::ComponentView;
-use lookup::Same;
-use model::{Held, Relation, RelationRecord, Row};
-use parts::{OptQuantity, OptText};
+use model::{Held, Kind, Relation, RelationRecord, Row};
+use parts::{QuantityView, TextView};
 
 // ---- rows
 
 // The row i of a kind.
-pub fn kind_row(words: &[u32], is_ingredient: bool, i: usize) -> Row
-    requires { (24157 ≤ length words.now) × (i < room_of (kind_of is_ingredient)) }
-    ensures { result ≡ row_of (row_at 12 (rows_in (kind_of is_ingredient) words.now) i) }
+pub fn kind_row(words: &[u32], kind: Kind, i: usize) -> Row
+    requires { (24157 ≤ length words.now) × (i < room_of (kind_of kind)) }
+    ensures { result ≡ row_of (row_at 12 (rows_in (kind_of kind) words.now) i) }
 {
-    if is_ingredient {
-        return model::row_at(&words[0..6156], i);
+    match kind {
+        Kind::Ingredient => model::row_at(&words[0..6156], i),
+        Kind::Cookware => model::row_at(&words[6156..9240], i),
     }
-    model::row_at(&words[6156..9240], i)
 }
 
 fn in_step(r: RelationRecord) -> bool
@@ -56,32 +54,32 @@ fn in_step(r: RelationRecord) -> bool
 
 // ---- units
 
-fn has_unit(a: OptQuantity) -> bool
+fn has_unit(a: Option<QuantityView>) -> bool
     ensures { HasUnit a result }
 {
     match a {
-        OptQuantity::Absent => false,
-        OptQuantity::Present(q) => {
+        None => false,
+        Some(q) => {
             let u = q.unit;
             match u {
-                OptText::Absent => false,
-                OptText::Present(v) => true,
+                None => false,
+                Some(v) => true,
             }
         }
     }
 }
 
 // The field of a quantity's unit in its line; nothing where there is none.
-fn unit_field<'a>(line: &'a [u8], a: OptQuantity) -> &'a [u8]
+fn unit_field<'a>(line: &'a [u8], a: Option<QuantityView>) -> &'a [u8]
     ensures { UnitField line.now a result.now }
 {
     match a {
-        OptQuantity::Absent => &line[0..0],
-        OptQuantity::Present(q) => {
+        None => &line[0..0],
+        Some(q) => {
             let u = q.unit;
             match u {
-                OptText::Absent => &line[0..0],
-                OptText::Present(v) => parts::part_of(line, v.content),
+                None => &line[0..0],
+                Some(v) => parts::part_of(line, v.content),
             }
         }
     }
@@ -104,7 +102,7 @@ fn row_fits(
     i: usize,
 ) -> bool
     requires { (t.now ≡ unicode_tables) × Indexed units.now index.now × CodesKept units.now sheet.now codes.old × Sound words.now h × AllFit sheet.now words.now h × TrimmedTo f.now x.now × (m ≡ unit_code (units_from units.now 0) (kept_in x.now)) }
-    ensures { (result ≡ fits_row (units_from units.now 0) sheet.now words.now h i (pick has (some (trimmed_in f.now)) none)) × CodesKept units.now sheet.now codes.new }
+    ensures { (result ≡ fits_row (units_from units.now 0) sheet.now words.now h i (pick has (Some (trimmed_in f.now)) None)) × CodesKept units.now sheet.now codes.new }
 {
     let n = h.counts.ingredients;
     if n <= i {
@@ -128,7 +126,7 @@ fn row_against(
     h: Held,
     sheet: &[u8],
     line: &[u8],
-    a: OptQuantity,
+    a: Option<QuantityView>,
     i: usize,
 ) -> Held
     requires { (t.now ≡ unicode_tables) × Indexed units.now index.now × OptQuantityWithin line.now a × Sound words.old h × AllFit sheet.now words.old h × (h.counts.findings < 1544) × (i < h.counts.ingredients) }
@@ -151,7 +149,7 @@ fn unit_against(
     h: Held,
     sheet: &[u8],
     line: &[u8],
-    a: OptQuantity,
+    a: Option<QuantityView>,
     has: bool,
     f: &[u8],
     x: &[u8],
@@ -177,7 +175,7 @@ fn referrer_check(
     h: Held,
     sheet: &[u8],
     line: &[u8],
-    a: OptQuantity,
+    a: Option<QuantityView>,
     has: bool,
     f: &[u8],
     x: &[u8],
@@ -192,12 +190,7 @@ fn referrer_check(
     let mut k = h;
     let mut from = 0;
     while from < n {
-        let model::Next::Referrer(i, next) = model::next_referrer(
-            &words[9240..10266],
-            n,
-            definition,
-            from,
-        ) else {
+        let Some((i, next)) = model::next_referrer(&words[9240..10266], n, definition, from) else {
             return k;
         };
         let j = i as usize;
@@ -219,13 +212,13 @@ fn unit_check(
     h: Held,
     sheet: &[u8],
     line: &[u8],
-    a: OptQuantity,
+    a: Option<QuantityView>,
     d: usize,
 ) -> Held
     requires { (t.now ≡ unicode_tables) × Indexed units.now index.now × OptQuantityWithin line.now a × Sound words.old h × AllFit sheet.now words.old h × (d < h.counts.ingredients) × (h.counts.findings + h.counts.ingredient_pairs < 1544) × CodesKept units.now sheet.now codes.old }
     ensures { UnitChecked (units_or (read_units units.now)) sheet.now line.now a d words.old h words.new result × CodesKept units.now sheet.now codes.new }
 {
-    let OptQuantity::Present(_) = a else {
+    let Some(_) = a else {
         return h;
     };
     let r = model::row_at(&words[0..6156], d);
@@ -259,21 +252,23 @@ fn units_after(
     h: Held,
     sheet: &[u8],
     line: &[u8],
-    is_ingredient: bool,
-    a: OptQuantity,
+    kind: Kind,
+    a: Option<QuantityView>,
     d: usize,
 ) -> Held
-    requires { (t.now ≡ unicode_tables) × Indexed units.now index.now × OptQuantityWithin line.now a × Sound words.old h × AllFit sheet.now words.old h × (d < count_of (kind_of is_ingredient) h) × (h.counts.findings + h.counts.ingredient_pairs < 1544) × CodesKept units.now sheet.now codes.old }
-    ensures { UnitsAfter (units_or (read_units units.now)) flags (kind_of is_ingredient) sheet.now line.now a d words.old h words.new result × CodesKept units.now sheet.now codes.new }
+    requires { (t.now ≡ unicode_tables) × Indexed units.now index.now × OptQuantityWithin line.now a × Sound words.old h × AllFit sheet.now words.old h × (d < count_of (kind_of kind) h) × (h.counts.findings + h.counts.ingredient_pairs < 1544) × CodesKept units.now sheet.now codes.old }
+    ensures { UnitsAfter (units_or (read_units units.now)) flags (kind_of kind) sheet.now line.now a d words.old h words.new result × CodesKept units.now sheet.now codes.new }
 {
-    if !is_ingredient {
-        return h;
+    match kind {
+        Kind::Cookware => h,
+        Kind::Ingredient => {
+            let bit = flags / 4 % 2;
+            if bit == 1 {
+                return unit_check(t, units, index, codes, words, h, sheet, line, a, d);
+            }
+            h
+        }
     }
-    let bit = flags / 4 % 2;
-    if bit == 1 {
-        return unit_check(t, units, index, codes, words, h, sheet, line, a, d);
-    }
-    h
 }
 
 // The checks of notes and quantities against the row d.
@@ -282,14 +277,14 @@ fn entry_check(
     h: Held,
     sheet: &[u8],
     line: &[u8],
-    is_ingredient: bool,
+    kind: Kind,
     v: ComponentView,
     d: usize,
 ) -> Held
-    requires { ComponentWithin line.now v × Sound words.old h × AllFit sheet.now words.old h × (d < count_of (kind_of is_ingredient) h) × (h.counts.findings + 2 < 1544) }
-    ensures { EntryChecked (kind_of is_ingredient) sheet.now line.now v d words.old h words.new result }
+    requires { ComponentWithin line.now v × Sound words.old h × AllFit sheet.now words.old h × (d < count_of (kind_of kind) h) × (h.counts.findings + 2 < 1544) }
+    ensures { EntryChecked (kind_of kind) sheet.now line.now v d words.old h words.new result }
 {
-    let r = kind_row(words, is_ingredient, d);
+    let r = kind_row(words, kind, d);
     let g = r.relation;
     let inside = in_step(g);
     let at = r.line_at as usize;
@@ -314,32 +309,21 @@ pub fn checks_after(
     h: Held,
     sheet: &[u8],
     line: &[u8],
-    is_ingredient: bool,
+    kind: Kind,
     v: ComponentView,
-    to: Same,
+    to: Option<usize>,
 ) -> Held
-    requires { (t.now ≡ unicode_tables) × Indexed units.now index.now × ComponentWithin line.now v × Sound words.old h × AllFit sheet.now words.old h × SameBelow (kind_of is_ingredient) h to × (h.counts.findings + h.counts.ingredient_pairs + 3 < 1544) × CodesKept units.now sheet.now codes.old }
-    ensures { ChecksDone (units_or (read_units units.now)) flags (kind_of is_ingredient) sheet.now line.now v to words.old h words.new result × CodesKept units.now sheet.now codes.new }
+    requires { (t.now ≡ unicode_tables) × Indexed units.now index.now × ComponentWithin line.now v × Sound words.old h × AllFit sheet.now words.old h × SameBelow (kind_of kind) h to × (h.counts.findings + h.counts.ingredient_pairs + 3 < 1544) × CodesKept units.now sheet.now codes.old }
+    ensures { ChecksDone (units_or (read_units units.now)) flags (kind_of kind) sheet.now line.now v to words.old h words.new result × CodesKept units.now sheet.now codes.new }
 {
     match to {
-        Same::Nothing => h,
-        Same::At(d) => {
+        None => h,
+        Some(d) => {
             let a = v.quantity;
             let k = units_after(
-                t,
-                units,
-                index,
-                flags,
-                codes,
-                words,
-                h,
-                sheet,
-                line,
-                is_ingredient,
-                a,
-                d,
+                t, units, index, flags, codes, words, h, sheet, line, kind, a, d,
             );
-            entry_check(words, k, sheet, line, is_ingredient, v, d)
+            entry_check(words, k, sheet, line, kind, v, d)
         }
     }
 }

@@ -3,7 +3,7 @@ use Prim.Native.Nat.{ℕ, suc, ◌+◌, ◌*◌, ◌≤◌, ◌<◌}
 use mathlib.Core.Path.{◌≡◌, refl, ap, sym, ◌∙◌}
 use mathlib.Core.Bool.{Bool, true, false}
 use mathlib.Core.List.{List, [], ◌∷◌}
-use mathlib.Core.Option.{Option, none, some}
+use Rattle.std.specs.Prelude.{Option, None, Some, Ok, Err}
 use native.Mathlib.Omega.{arith}
 use native.Mathlib.Numerals.{add-one}
 use borrow.Author.Tests.{eqb-true, eqb-false, leb-true, lt-ltb, le-ltb, ltb-true, ltb-false}
@@ -17,15 +17,13 @@ use Rattle.rules.specs.Units.{NamedUnit, units_of, at_most1024, read_units}
 use Rattle.rules.specs.Answer.{units_or}
 use Rattle.rules.proofs.Basics.{pick_either, by_order, no_truth}
 use Rattle.rules.proofs.Encodes.{encode_chars}
+use Rattle.refusals.specs.declared.Reason.TheVariants as reason
 use Rattle.chains.specs.Rows.{find_in, head_in}
-use Rattle.units.specs.declared.Physical.{Physical}
 use Rattle.units.specs.declared.UnitAt.{UnitAt}
-use Rattle.units.specs.declared.UnitAt.TheVariants.{End}
-use Rattle.units.specs.declared.UnitsChecked.TheVariants.{Good, Ill, Twice}
-use Rattle.units.specs.Lists.{units_from, part, named_as, UnitTurn, UnitHere}
-use Rattle.units.proofs.Turns.{units_end}
-use Rattle.units.proofs.Walks.{list_starts, check_ill, check_twice, check_good}
-use Rattle.unit_index.specs.Index.{head, start, next, longest, bucket, names, Placed, Filled, Cleared, LongestKept, LinePushed, Named, LineAdded, AllAdded, UnitsIndexed}
+use Rattle.units.specs.Quantities.{physical_in}
+use Rattle.units.specs.Lists.{units_from, part, named_as, UnitTurn}
+use Rattle.units.proofs.Walks.{list_starts, units_start}
+use Rattle.unit_index.specs.Index.{head, start, next, longest, bucket, names, Placed, Filled, Cleared, LongestKept, LinePushed, Named, LineAdded, AllAdded, units_refused, UnitsIndexed}
 use Rattle.unit_index.proofs.Names.{first_name, first_rest, all_once, one_twice}
 use Rattle.unit_index.proofs.Searches.{bucket_small}
 
@@ -133,7 +131,7 @@ module _ (m : List ℕ) (n b from x : ℕ) (few : n < 1024) (small : b < 256) (l
       ∙ get_or-set_other m (256 + n * 2) 2304 from 0 (λ q. omega arith)
 
   module _ {units : List ℕ} (z : Filled units m n) (hash : b ≡ bucket (names units n)) (e : x ≡ suc n) (room : n < length (units_from units 0))
-      (there : Placed units n from) (gone : find_in (names units) (names units n) n ≡ none) (fits : length (encode (names units n)) ≤ longest m) where
+      (there : Placed units n from) (gone : find_in (names units) (names units n) n ≡ None) (fits : length (encode (names units n)) ≤ longest m) where
     heads_now : (d : ℕ) → d < 256 → head with_line d ≡ head_in bucket (names units) d (suc n)
     unfolding head_in
     heads_now d l = go (eqb (bucket (names units n)) d) refl
@@ -171,9 +169,9 @@ module _ {units m : List ℕ} {n from to : ℕ} (z : Filled units m n) (y : Name
       small : b < 256
       small = rw h (bucket_small (chars (part units from to)))
 
-      none_is : (o : Option ℕ) → is_some o ≡ false → o ≡ none
-      none_is none e = refl
-      none_is (some i) e = unfold is_some in no_truth (sym e)
+      none_is : (o : Option ℕ) → is_some o ≡ false → o ≡ None
+      none_is None e = refl
+      none_is (Some i) e = unfold is_some in no_truth (sym e)
 
       f : Filled units (with_line m n b from (n + 1) (omega (arith, y.few, z.most)) small z.long) (suc n)
       f = line_filled m n b from (n + 1) (omega (arith, y.few, z.most)) small z.long z (h ∙ ap bucket (sym y.name)) (add-one n) y.few y.placed (none_is _ (sym told_name ∙ q)) (rw (y.name, encode_chars (part units from to) y.utf8) l)
@@ -186,10 +184,10 @@ pub record Adding (units index : List ℕ) (n at : ℕ) : Type 0 where
 
 few_units : (o : Option (List NamedUnit)) → is_some (at_most1024 o) ≡ true → length (units_or o) ≤ 1024
 unfolding at_most1024 is_some units_or
-few_units none h = no_truth h
-few_units (some us) h = go (leb (length us) 1024) refl h
+few_units None h = no_truth h
+few_units (Some us) h = go (leb (length us) 1024) refl h
   where
-    go : (t : Bool) → leb (length us) 1024 ≡ t → is_some (pick t (some us) none) ≡ true → length us ≤ 1024
+    go : (t : Bool) → leb (length us) 1024 ≡ t → is_some (pick t (Some us) None) ≡ true → length us ≤ 1024
     go true e h = leb-true (length us) 1024 e
     go false e h = unfold is_some in no_truth h
 
@@ -212,23 +210,17 @@ add_starts {units} {index} h c =
     }
 
 module _ {units index : List ℕ} {n at : ℕ} (v : Adding units index n at) where
-  ended : units_from units at ≡ [] → AllAdded units index false
-  ended e =
+  pub add_ends : units_from units at ≡ [] → AllAdded units index false
+  add_ends e =
       let q : n ≡ length (units_from units 0) = omega (arith, v.filled.few, length-drop n (units_from units 0), ap length (sym v.placed.is ∙ e)) in
       let f : Filled units index (length (units_from units 0)) = rw q at v.filled in
       record { long = v.filled.long; told = sym (all_once (units_from units 0) f.once); filled = λ _. f }
 
-  pub add_ends : length units ≤ at → AllAdded units index false
-  add_ends h = ended (units_end units at h)
-
-  pub add_out : {r : UnitAt} → UnitHere units at r → r ≡ End → AllAdded units index false
-  add_out h e = ended (h.none_left e)
-
-  module _ {e k : ℕ} {p : Physical} (t : UnitTurn units at e k p) where
-    left : drop n (units_from units 0) ≡ named_as (part units at e) t.quantity ∷ units_from units k
+  module _ {u : UnitAt} (t : UnitTurn units at u) where
+    left : drop n (units_from units 0) ≡ named_as (part units at u.name_end) (physical_in u.physical) ∷ units_from units u.next
     left = sym v.placed.is ∙ t.is
 
-    pub add_named : Named units n at e
+    pub add_named : Named units n at u.name_end
     unfolding named_as
     add_named =
         record {
@@ -244,23 +236,37 @@ module _ {units index : List ℕ} {n at : ℕ} (v : Adding units index n at) whe
       pub add_twice : r ≡ true → AllAdded units w true
       add_twice h = record { long = a.long; told = sym (one_twice (units_from units 0) n add_named.few (sym a.told ∙ h)); filled = λ q. no_truth (sym q) }
 
-      pub add_on : r ≡ false → Adding units w (n + 1) k
+      pub add_on : r ≡ false → Adding units w (n + 1) u.next
       add_on h = record { filled = a.filled h; placed = record { list = t.rest; is = rw (add-one n) (sym (first_rest (units_from units 0) n left)) } }
 
 -- ---- the answer
 
 module _ (units : List ℕ) {b : Bool} (q : b ≡ is_some (read_units units)) where
-  pub units_ill : {index : List ℕ} → length index ≡ 2305 → b ≡ false → UnitsIndexed units index Ill
-  units_ill l h = record { long = l; is = check_ill units q h; indexed = λ e. absurd (let z : ◌≡◌ {A = ℕ} 0 1 = cc in omega arith) }
+  none_read : b ≡ false → Some 5 ≡ units_refused (read_units units)
+  none_read h = go (read_units units) (sym h ∙ q)
+    where
+      go : (o : Option (List NamedUnit)) → false ≡ is_some o → Some 5 ≡ units_refused o
+      go None e = unfold units_refused in refl
+      go (Some us) e = unfold is_some in no_truth e
+
+  pub units_ill : {index : List ℕ} → length index ≡ 2305 → b ≡ false → UnitsIndexed units index (Err reason.IllUnits)
+  units_ill l h = record { long = l; is = none_read h; indexed = λ e. absurd (cc) }
 
   module _ {index : List ℕ} {t : Bool} (h : b ≡ true) (a : AllAdded units index t) where
-    pub units_twice : t ≡ true → UnitsIndexed units index Twice
-    units_twice e = record { long = a.long; is = check_twice units q h a.told e; indexed = λ o. absurd (let z : ◌≡◌ {A = ℕ} 0 1 = cc in omega arith) }
+    read_all : pick t (Some 6) None ≡ units_refused (read_units units)
+    read_all = go (read_units units) (sym q ∙ h) (units_start units (sym q ∙ h))
+      where
+        go : (o : Option (List NamedUnit)) → is_some o ≡ true → units_from units 0 ≡ units_or o → pick t (Some 6) None ≡ units_refused o
+        go None e i = unfold is_some in no_truth e
+        go (Some us) e i = unfold units_refused units_or in rw (a.told, i)
 
-    pub units_good : t ≡ false → UnitsIndexed units index Good
+    pub units_twice : t ≡ true → UnitsIndexed units index (Err reason.UnitTwice)
+    units_twice e = record { long = a.long; is = rw (← read_all, e); indexed = λ o. absurd (cc) }
+
+    pub units_good : t ≡ false → UnitsIndexed units index (Ok tt)
     units_good e =
         record {
           long = a.long;
-          is = check_good units q h a.told e;
+          is = rw (← read_all, e);
           indexed = λ _. record { list = sym q ∙ h; names_once = sym a.told ∙ e; filled = a.filled e };
         }

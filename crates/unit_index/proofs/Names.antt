@@ -3,7 +3,7 @@ use Prim.Native.Nat.{ℕ, zero, suc, ◌<◌}
 use mathlib.Core.Path.{◌≡◌, refl, ap, sym, ◌∙◌}
 use mathlib.Core.Bool.{Bool, true, false, ◌||◌}
 use mathlib.Core.List.{List, [], ◌∷◌}
-use mathlib.Core.Option.{Option, none, some}
+use Rattle.std.specs.Prelude.{Option, None, Some}
 use native.Mathlib.Omega.{arith}
 use lib.ListN.{length, drop, drop_of_length-le}
 use Rattle.rules.specs.Basic.{pick, eq_list, is_some}
@@ -42,7 +42,7 @@ find_over (u ∷ us) k zero e = rw e
 find_over (u ∷ us) k (suc i) e = find_over us k i e
 
 -- a name that the first units do not have
-pub find_drop : (us : List NamedUnit) (k : List ℕ) (i : ℕ) → find_in (name_in us) k i ≡ none → find_unit k us ≡ find_unit k (drop i us)
+pub find_drop : (us : List NamedUnit) (k : List ℕ) (i : ℕ) → find_in (name_in us) k i ≡ None → find_unit k us ≡ find_unit k (drop i us)
 find_drop us k zero q = refl
 find_drop us k (suc i) q =
     let z = find_none (name_in us) k i q in
@@ -54,15 +54,15 @@ find_has [] k i l e = absurd (omega arith)
 find_has (u ∷ us) k zero l e = rw e
 find_has (u ∷ us) k (suc i) l e = go (eq_list k u.name) (find_has us k i (omega arith) e)
   where
-    go : (t : Bool) → is_some (find_unit k us) ≡ true → is_some (pick t (some u.physical) (find_unit k us)) ≡ true
+    go : (t : Bool) → is_some (find_unit k us) ≡ true → is_some (pick t (Some u.physical) (find_unit k us)) ≡ true
     go true h = unfold is_some in refl
     go false h = h
 
-pub gone_all : (us : List NamedUnit) (k : List ℕ) → find_in (name_in us) k (length us) ≡ none → find_unit k us ≡ none
+pub gone_all : (us : List NamedUnit) (k : List ℕ) → find_in (name_in us) k (length us) ≡ None → find_unit k us ≡ None
 unfolding find_unit
 gone_all us k q = find_drop us k (length us) q ∙ rw (drop_of_length-le us {i = length us} (omega arith))
 
-pub found_all : (us : List NamedUnit) (k : List ℕ) {i : ℕ} → find_in (name_in us) k (length us) ≡ some i → is_some (find_unit k us) ≡ true
+pub found_all : (us : List NamedUnit) (k : List ℕ) {i : ℕ} → find_in (name_in us) k (length us) ≡ Some i → is_some (find_unit k us) ≡ true
 found_all us k {i} q = find_has us k i (find_below (name_in us) k (length us) i q) (find_equal (name_in us) k (length us) i q)
 
 -- ---- a name twice
@@ -74,7 +74,7 @@ eq_back a b q = go (eq_list b a) refl
     go false e = refl
     go true e = let h : b ≡ a = eq_true b a e in no_truth (sym q ∙ rw h (eq_itself a))
 
-find_not : (us : List NamedUnit) (k : List ℕ) → ((i : ℕ) → i < length us → eq_list k (name_in us i) ≡ false) → find_unit k us ≡ none
+find_not : (us : List NamedUnit) (k : List ℕ) → ((i : ℕ) → i < length us → eq_list k (name_in us i) ≡ false) → find_unit k us ≡ None
 unfolding name_in find_unit
 find_not [] k h = refl
 find_not (u ∷ us) k h = rw (h 0 (omega arith)) (find_not us k (λ i l. h (suc i) (omega arith)))
@@ -96,7 +96,7 @@ twice_some (u ∷ us) zero (suc j) l h e = rw (find_has us u.name j (omega arith
 twice_some (u ∷ us) (suc i) (suc j) l h e = rw (twice_some us i j (omega arith) (omega arith) e) (or_true (is_some (find_unit u.name us)))
 
 -- no unit has the name of one before it
-pub all_once : (us : List NamedUnit) → ((i : ℕ) → i < length us → find_in (name_in us) (name_in us i) i ≡ none) → name_twice us ≡ false
+pub all_once : (us : List NamedUnit) → ((i : ℕ) → i < length us → find_in (name_in us) (name_in us i) i ≡ None) → name_twice us ≡ false
 all_once us h = twice_none us (λ i j a b. eq_back (name_in us j) (name_in us i) (find_others (name_in us) (name_in us j) j (h j b) i a))
 
 -- one has
@@ -104,7 +104,7 @@ pub one_twice : (us : List NamedUnit) (n : ℕ) → n < length us → is_some (f
 one_twice us n l q = go (find_in (name_in us) (name_in us n) n) refl q
   where
     go : (o : Option ℕ) → find_in (name_in us) (name_in us n) n ≡ o → is_some o ≡ true → name_twice us ≡ true
-    go none e p = unfold is_some in no_truth p
-    go (some i) e p =
+    go None e p = unfold is_some in no_truth p
+    go (Some i) e p =
         let h : name_in us n ≡ name_in us i = eq_true (name_in us n) (name_in us i) (find_equal (name_in us) (name_in us n) n i e) in
         twice_some us i n (find_below (name_in us) (name_in us n) n i e) l (rw h (eq_itself (name_in us i)))

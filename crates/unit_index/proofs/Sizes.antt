@@ -2,7 +2,7 @@
 use Prim.Native.Nat.{ℕ, zero, suc, pred, ◌+◌, ◌*◌, ◌≤◌, ◌<◌}
 use mathlib.Core.Path.{◌≡◌, refl, ap, ◌∙◌}
 use mathlib.Core.List.{List, [], ◌∷◌}
-use mathlib.Core.Option.{Option, none, some}
+use Rattle.std.specs.Prelude.{Option, None, Some}
 use native.Mathlib.Omega.{arith}
 use lib.Dec.{eqb, ltb}
 use lib.ListN.{length, drop, length-append, length-drop}
@@ -32,8 +32,8 @@ encode_some c =
 -- one that is not escaped takes no more bytes than it has
 first_long : (a : ℕ) (s : List ℕ) (o : Option ℕ) → first_of a s ≡ o → suc (followers a o) ≤ length (encode_char (char_or o))
 unfolding followers char_or
-first_long a s none e = encode_some 65533
-first_long a s (some c) e =
+first_long a s None e = encode_some 65533
+first_long a s (Some c) e =
     let b = begins a s c e in
     omega (arith, ap length (begins_encode b), length-take-le (pred (size_of a)) s (begins_fits b))
 
@@ -45,8 +45,8 @@ of_long (a ∷ s) = first_long a s (first_of a s) refl
 -- an escape takes two bytes
 pair_long : (o : Option ℕ) → (pair_in o).size ≤ length (encode_char (pair_in o).code) * 2
 unfolding pair_in
-pair_long none = omega (arith, encode_some 92)
-pair_long (some x) = omega (arith, encode_some x)
+pair_long None = omega (arith, encode_some 92)
+pair_long (Some x) = omega (arith, encode_some x)
 
 char_long : (s : List ℕ) → (char_in s).size ≤ length (encode_char (char_in s).code) * 2
 unfolding char_in

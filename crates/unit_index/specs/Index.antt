@@ -1,17 +1,14 @@
 -- The index of a unit list in words: what the chains of its lines are.
-use Rattle.std.specs.Prelude.{ℕ, zero, suc, ◌+◌, ◌*◌, ◌/◌, ◌%◌, ◌≤◌, ◌<◌, ◌≡◌, Bool, true, false, List, [], ◌∷◌, ltb, length, get_or, set, drop}
-use Rattle.std.proofs.Math.Option.{none, some}
+use Rattle.std.specs.Prelude.{ℕ, zero, suc, ◌+◌, ◌*◌, ◌/◌, ◌%◌, ◌≤◌, ◌<◌, ◌≡◌, Bool, true, false, List, [], ◌∷◌, ltb, length, get_or, set, drop, Option, None, Some, Result, Ok}
 use Rattle.rules.specs.Basic.{pick, is_some}
 use Rattle.rules.specs.Utf8.{is_utf8, chars, encode}
-use Rattle.rules.specs.Units.{PhysicalQuantity, NamedUnit, read_units, name_twice}
+use Rattle.rules.specs.Units.{NamedUnit, read_units, name_twice}
+use Rattle.refusals.specs.declared.Reason.{Reason}
+use Rattle.refusals.specs.Told.{number_told}
 use Rattle.content.specs.Contents.{content_in}
 use Rattle.chains.specs.Hashes.{hash_of}
 use Rattle.chains.specs.Rows.{find_in, head_in}
-use Rattle.units.specs.declared.UnitsChecked.{UnitsChecked}
-use Rattle.units.specs.declared.UnitsChecked.TheVariants.{Good}
-use Rattle.units.specs.Quantities.{physical_as}
-use Rattle.units.specs.Lists.{units_checked_of, is_list_from, units_from, part, named_as}
-use Rattle.unit_index.specs.declared.Line.{Line}
+use Rattle.units.specs.Lists.{is_list_from, units_from, part}
 
 -- ---- words
 
@@ -50,16 +47,6 @@ pub record LineIn (units : List ℕ) (from : ℕ) : Type 0 where
   pub list : is_list_from units from ≡ true
   pub more : 0 < length (units_from units from)
 
--- its name ends at r.to
-pub record LineAt (units : List ℕ) (from : ℕ) (r : Line) : Type 0 where
-  pub quantity : PhysicalQuantity
-  pub others : List NamedUnit
-  pub said : r.physical ≡ physical_as (some quantity)
-  pub is : units_from units from ≡ named_as (part units from r.to) quantity ∷ others
-  pub utf8 : is_utf8 (part units from r.to) ≡ true
-  pub named : from < r.to
-  pub within : r.to ≤ length units
-
 -- ---- the index
 
 module _ (units : List ℕ) where
@@ -80,7 +67,7 @@ pub record Filled (units index : List ℕ) (n : ℕ) : Type 0 where
   pub lines : (i : ℕ) → i < n → Placed units i (start index i)
   pub heads : (b : ℕ) → b < 256 → head index b ≡ head_in bucket (names units) b n
   pub nexts : (i : ℕ) → i < n → next index i ≡ head_in bucket (names units) (bucket (names units i)) i
-  pub once : (i : ℕ) → i < n → find_in (names units) (names units i) i ≡ none
+  pub once : (i : ℕ) → i < n → find_in (names units) (names units i) i ≡ None
   pub short : (i : ℕ) → i < n → length (encode (names units i)) ≤ longest index
 
 -- all lines of a well-formed list are in
@@ -127,7 +114,12 @@ pub record AllAdded (units index : List ℕ) (r : Bool) : Type 0 where
   pub told : r ≡ name_twice (units_from units 0)
   pub filled : r ≡ false → Filled units index (length (units_from units 0))
 
-pub record UnitsIndexed (units index : List ℕ) (r : UnitsChecked) : Type 0 where
+-- "5 unit line ill-formed or a 1,025th; 6 unit name twice"
+unfoldable pub units_refused : Option (List NamedUnit) → Option ℕ
+units_refused None = Some 5
+units_refused (Some us) = pick (name_twice us) (Some 6) None
+
+pub record UnitsIndexed (units index : List ℕ) (r : Result (Unit {0}) Reason) : Type 0 where
   pub long : length index ≡ 2305
-  pub is : r ≡ units_checked_of (read_units units)
-  pub indexed : r ≡ Good → Indexed units index
+  pub is : number_told r ≡ units_refused (read_units units)
+  pub indexed : r ≡ Ok tt → Indexed units index

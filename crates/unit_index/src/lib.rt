@@ -4,86 +4,59 @@
 #![tactic(auto)]
 
 ghost use Rattle.std.specs.Prelude.{◌≡◌, true, ◌-◌, ◌≤◌, ◌<◌, length};
-ghost use Rattle.rules.specs.Basic.{is_some, eq_list};
+ghost use Rattle.rules.specs.Basic.{is_some, eq_list, on_some};
 ghost use Rattle.rules.specs.Utf8.{is_utf8, chars};
 ghost use Rattle.rules.specs.Units.{read_units, find_unit};
 ghost use Rattle.content.specs.Contents.{content_in, kept_in};
-ghost use Rattle.units.specs.Quantities.{physical_as};
-ghost use Rattle.units.specs.Lists.{units_from};
+ghost use Rattle.units.specs.Quantities.{physical_in};
+ghost use Rattle.units.specs.Lists.{units_from, UnitTurn};
 ghost use Rattle.chains.specs.Rows.{find_in};
-ghost use Rattle.unit_index.specs.Index.{names, bucket, head, start, next, longest, first_of, LineIn, LineAt, Filled, Indexed, Linked, Cleared, LongestKept, LinePushed, Named, LineAdded, AllAdded, UnitsIndexed};
+ghost use Rattle.unit_index.specs.Index.{names, bucket, head, start, next, longest, first_of, LineIn, Filled, Indexed, Linked, Cleared, LongestKept, LinePushed, Named, LineAdded, AllAdded, UnitsIndexed};
 
-use units::{Physical, UnitAt, UnitsChecked};
-
-fn wide(x: u32) -> usize
-    ensures { result ≡ x }
-{
-    x as usize
-}
+use refusals::Reason;
+use units::{Physical, UnitAt};
 
 fn head_at(index: &[u32], b: usize) -> usize
     requires { (b < 256) × (length index.now ≡ 2305) }
     ensures { result ≡ head index.now b }
 {
-    wide(index[b])
+    index[b] as usize
 }
 
 fn start_at(index: &[u32], i: usize) -> usize
     requires { (i < 1024) × (length index.now ≡ 2305) }
     ensures { result ≡ start index.now i }
 {
-    let at = 256 + i * 2;
-    wide(index[at])
+    index[256 + i * 2] as usize
 }
 
 fn next_at(index: &[u32], i: usize) -> usize
     requires { (i < 1024) × (length index.now ≡ 2305) }
     ensures { result ≡ next index.now i }
 {
-    let at = 257 + i * 2;
-    wide(index[at])
+    index[257 + i * 2] as usize
 }
 
 fn longest_in(index: &[u32]) -> usize
     requires { length index.now ≡ 2305 }
     ensures { result ≡ longest index.now }
 {
-    wide(index[2304])
+    index[2304] as usize
 }
 
-// A line of the list: where its name ends, and its physical quantity.
-#[derive(Clone, Copy)]
-struct Line {
-    to: usize,
-    physical: Physical,
-}
-
-fn line_at(units: &[u8], from: usize) -> Line
+fn line_at(units: &[u8], from: usize) -> UnitAt
     requires { LineIn units.now from }
-    ensures { LineAt units.now from result }
+    ensures { UnitTurn units.now from result }
 {
-    match units::unit_at(units, from) {
-        UnitAt::End => Line {
-            to: from,
-            physical: Physical::Unknown,
-        },
-        UnitAt::Unit {
-            name_end,
-            next: _,
-            physical,
-        } => Line {
-            to: name_end,
-            physical,
-        },
-    }
+    units::unit_at(units, from).unwrap()
 }
 
 // ---- the names of a list
 
 // What the content of a field, its blanks collapsed, stands for.
-pub fn find_named(units: &[u8], index: &[u32], name: &[u8]) -> Physical
+pub fn find_named(units: &[u8], index: &[u32], name: &[u8]) -> Option<Physical>
     requires { Indexed units.now index.now }
-    ensures { result ≡ physical_as (find_unit (kept_in name.now) (units_from units.now 0)) }
+    ensures { on_some physical_in result ≡ find_unit (kept_in name.now) (units_from units.now 0) }
 {
     let h = chains::hash_kept(name) % 256;
     let mut p = head_at(index, h);
@@ -91,13 +64,13 @@ pub fn find_named(units: &[u8], index: &[u32], name: &[u8]) -> Physical
         let i = p - 1;
         let from = start_at(index, i);
         let u = line_at(units, from);
-        let to = u.to;
+        let to = u.name_end;
         if content::same_content(name, &units[from..to]) {
-            return u.physical;
+            return Some(u.physical);
         }
         p = next_at(index, i);
     }
-    Physical::Unknown
+    None
 }
 
 // The chain of the content of a field's part: one more than the number of its first line, or 0; also 0 where the content is seen
@@ -121,7 +94,7 @@ pub fn is_named(units: &[u8], index: &[u32], p: usize, name: &[u8]) -> bool
     let i = p - 1;
     let from = start_at(index, i);
     let u = line_at(units, from);
-    let to = u.to;
+    let to = u.name_end;
     content::same_chars(name, &units[from..to])
 }
 
@@ -157,7 +130,7 @@ fn has_name(units: &[u8], index: &[u32], n: usize, name: &[u8], b: usize) -> boo
         let i = p - 1;
         let from = start_at(index, i);
         let u = line_at(units, from);
-        if units::is_named(units, from, u.to, name) {
+        if units::is_named(units, from, u.name_end, name) {
             return true;
         }
         p = next_at(index, i);
@@ -211,38 +184,27 @@ fn add_lines(units: &[u8], index: &mut [u32]) -> bool
 {
     let mut n = 0;
     let mut at = 0;
-    while at < units.len() {
-        match units::unit_at(units, at) {
-            UnitAt::End => {
-                return false;
-            }
-            UnitAt::Unit {
-                name_end,
-                next,
-                physical: _,
-            } => {
-                if add_line(units, index, n, at, name_end) {
-                    return true;
-                }
-                n += 1;
-                at = next;
-            }
+    while let Some(u) = units::unit_at(units, at) {
+        if add_line(units, index, n, at, u.name_end) {
+            return true;
         }
+        n += 1;
+        at = u.next;
     }
     false
 }
 
 // The unit list as it is lent: refusal 5 where it is ill-formed, refusal 6 where a name stands twice; else its index.
-pub fn index_units(units: &[u8], index: &mut [u32]) -> UnitsChecked
+pub fn index_units(units: &[u8], index: &mut [u32]) -> Result<(), Reason>
     requires { (length units.now ≤ 16384) × (length index.old ≡ 2305) }
     ensures { UnitsIndexed units.now index.new result }
 {
     if !units::is_list(units) {
-        return UnitsChecked::Ill;
+        return Err(Reason::IllUnits);
     }
     clear_heads(index);
     if add_lines(units, index) {
-        return UnitsChecked::Twice;
+        return Err(Reason::UnitTwice);
     }
-    UnitsChecked::Good
+    Ok(())
 }

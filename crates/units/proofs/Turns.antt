@@ -2,7 +2,7 @@
 use Prim.Native.Nat.{ℕ, suc, ◌+◌, ◌-◌, ◌≤◌, ◌<◌}
 use mathlib.Core.Path.{◌≡◌, refl, ap, sym, ◌∙◌}
 use mathlib.Core.Bool.{true}
-use mathlib.Core.Option.{Option, none, some}
+use Rattle.std.specs.Prelude.{Option, None, Some}
 use mathlib.Core.List.{List, [], ◌∷◌, ◌++◌, append_assoc}
 use native.Mathlib.Omega.{arith}
 use borrow.Author.Tests.{le-leb, eqb-true}
@@ -20,10 +20,8 @@ use Rattle.rules.proofs.SameChars.{eq_true}
 use Rattle.sheet.specs.Lines.{fields_from, field_at}
 use Rattle.units.specs.declared.Physical.{Physical}
 use Rattle.units.specs.declared.Physical.TheVariants.{Volume, Mass, Length, Temperature, Time}
-use Rattle.units.specs.declared.UnitAt.{UnitAt}
-use Rattle.units.specs.declared.UnitAt.TheVariants.{Unit, End}
-use Rattle.units.specs.Quantities.{physical_as}
-use Rattle.units.specs.Lists.{is_list_from, units_from, part, named_as, UnitTurn, UnitHere}
+use Rattle.units.specs.Quantities.{physical_in}
+use Rattle.units.specs.Lists.{is_list_from, units_from, part, named_as, UnitTurn}
 use Rattle.units.proofs.Parts.{Line, line_of}
 
 -- ---- the five words
@@ -35,7 +33,7 @@ data PhysicalWord : List ℕ → PhysicalQuantity → Type 0 where
   is_temperature : PhysicalWord (codes "temperature") temperature
   is_time : PhysicalWord (codes "time") time
 
-stands_for : (w : List ℕ) (q : PhysicalQuantity) → word_in w physical_words ≡ some q → PhysicalWord w q
+stands_for : (w : List ℕ) (q : PhysicalQuantity) → word_in w physical_words ≡ Some q → PhysicalWord w q
 unfolding word_in
 stands_for w q e =
     pick_either P (eq_list w (codes "volume")) _ _ (λ t e. this is_volume t e)
@@ -46,9 +44,9 @@ stands_for w q e =
     e
   where
     P : Option PhysicalQuantity → Type 0
-    P o = o ≡ some q → PhysicalWord w q
+    P o = o ≡ Some q → PhysicalWord w q
 
-    this : {v : List ℕ} {x : PhysicalQuantity} → PhysicalWord v x → eq_list w v ≡ true → some x ≡ some q → PhysicalWord w q
+    this : {v : List ℕ} {x : PhysicalQuantity} → PhysicalWord v x → eq_list w v ≡ true → Some x ≡ Some q → PhysicalWord w q
     this {v} {x} p t e = let h : x ≡ q = some_inj e in rw (eq_true w v t, ← h) p
 
 -- ---- the rest of a list
@@ -84,7 +82,7 @@ named_unit_lem : (u : NamedUnit) (n : List ℕ) → u.name ≡ chars n → u ≡
 unfolding named_as
 named_unit_lem u n e = rw (← e)
 
-ahead_line : (l r : List ℕ) (u : NamedUnit) → lines (l ++ (lf ∷ r)) ≡ more l (lines r) → unit_of l ≡ some u → is_some (units_of (lines r)) ≡ true → Line l u
+ahead_line : (l r : List ℕ) (u : NamedUnit) → lines (l ++ (lf ∷ r)) ≡ more l (lines r) → unit_of l ≡ Some u → is_some (units_of (lines r)) ≡ true → Line l u
     → Ahead (l ++ (lf ∷ r))
 ahead_line l r u c e h a =
     record {
@@ -103,8 +101,8 @@ ahead_line l r u c e h a =
   where
     go : (o : Option (List NamedUnit)) → units_of (lines r) ≡ o → is_some o ≡ true
         → units_or (units_of (more l (lines r))) ≡ named_as a.name u.physical ∷ units_or (units_of (lines r))
-    go none q h = unfold is_some in no_truth h
-    go (some us) q h = unfold units_of units_or with_unit in rw (e, q, ← named_unit_lem u a.name a.said)
+    go None q h = unfold is_some in no_truth h
+    go (Some us) q h = unfold units_of units_or with_unit in rw (e, q, ← named_unit_lem u a.name a.said)
 
 ahead_cut : {t : List ℕ} {ls : Lines} → LineCut t ls → lines t ≡ ls → is_some (units_of ls) ≡ true → 0 < length t → Ahead t
 ahead_cut (lastly l) c h z = go l z h
@@ -115,9 +113,9 @@ ahead_cut (lastly l) c h z = go l z h
 ahead_cut (firstly l r) c h z = unfold units_of in (go (unit_of l) refl (units_of (lines r)) refl h)
   where
     go : (o : Option NamedUnit) → unit_of l ≡ o → (us : Option (List NamedUnit)) → units_of (lines r) ≡ us → is_some (with_unit o us) ≡ true → Ahead (l ++ (lf ∷ r))
-    go none q us i h = unfold with_unit is_some in no_truth h
-    go (some u) q none i h = unfold with_unit is_some in no_truth h
-    go (some u) q (some us) i h = ahead_line l r u c q (unfold is_some in rw i) (line_of l u q)
+    go None q us i h = unfold with_unit is_some in no_truth h
+    go (Some u) q None i h = unfold with_unit is_some in no_truth h
+    go (Some u) q (Some us) i h = ahead_line l r u c q (unfold is_some in rw i) (line_of l u q)
 
 ahead : (s : List ℕ) (at : ℕ) → is_list_from s at ≡ true → at < length s → Ahead (drop at s)
 unfolding is_list_from
@@ -153,15 +151,14 @@ module _ (s : List ℕ) (at : ℕ) (a : Ahead (drop at s)) where
   unfolding field_at fields_from fields_of
   field_at_lem h e = e ∙ rw (le-leb at (length s) h, a.is, split_more tab (a.word ++ (lf ∷ a.rest)) refl a.clean)
 
-  turn : (k : ℕ) (p : Physical) → k ≡ at + length a.name + 1 + length a.word + 1 → p ≡ physical_as (some a.quantity) → UnitTurn s at (at + length a.name) k p
+  turn : (k : ℕ) (p : Physical) → k ≡ at + length a.name + 1 + length a.word + 1 → physical_in p ≡ a.quantity
+      → UnitTurn s at (record { name_end = at + length a.name; next = k; physical = p })
   unfolding units_from is_list_from
   turn k p e q =
       let l = long in
       let n = a.named in
       record {
-        quantity = a.quantity;
-        said = q;
-        is = rw (part_at, rest_at k e) a.units;
+        is = rw (part_at, rest_at k e, q) a.units;
         named = omega arith;
         ended = omega arith;
         within = omega arith;
@@ -169,29 +166,16 @@ module _ (s : List ℕ) (at : ℕ) (a : Ahead (drop at s)) where
         rest = rw (rest_at k e) a.left;
       }
 
-pub here : {s : List ℕ} {at e k : ℕ} {p : Physical} {r : UnitAt} → r ≡ Unit e k p → UnitTurn s at e k p → UnitHere s at r
-here {s} {at} {e} {k} {p} {r} u t =
-    record {
-      none_left = λ q. absurd (let z : ◌≡◌ {A = ℕ} 0 1 = cc in omega arith);
-      unit = λ f l o q. same (sym u ∙ q) t;
-    }
-  where
-    same : {e k f l : ℕ} {p q : Physical} → Unit e k p ≡ Unit f l q → UnitTurn s at e k p → UnitTurn s at f l q
-    same {e} {k} {f} {l} {p} {q} u t = let a : e ≡ f = cc in let b : k ≡ l = cc in let c : p ≡ q = cc in rw (← a, ← b, ← c) t
-
 -- no unit is left at the end
 pub units_end : (s : List ℕ) (at : ℕ) → length s ≤ at → units_from s at ≡ []
 unfolding units_from lines units_of is_empty units_or
 units_end s at h = rw (drop_of_length-le s h)
 
-pub end_here : (s : List ℕ) (at : ℕ) → length s ≤ at → UnitHere s at End
-end_here s at h = record { none_left = λ q. units_end s at h; unit = λ e k p q. absurd (let z : ◌≡◌ {A = ℕ} 0 1 = cc in omega arith) }
-
 -- ---- which word it is, by its first two letters
 
 record Worded (w : List ℕ) (q : PhysicalQuantity) (n : ℕ) (p : Physical) : Type 0 where
   long : length w ≡ n
-  says : p ≡ physical_as (some q)
+  says : physical_in p ≡ q
 
 word_least : {w : List ℕ} {q : PhysicalQuantity} → PhysicalWord w q → 4 ≤ length w
 word_least is_volume = omega arith
@@ -201,7 +185,7 @@ word_least is_temperature = omega arith
 word_least is_time = omega arith
 
 volume_word : {w : List ℕ} {q : PhysicalQuantity} → PhysicalWord w q → get_or w 0 0 ≡ 118 → Worded w q 6 Volume
-unfolding physical_as
+unfolding physical_in
 volume_word is_volume e = record { long = refl; says = refl }
 volume_word is_mass e = absurd (omega arith)
 volume_word is_length e = absurd (omega arith)
@@ -209,7 +193,7 @@ volume_word is_temperature e = absurd (omega arith)
 volume_word is_time e = absurd (omega arith)
 
 mass_word : {w : List ℕ} {q : PhysicalQuantity} → PhysicalWord w q → get_or w 0 0 ≡ 109 → Worded w q 4 Mass
-unfolding physical_as
+unfolding physical_in
 mass_word is_volume e = absurd (omega arith)
 mass_word is_mass e = record { long = refl; says = refl }
 mass_word is_length e = absurd (omega arith)
@@ -217,7 +201,7 @@ mass_word is_temperature e = absurd (omega arith)
 mass_word is_time e = absurd (omega arith)
 
 length_word : {w : List ℕ} {q : PhysicalQuantity} → PhysicalWord w q → get_or w 0 0 ≡ 108 → Worded w q 6 Length
-unfolding physical_as
+unfolding physical_in
 length_word is_volume e = absurd (omega arith)
 length_word is_mass e = absurd (omega arith)
 length_word is_length e = record { long = refl; says = refl }
@@ -225,7 +209,7 @@ length_word is_temperature e = absurd (omega arith)
 length_word is_time e = absurd (omega arith)
 
 time_word : {w : List ℕ} {q : PhysicalQuantity} → PhysicalWord w q → get_or w 1 0 ≡ 105 → Worded w q 4 Time
-unfolding physical_as
+unfolding physical_in
 time_word is_volume e = absurd (omega arith)
 time_word is_mass e = absurd (omega arith)
 time_word is_length e = absurd (omega arith)
@@ -234,7 +218,7 @@ time_word is_time e = record { long = refl; says = refl }
 
 other_word : {w : List ℕ} {q : PhysicalQuantity} → PhysicalWord w q → (get_or w 0 0 ≡ 118 → ⊥) → (get_or w 0 0 ≡ 109 → ⊥) → (get_or w 0 0 ≡ 108 → ⊥)
     → (get_or w 1 0 ≡ 105 → ⊥) → Worded w q 11 Temperature
-unfolding physical_as
+unfolding physical_in
 other_word is_volume n m l i = absurd (n refl)
 other_word is_mass n m l i = absurd (m refl)
 other_word is_length n m l i = absurd (l refl)
@@ -266,25 +250,26 @@ module _ (s : List ℕ) (at : ℕ) {f : List ℕ} (h : is_list_from s at ≡ tru
   pub letters_in : at + length f + 1 + 1 < length s
   letters_in = omega (arith, word_least it.stands, long s at it, ap length its)
 
-  turned : {p : Physical} (n k : ℕ) → Worded it.word it.quantity n p → k ≡ at + length f + 1 + n + 1 → UnitTurn s at (at + length f) k p
+  turned : {p : Physical} (n k : ℕ) → Worded it.word it.quantity n p → k ≡ at + length f + 1 + n + 1
+      → UnitTurn s at (record { name_end = at + length f; next = k; physical = p })
   turned {p} n k w q =
       let i : k ≡ at + length it.name + 1 + length it.word + 1 = omega (arith, w.long, ap length its) in
       rw its (turn s at it k p i w.says)
 
-  pub volume_turn : get_or s (at + length f + 1) 0 ≡ 118 → UnitTurn s at (at + length f) (at + length f + 1 + 7) Volume
+  pub volume_turn : get_or s (at + length f + 1) 0 ≡ 118 → UnitTurn s at (record { name_end = at + length f; next = at + length f + 1 + 7; physical = Volume })
   volume_turn q = turned 6 _ (volume_word it.stands (sym first_letter ∙ q)) (omega arith)
 
-  pub mass_turn : get_or s (at + length f + 1) 0 ≡ 109 → UnitTurn s at (at + length f) (at + length f + 1 + 5) Mass
+  pub mass_turn : get_or s (at + length f + 1) 0 ≡ 109 → UnitTurn s at (record { name_end = at + length f; next = at + length f + 1 + 5; physical = Mass })
   mass_turn q = turned 4 _ (mass_word it.stands (sym first_letter ∙ q)) (omega arith)
 
-  pub length_turn : get_or s (at + length f + 1) 0 ≡ 108 → UnitTurn s at (at + length f) (at + length f + 1 + 7) Length
+  pub length_turn : get_or s (at + length f + 1) 0 ≡ 108 → UnitTurn s at (record { name_end = at + length f; next = at + length f + 1 + 7; physical = Length })
   length_turn q = turned 6 _ (length_word it.stands (sym first_letter ∙ q)) (omega arith)
 
-  pub time_turn : get_or s (at + length f + 1 + 1) 0 ≡ 105 → UnitTurn s at (at + length f) (at + length f + 1 + 5) Time
+  pub time_turn : get_or s (at + length f + 1 + 1) 0 ≡ 105 → UnitTurn s at (record { name_end = at + length f; next = at + length f + 1 + 5; physical = Time })
   time_turn q = turned 4 _ (time_word it.stands (sym second_letter ∙ q)) (omega arith)
 
   pub temperature_turn : (get_or s (at + length f + 1) 0 ≡ 118 → ⊥) → (get_or s (at + length f + 1) 0 ≡ 109 → ⊥) → (get_or s (at + length f + 1) 0 ≡ 108 → ⊥)
-      → (get_or s (at + length f + 1 + 1) 0 ≡ 105 → ⊥) → UnitTurn s at (at + length f) (at + length f + 1 + 12) Temperature
+      → (get_or s (at + length f + 1 + 1) 0 ≡ 105 → ⊥) → UnitTurn s at (record { name_end = at + length f; next = at + length f + 1 + 12; physical = Temperature })
   temperature_turn n m o i =
       turned 11 _
       (other_word it.stands (λ q. n (first_letter ∙ q)) (λ q. m (first_letter ∙ q)) (λ q. o (first_letter ∙ q)) (λ q. i (second_letter ∙ q)))

@@ -2,7 +2,7 @@
 use Prim.Native.Nat.{ℕ, suc, ◌+◌, ◌-◌, ◌≤◌, ◌<◌}
 use mathlib.Core.Path.{◌≡◌, refl, ap, sym, ◌∙◌}
 use mathlib.Core.Bool.{Bool, true, false}
-use mathlib.Core.Option.{Option, none, some}
+use Rattle.std.specs.Prelude.{Option, None, Some}
 use mathlib.Core.List.{List, [], ◌∷◌}
 use native.Mathlib.Omega.{arith}
 use borrow.Author.Tests.{le-leb, lt-leb}
@@ -11,29 +11,21 @@ use lib.ListN.{length, drop, length-drop, drop_of_length-le}
 use lib.Seq.{length-take-le}
 use Rattle.rules.specs.Basic.{pick, eq_list, is_empty, is_some}
 use Rattle.rules.specs.Sheet.{last, more, lines}
-use Rattle.rules.specs.Units.{NamedUnit, unit_of, with_unit, units_of, at_most1024, read_units, name_twice}
+use Rattle.rules.specs.Units.{NamedUnit, unit_of, with_unit, units_of, at_most1024, read_units}
 use Rattle.rules.specs.Answer.{units_or}
 use Rattle.rules.proofs.Basics.{no_truth}
 use Rattle.sheet.proofs.Tests.{eq_length}
-use Rattle.sheet.specs.declared.LineEnd.{LineEnd}
-use Rattle.sheet.specs.declared.LineEnd.TheVariants.{At, Nothing}
 use Rattle.sheet.specs.Lines.{lines_from, LineAt}
-use Rattle.units.specs.declared.Physical.{Physical}
-use Rattle.units.specs.declared.UnitLine.{UnitLine}
-use Rattle.units.specs.declared.UnitLine.TheVariants as line
-use Rattle.units.specs.declared.UnitsChecked.TheVariants.{Good, Ill, Twice}
-use Rattle.units.specs.declared.UnitAt.TheVariants.{Unit}
-use Rattle.units.specs.Quantities.{unit_line_as}
-use Rattle.units.specs.Lists.{units_checked_of, is_list_from, units_from, part}
+use Rattle.units.specs.Lists.{is_list_from, units_from, part}
 
 -- ---- a list that was read
 
 read_some : (o : Option (List NamedUnit)) → is_some (at_most1024 o) ≡ true → (is_some o ≡ true) × (units_or o ≡ units_or (at_most1024 o))
 unfolding at_most1024 is_some units_or
-read_some none h = no_truth h
-read_some (some us) h = go (leb (length us) 1024) h
+read_some None h = no_truth h
+read_some (Some us) h = go (leb (length us) 1024) h
   where
-    go : (t : Bool) → is_some (pick t (some us) none) ≡ true → (is_some (some us) ≡ true) × (units_or (some us) ≡ units_or (pick t (some us) none))
+    go : (t : Bool) → is_some (pick t (Some us) None) ≡ true → (is_some (Some us) ≡ true) × (units_or (Some us) ≡ units_or (pick t (Some us) None))
     go true h = (unfold is_some in refl, refl)
     go false h = unfold is_some in no_truth h
 
@@ -63,8 +55,8 @@ module _ (s name : List ℕ) (at : ℕ) {e : ℕ} where
 
 -- the units are read, and n and they are at most 1,024
 unfoldable pub counted : ℕ → Option (List NamedUnit) → Bool
-counted n none = false
-counted n (some us) = leb (n + length us) 1024
+counted n None = false
+counted n (Some us) = leb (n + length us) 1024
 
 pub record Counting (s : List ℕ) (at n : ℕ) : Type 0 where
   pub most : n ≤ 1024
@@ -72,10 +64,10 @@ pub record Counting (s : List ℕ) (at n : ℕ) : Type 0 where
 
 counted_read : (o : Option (List NamedUnit)) → counted 0 o ≡ is_some (at_most1024 o)
 unfolding counted at_most1024 is_some
-counted_read none = refl
-counted_read (some us) = let k : 0 + length us ≡ length us = omega arith in rw k (go (leb (length us) 1024))
+counted_read None = refl
+counted_read (Some us) = let k : 0 + length us ≡ length us = omega arith in rw k (go (leb (length us) 1024))
   where
-    go : (t : Bool) → t ≡ is_some (pick t (some us) none)
+    go : (t : Bool) → t ≡ is_some (pick t (Some us) None)
     go true = unfold is_some in refl
     go false = unfold is_some in refl
 
@@ -85,14 +77,14 @@ counting_starts s = record { most = omega arith; is = counted_read (units_of (li
 
 counted_full : (u : Option NamedUnit) (us : Option (List NamedUnit)) → counted 1024 (with_unit u us) ≡ false
 unfolding counted with_unit
-counted_full none us = refl
-counted_full (some u) none = refl
-counted_full (some u) (some us) = lt-leb (1024 + suc (length us)) 1024 (omega arith)
+counted_full None us = refl
+counted_full (Some u) None = refl
+counted_full (Some u) (Some us) = lt-leb (1024 + suc (length us)) 1024 (omega arith)
 
-counted_more : (n : ℕ) (u : NamedUnit) (us : Option (List NamedUnit)) → counted n (with_unit (some u) us) ≡ counted (n + 1) us
+counted_more : (n : ℕ) (u : NamedUnit) (us : Option (List NamedUnit)) → counted n (with_unit (Some u) us) ≡ counted (n + 1) us
 unfolding counted with_unit
-counted_more n u none = refl
-counted_more n u (some us) = let k : n + suc (length us) ≡ n + 1 + length us = omega arith in rw k
+counted_more n u None = refl
+counted_more n u (Some us) = let k : n + suc (length us) ≡ n + 1 + length us = omega arith in rw k
 
 module _ {s : List ℕ} {at n : ℕ} (i : Counting s at n) where
   pub counting_end : length s ≤ at → true ≡ is_some (read_units s)
@@ -101,7 +93,7 @@ module _ {s : List ℕ} {at n : ℕ} (i : Counting s at n) where
       all : counted n (units_of (lines (drop at s))) ≡ true
       all = unfold lines units_of is_empty counted in rw (drop_of_length-le s h) (le-leb (n + 0) 1024 (omega (arith, i.most)))
 
-  pub counting_open : {r : LineEnd} → at < length s → LineAt s at r → r ≡ Nothing → false ≡ is_some (read_units s)
+  pub counting_open : {r : Option ℕ} → at < length s → LineAt s at r → r ≡ None → false ≡ is_some (read_units s)
   counting_open {r} l a e = sym none_read ∙ i.is
     where
       here : lines (drop at s) ≡ last (drop at s)
@@ -114,7 +106,7 @@ module _ {s : List ℕ} {at n : ℕ} (i : Counting s at n) where
       none_read : counted n (units_of (lines (drop at s))) ≡ false
       none_read = rw here (ill (drop at s) (omega (arith, length-drop at s)))
 
-  module _ {r : LineEnd} {e : ℕ} (a : LineAt s at r) (q : r ≡ At e) where
+  module _ {r : Option ℕ} {e : ℕ} (a : LineAt s at r) (q : r ≡ Some e) where
     cut : units_of (lines (drop at s)) ≡ with_unit (unit_of (part s at e)) (units_of (lines (drop (e + 1) s)))
     cut = unfold units_of in (ap units_of parted)
       where
@@ -124,46 +116,19 @@ module _ {s : List ℕ} {at n : ℕ} (i : Counting s at n) where
     pub counting_full : n ≡ 1024 → false ≡ is_some (read_units s)
     counting_full h = sym (counted_full (unit_of (part s at e)) (units_of (lines (drop (e + 1) s)))) ∙ rw (← h, ← cut) i.is
 
-    module _ {u : UnitLine} (v : u ≡ unit_line_as (part s at e) (unit_of (part s at e))) where
-      pub counting_ill : u ≡ line.Ill → false ≡ is_some (read_units s)
+    module _ {b : Bool} (v : b ≡ is_some (unit_of (part s at e))) where
+      pub counting_ill : b ≡ false → false ≡ is_some (read_units s)
       counting_ill h = go (unit_of (part s at e)) (sym h ∙ v) (sym i.is ∙ ap (counted n) cut)
         where
-          go : (o : Option NamedUnit) → line.Ill ≡ unit_line_as (part s at e) o → is_some (read_units s) ≡ counted n (with_unit o (units_of (lines (drop (e + 1) s))))
+          go : (o : Option NamedUnit) → false ≡ is_some o → is_some (read_units s) ≡ counted n (with_unit o (units_of (lines (drop (e + 1) s))))
               → false ≡ is_some (read_units s)
-          go none w c = unfold with_unit counted in sym c
-          go (some x) w c = unfold unit_line_as in absurd (let z : ◌≡◌ {A = ℕ} 0 1 = cc in omega arith)
+          go None w c = unfold with_unit counted in sym c
+          go (Some x) w c = unfold is_some in no_truth w
 
-      pub counting_on : {m : ℕ} {p : Physical} → (n ≡ 1024 → ⊥) → u ≡ line.Unit m p → Counting s (e + 1) (n + 1)
-      counting_on {m} {p} z h = record { most = omega (arith, i.most); is = go (unit_of (part s at e)) (sym h ∙ v) (sym i.is ∙ ap (counted n) cut) }
+      pub counting_on : (n ≡ 1024 → ⊥) → b ≡ true → Counting s (e + 1) (n + 1)
+      counting_on z h = record { most = omega (arith, i.most); is = go (unit_of (part s at e)) (sym h ∙ v) (sym i.is ∙ ap (counted n) cut) }
         where
-          go : (o : Option NamedUnit) → line.Unit m p ≡ unit_line_as (part s at e) o → is_some (read_units s) ≡ counted n (with_unit o (units_of (lines (drop (e + 1) s))))
+          go : (o : Option NamedUnit) → true ≡ is_some o → is_some (read_units s) ≡ counted n (with_unit o (units_of (lines (drop (e + 1) s))))
               → counted (n + 1) (units_of (lines (drop (e + 1) s))) ≡ is_some (read_units s)
-          go none w c = unfold unit_line_as in absurd (let z : ◌≡◌ {A = ℕ} 0 1 = cc in omega arith)
-          go (some x) w c = sym (c ∙ counted_more n x (units_of (lines (drop (e + 1) s))))
-
--- ---- the answer
-
-module _ (s : List ℕ) {b : Bool} (q : b ≡ is_some (read_units s)) where
-  pub check_ill : b ≡ false → Ill ≡ units_checked_of (read_units s)
-  check_ill h = go (read_units s) (sym h ∙ q)
-    where
-      go : (o : Option (List NamedUnit)) → false ≡ is_some o → Ill ≡ units_checked_of o
-      go none e = unfold units_checked_of in refl
-      go (some us) e = unfold is_some in no_truth e
-
-  pub check_list : b ≡ true → is_list_from s 0 ≡ true
-  check_list h = list_starts s (sym q ∙ h)
-
-  checked : b ≡ true → units_checked_of (read_units s) ≡ pick (name_twice (units_from s 0)) Twice Good
-  checked h = go (read_units s) (sym q ∙ h) (units_start s (sym q ∙ h))
-    where
-      go : (o : Option (List NamedUnit)) → is_some o ≡ true → units_from s 0 ≡ units_or o → units_checked_of o ≡ pick (name_twice (units_from s 0)) Twice Good
-      go none e i = unfold is_some in no_truth e
-      go (some us) e i = unfold units_checked_of units_or in rw i
-
-  module _ {t : Bool} (h : b ≡ true) (w : t ≡ name_twice (units_from s 0)) where
-    pub check_twice : t ≡ true → Twice ≡ units_checked_of (read_units s)
-    check_twice e = sym (checked h ∙ rw (← w, e))
-
-    pub check_good : t ≡ false → Good ≡ units_checked_of (read_units s)
-    check_good e = sym (checked h ∙ rw (← w, e))
+          go None w c = unfold is_some in no_truth (sym w)
+          go (Some x) w c = sym (c ∙ counted_more n x (units_of (lines (drop (e + 1) s))))

@@ -9,8 +9,8 @@ use lib.ListN.{length, get_or, get_or-eq_default}
 use borrow.Author.Tests.{ltb-true, ltb-false, le-leb, lt-leb, eq-eqb, ne_eqb, not-true, not-false}
 use Rattle.rules.specs.Basic.{pick}
 use Rattle.rules.specs.Utf8.{lowest, highest, second, later, sized, is_inside}
-use Rattle.utf8.specs.declared.Decoded.TheVariants.{Char, Fault}
-use Rattle.utf8.specs.Decoding.{decoded_as}
+use Rattle.std.specs.Prelude.{Option, None, Some}
+use Rattle.utf8.specs.Decoding.{char_with, decoded_as}
 
 pub byte_past : (s : List ℕ) (at : ℕ) → length s ≤ at → 0 ≡ get_or s at 0
 byte_past s at h = sym (get_or-eq_default s 0 h)
@@ -153,53 +153,53 @@ module _ (a b : ℕ) where
 -- ---- characters of two, three and four bytes
 
 module _ (a b : ℕ) (t : Bool) (et : t ≡ second a b) where
-  pub two_fault : not t ≡ true → Fault ≡ decoded_as 2 (sized 2 a (b ∷ []))
+  pub two_fault : not t ≡ true → None ≡ decoded_as 2 (sized 2 a (b ∷ []))
   unfolding sized decoded_as
   two_fault n = simp (← et, not-true t n)
 
-  pub two_char : not t ≡ false → (x y : ℕ) → x ≡ a → y ≡ b → Char (x % 32 * 64 + y % 64) 2 ≡ decoded_as 2 (sized 2 a (b ∷ []))
+  pub two_char : not t ≡ false → (x y : ℕ) → x ≡ a → y ≡ b → Some (char_with (x % 32 * 64 + y % 64) 2) ≡ decoded_as 2 (sized 2 a (b ∷ []))
   unfolding sized decoded_as
   two_char n x y ex ey = rw (ex, ey) (simp (← et, not-false t n))
 
   module _ (c : ℕ) where
-    pub three_fault : not t ≡ true → Fault ≡ decoded_as 3 (sized 3 a (b ∷ c ∷ []))
+    pub three_fault : not t ≡ true → None ≡ decoded_as 3 (sized 3 a (b ∷ c ∷ []))
     unfolding sized decoded_as
     three_fault n = simp (← et, not-true t n)
 
-    pub four_fault : (d : ℕ) → not t ≡ true → Fault ≡ decoded_as 4 (sized 4 a (b ∷ c ∷ d ∷ []))
+    pub four_fault : (d : ℕ) → not t ≡ true → None ≡ decoded_as 4 (sized 4 a (b ∷ c ∷ d ∷ []))
     unfolding sized decoded_as
     four_fault d n = simp (← et, not-true t n)
 
     module _ (u : Bool) (eu : u ≡ later c) (n : not t ≡ false) where
-      pub three_fault_2 : not u ≡ true → Fault ≡ decoded_as 3 (sized 3 a (b ∷ c ∷ []))
+      pub three_fault_2 : not u ≡ true → None ≡ decoded_as 3 (sized 3 a (b ∷ c ∷ []))
       unfolding sized decoded_as
       three_fault_2 m = simp (← et, not-false t n, ← eu, not-true u m)
 
       pub three_char : not u ≡ false → (x y z : ℕ) → x ≡ a → y ≡ b → z ≡ c
-          → Char (x % 16 * 4096 + y % 64 * 64 + z % 64) 3 ≡ decoded_as 3 (sized 3 a (b ∷ c ∷ []))
+          → Some (char_with (x % 16 * 4096 + y % 64 * 64 + z % 64) 3) ≡ decoded_as 3 (sized 3 a (b ∷ c ∷ []))
       unfolding sized decoded_as
       three_char m x y z ex ey ez = rw (ex, ey, ez) (simp (← et, not-false t n, ← eu, not-false u m))
 
       module _ (d : ℕ) where
-        pub four_fault_2 : not u ≡ true → Fault ≡ decoded_as 4 (sized 4 a (b ∷ c ∷ d ∷ []))
+        pub four_fault_2 : not u ≡ true → None ≡ decoded_as 4 (sized 4 a (b ∷ c ∷ d ∷ []))
         unfolding sized decoded_as
         four_fault_2 m = simp (← et, not-false t n, ← eu, not-true u m)
 
         module _ (v : Bool) (ev : v ≡ later d) (m : not u ≡ false) where
-          pub four_fault_3 : not v ≡ true → Fault ≡ decoded_as 4 (sized 4 a (b ∷ c ∷ d ∷ []))
+          pub four_fault_3 : not v ≡ true → None ≡ decoded_as 4 (sized 4 a (b ∷ c ∷ d ∷ []))
           unfolding sized decoded_as
           four_fault_3 o = simp (← et, not-false t n, ← eu, not-false u m, ← ev, not-true v o)
 
           pub four_char : not v ≡ false → (x y z w : ℕ) → x ≡ a → y ≡ b → z ≡ c → w ≡ d
-              → Char (x % 8 * 262144 + y % 64 * 4096 + z % 64 * 64 + w % 64) 4 ≡ decoded_as 4 (sized 4 a (b ∷ c ∷ d ∷ []))
+              → Some (char_with (x % 8 * 262144 + y % 64 * 4096 + z % 64 * 64 + w % 64) 4) ≡ decoded_as 4 (sized 4 a (b ∷ c ∷ d ∷ []))
           unfolding sized decoded_as
           four_char o x y z w ex ey ez ew =
               rw (ex, ey, ez, ew) (simp (← et, not-false t n, ← eu, not-false u m, ← ev, not-false v o))
 
 -- a byte that is missing is 0
-pub three_none : (a b : ℕ) → Fault ≡ decoded_as 3 (sized 3 a (b ∷ 0 ∷ []))
+pub three_none : (a b : ℕ) → None ≡ decoded_as 3 (sized 3 a (b ∷ 0 ∷ []))
 three_none a b = go (second a b) refl
   where
-    go : (t : Bool) → t ≡ second a b → Fault ≡ decoded_as 3 (sized 3 a (b ∷ 0 ∷ []))
+    go : (t : Bool) → t ≡ second a b → None ≡ decoded_as 3 (sized 3 a (b ∷ 0 ∷ []))
     go false e = three_fault a b false e 0 refl
     go true e = three_fault_2 a b true e 0 false (later_low 0 (omega arith)) refl refl

@@ -8,16 +8,16 @@ use lib.ListN.{length, get_or, drop, take, length-drop}
 use lib.Seq.{take-length, get_or-drop}
 use Rattle.rules.specs.Utf8.{size_of, second, later, sized, first_of}
 use Rattle.rules.proofs.Begins.{size_1, size_2, size_3, size_4, size_low, size_high}
-use Rattle.utf8.specs.declared.Decoded.{Decoded}
-use Rattle.utf8.specs.declared.Decoded.TheVariants.{Char, Fault}
-use Rattle.utf8.specs.Decoding.{decoded_as, decoded_of}
+use Rattle.utf8.specs.declared.Char.{Char}
+use Rattle.std.specs.Prelude.{Option, None, Some}
+use Rattle.utf8.specs.Decoding.{char_with, decoded_as, decoded_of}
 use Rattle.utf8.proofs.Bytes.{byte_past, later_low, later_second, two_fault, two_char, three_none}
 
 -- the part of a slice from a place on, as the logic has it
 pub part_rest : (s : List ℕ) (at : ℕ) → take (length s - at) (drop at s) ≡ drop at s
 part_rest s at = rw (← length-drop at s, take-length)
 
-pub first_empty : (s : List ℕ) → length s < 1 → Fault ≡ decoded_of s
+pub first_empty : (s : List ℕ) → length s < 1 → None ≡ decoded_of s
 unfolding decoded_of
 first_empty [] h = refl
 first_empty (a ∷ s) h = absurd (omega arith)
@@ -46,16 +46,16 @@ module _ (s : List ℕ) (a : ℕ) (some : 1 ≤ length s) (ea : a ≡ get_or s 0
       go [] h e = absurd (omega arith)
       go (b ∷ t) h e = unfold decoded_of first_of in rw (← e, z)
 
-  pub first_one : a < 128 → (x : ℕ) → x ≡ a → Char x 1 ≡ decoded_of s
+  pub first_one : a < 128 → (x : ℕ) → x ≡ a → Some (char_with x 1) ≡ decoded_of s
   first_one h x e = rw (of_size 1 (size_1 a (omega arith)), e) (unfold sized decoded_as in refl)
 
-  pub first_low : 128 ≤ a → a < 194 → Fault ≡ decoded_of s
+  pub first_low : 128 ≤ a → a < 194 → None ≡ decoded_of s
   first_low h g = rw (of_size 0 (size_low a h g)) (unfold sized decoded_as in refl)
 
-  pub first_high : 245 ≤ a → Fault ≡ decoded_of s
+  pub first_high : 245 ≤ a → None ≡ decoded_of s
   first_high h = rw (of_size 0 (size_high a h)) (unfold sized decoded_as in refl)
 
-  module _ (b : ℕ) (eb : b ≡ get_or s 1 0) (r : Decoded) where
+  module _ (b : ℕ) (eb : b ≡ get_or s 1 0) (r : Option Char) where
     pub first_two : 194 ≤ a → a < 224 → r ≡ decoded_as 2 (sized 2 a (b ∷ [])) → r ≡ decoded_of s
     first_two h g e = e ∙ ap (decoded_as 2) (same_2 a b (drop 1 s) (eb ∙ after 0)) ∙ sym (of_size 2 (size_2 a h (omega arith)))
 
@@ -80,10 +80,10 @@ module _ (s : List ℕ) (at : ℕ) (h : at < length s) where
   there : (i : ℕ) → get_or s (at + i) 0 ≡ get_or (drop at s) i 0
   there i = sym (get_or-drop at s i 0)
 
-  pub low_at : 128 ≤ get_or s at 0 → get_or s at 0 < 194 → Fault ≡ decoded_of (drop at s)
+  pub low_at : 128 ≤ get_or s at 0 → get_or s at 0 < 194 → None ≡ decoded_of (drop at s)
   low_at l m = first_low (drop at s) (get_or s at 0) rest here l m
 
-  module _ (b : ℕ) (eb : b ≡ get_or s (at + 1) 0) (r : Decoded) where
+  module _ (b : ℕ) (eb : b ≡ get_or s (at + 1) 0) (r : Option Char) where
     pub two_at : 194 ≤ get_or s at 0 → get_or s at 0 < 224 → r ≡ decoded_as 2 (sized 2 (get_or s at 0) (b ∷ [])) → r ≡ decoded_of (drop at s)
     two_at l m e = first_two (drop at s) (get_or s at 0) rest here b (eb ∙ there 1) r l m e
 
@@ -96,15 +96,15 @@ module _ (s : List ℕ) (at : ℕ) (h : at < length s) where
       by : t ≡ second (get_or s at 0) b
       by = et ∙ later_second (get_or s at 0) b m
 
-      pub two_fault_at : not t ≡ true → Fault ≡ decoded_of (drop at s)
-      two_fault_at n = two_at b eb Fault l m (two_fault (get_or s at 0) b t by n)
+      pub two_fault_at : not t ≡ true → None ≡ decoded_of (drop at s)
+      two_fault_at n = two_at b eb None l m (two_fault (get_or s at 0) b t by n)
 
-      pub two_char_at : not t ≡ false → (x y : ℕ) → x ≡ get_or s at 0 → y ≡ b → Char (x % 32 * 64 + y % 64) 2 ≡ decoded_of (drop at s)
-      two_char_at n x y ex ey = two_at b eb (Char (x % 32 * 64 + y % 64) 2) l m (two_char (get_or s at 0) b t by n x y ex ey)
+      pub two_char_at : not t ≡ false → (x y : ℕ) → x ≡ get_or s at 0 → y ≡ b → Some (char_with (x % 32 * 64 + y % 64) 2) ≡ decoded_of (drop at s)
+      two_char_at n x y ex ey = two_at b eb (Some (char_with (x % 32 * 64 + y % 64) 2)) l m (two_char (get_or s at 0) b t by n x y ex ey)
 
   -- the slice ends before the character does
-  pub two_end : 194 ≤ get_or s at 0 → get_or s at 0 < 224 → length s ≤ at + 1 → Fault ≡ decoded_of (drop at s)
+  pub two_end : 194 ≤ get_or s at 0 → get_or s at 0 < 224 → length s ≤ at + 1 → None ≡ decoded_of (drop at s)
   two_end l m k = two_fault_at 0 (byte_past s (at + 1) k) l m false (later_low 0 (omega arith)) refl
 
-  pub three_end : 224 ≤ get_or s at 0 → get_or s at 0 < 240 → length s ≤ at + 2 → Fault ≡ decoded_of (drop at s)
-  three_end l m k = three_at (get_or s (at + 1) 0) refl Fault 0 (byte_past s (at + 2) k) l m (three_none (get_or s at 0) (get_or s (at + 1) 0))
+  pub three_end : 224 ≤ get_or s at 0 → get_or s at 0 < 240 → length s ≤ at + 2 → None ≡ decoded_of (drop at s)
+  three_end l m k = three_at (get_or s (at + 1) 0) refl None 0 (byte_past s (at + 2) k) l m (three_none (get_or s at 0) (get_or s (at + 1) 0))

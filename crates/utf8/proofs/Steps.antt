@@ -2,7 +2,7 @@
 use mathlib.Core.Path.{◌≡◌, refl}
 use mathlib.Core.Bool.{true, false, not}
 use mathlib.Core.List.{List, [], ◌∷◌}
-use mathlib.Core.Option.{Option, none, some}
+use Rattle.std.specs.Prelude.{Option, None, Some}
 use Prim.Native.Nat.{ℕ, ◌≤◌, ◌<◌, ◌+◌}
 use native.Mathlib.Omega.{arith}
 use lib.ListN.{length, drop, length-drop}
@@ -12,9 +12,7 @@ use Rattle.rules.specs.Utf8.{first_of, first_fault, is_utf8, followers, chars_fr
 use Rattle.rules.proofs.Chars.{skip_chars, fits}
 use Rattle.rules.proofs.Scalars.{Scalar, char_scalar}
 use Rattle.utf8.specs.declared.Char.{Char}
-use Rattle.utf8.specs.declared.Checked.TheVariants.{Valid, Fault}
 use Rattle.utf8.specs.Reading.{char_of}
-use Rattle.utf8.specs.Checking.{checked_of}
 
 -- ---- the code point at a place
 
@@ -46,18 +44,18 @@ char_step s at ch h e =
 
 -- ---- whether bytes are UTF-8
 
-pub valid_utf8 : (s : List ℕ) → checked_of (first_fault s) ≡ Valid → is_utf8 s ≡ true
+pub valid_utf8 : (s : List ℕ) → first_fault s ≡ None → is_utf8 s ≡ true
 unfolding is_utf8
 valid_utf8 s = go (first_fault s)
   where
-    go : (o : Option ℕ) → checked_of o ≡ Valid → not (is_some o) ≡ true
-    go none e = unfold is_some in refl
-    go (some i) e = unfold checked_of in absurd (let z : ◌≡◌ {A = ℕ} 0 1 = cc in omega arith)
+    go : (o : Option ℕ) → o ≡ None → not (is_some o) ≡ true
+    go None e = unfold is_some in refl
+    go (Some i) e = cc
 
-pub fault_utf8 : (s : List ℕ) (i : ℕ) → checked_of (first_fault s) ≡ Fault i → is_utf8 s ≡ false
+pub fault_utf8 : (s : List ℕ) (i : ℕ) → first_fault s ≡ Some i → is_utf8 s ≡ false
 unfolding is_utf8
 fault_utf8 s i = go (first_fault s)
   where
-    go : (o : Option ℕ) → checked_of o ≡ Fault i → not (is_some o) ≡ false
-    go none e = unfold checked_of in absurd (let z : ◌≡◌ {A = ℕ} 0 1 = cc in omega arith)
-    go (some j) e = unfold is_some in refl
+    go : (o : Option ℕ) → o ≡ Some i → not (is_some o) ≡ false
+    go None e = cc
+    go (Some j) e = unfold is_some in refl

@@ -1,7 +1,8 @@
 -- What a decoded character says of the bytes from its place on.
 use mathlib.Core.Path.{◌≡◌, refl, sym, ap, ◌∙◌}
 use mathlib.Core.List.{List, [], ◌∷◌}
-use mathlib.Core.Option.{Option, none, some}
+use Rattle.std.specs.Prelude.{Option, None, Some}
+use Rattle.std.specs.Option.{unwrap_or}
 use Prim.Native.Nat.{ℕ, zero, suc, ◌≤◌, ◌<◌, ◌+◌}
 use native.Mathlib.Omega.{arith}
 use lib.ListN.{length, get_or, drop, length-drop, drop_of_length-le}
@@ -9,16 +10,9 @@ use lib.Seq.{drop-drop, drop-cons}
 use Rattle.rules.specs.Utf8.{size_of, first_of, fault_from, fault_or, first_fault, char_or, followers}
 use Rattle.rules.proofs.Begins.{Begins, begins, begins_fits, begins_size, size_1, first_some, one}
 use Rattle.rules.proofs.Chars.{skip_fault, fault_begins}
-use Rattle.utf8.specs.declared.Decoded.{Decoded}
-use Rattle.utf8.specs.declared.Decoded.TheVariants as decoded
 use Rattle.utf8.specs.declared.Char.{Char}
-use Rattle.utf8.specs.declared.Checked.TheVariants.{Valid, Fault}
-use Rattle.utf8.specs.Decoding.{decoded_as, decoded_of, decoded_size}
+use Rattle.utf8.specs.Decoding.{char_with, decoded_as, decoded_of, decoded_size}
 use Rattle.utf8.specs.Reading.{char_of}
-use Rattle.utf8.specs.Checking.{checked_of}
-
-abbrev pub char_with : ℕ → ℕ → Char
-char_with c n = record { code = c; size = n }
 
 -- t starts with the character c of n bytes
 record Found (t : List ℕ) (c n : ℕ) : Type 0 where
@@ -43,29 +37,29 @@ found_begins {a} {s} {c} g =
 found_ascii : (a : ℕ) (s : List ℕ) → a < 128 → Found (a ∷ s) a 1
 found_ascii a s l = let k : a ≤ 127 = omega arith in rw (← size_1 a k) (found_begins (one k))
 
-found : (t : List ℕ) (c n : ℕ) → decoded_of t ≡ decoded.Char c n → Found t c n
+found : (t : List ℕ) (ch : Char) → decoded_of t ≡ Some ch → Found t ch.code ch.size
 unfolding decoded_of
-found [] c n e = absurd (let z : ◌≡◌ {A = ℕ} 0 1 = cc in omega arith)
-found (a ∷ s) c n e = go (first_of a s) refl e
+found [] ch e = cc
+found (a ∷ s) ch e = go (first_of a s) refl e
   where
-    go : (o : Option ℕ) → first_of a s ≡ o → decoded_as (size_of a) o ≡ decoded.Char c n → Found (a ∷ s) c n
-    go none f q = unfold decoded_as in absurd (let z : ◌≡◌ {A = ℕ} 0 1 = cc in omega arith)
-    go (some d) f q = unfold decoded_as in (let h : d ≡ c = cc in let k : size_of a ≡ n = cc in rw (← k, ← h) (found_begins (begins a s d f)))
+    go : (o : Option ℕ) → first_of a s ≡ o → decoded_as (size_of a) o ≡ Some ch → Found (a ∷ s) ch.code ch.size
+    go None f q = unfold decoded_as in cc
+    go (Some d) f q = unfold decoded_as in (let z : char_with d (size_of a) ≡ ch = cc in rw (← z) (found_begins (begins a s d f)))
 
 -- no character starts where t does
 record Missed (t : List ℕ) : Type 0 where
-  here : (at : ℕ) → fault_from at 0 t ≡ some at
+  here : (at : ℕ) → fault_from at 0 t ≡ Some at
   char : char_with 0xfffd 1 ≡ char_of t
 
-missed : (t : List ℕ) → 1 ≤ length t → decoded_of t ≡ decoded.Fault → Missed t
+missed : (t : List ℕ) → 1 ≤ length t → decoded_of t ≡ None → Missed t
 unfolding decoded_of
 missed [] h e = absurd (omega arith)
 missed (a ∷ s) h e = go (first_of a s) refl e
   where
-    go : (o : Option ℕ) → first_of a s ≡ o → decoded_as (size_of a) o ≡ decoded.Fault → Missed (a ∷ s)
-    go none f q =
+    go : (o : Option ℕ) → first_of a s ≡ o → decoded_as (size_of a) o ≡ None → Missed (a ∷ s)
+    go None f q =
         record { here = λ at. unfold fault_from fault_or in rw f; char = unfold char_of char_or followers in rw f }
-    go (some d) f q = unfold decoded_as in absurd (let z : ◌≡◌ {A = ℕ} 0 1 = cc in omega arith)
+    go (Some d) f q = unfold decoded_as in cc
 
 -- the same by how many bytes it takes
 record FoundSize (t : List ℕ) (n : ℕ) : Type 0 where
@@ -75,16 +69,16 @@ record FoundSize (t : List ℕ) (n : ℕ) : Type 0 where
 found_size : (t : List ℕ) (n : ℕ) → n ≡ decoded_size (decoded_of t) → (n ≡ 0 → ⊥) → FoundSize t n
 found_size t n e m = go (decoded_of t) refl e
   where
-    go : (d : Decoded) → decoded_of t ≡ d → n ≡ decoded_size d → FoundSize t n
-    go decoded.Fault f q = absurd (m (unfold decoded_size in q))
-    go (decoded.Char c k) f q = let z : n ≡ k = unfold decoded_size in q in record { code = c; it = rw z (found t c k f) }
+    go : (d : Option Char) → decoded_of t ≡ d → n ≡ decoded_size d → FoundSize t n
+    go None f q = absurd (m (unfold decoded_size in q))
+    go (Some ch) f q = let z : n ≡ ch.size = unfold decoded_size in q in record { code = ch.code; it = rw z (found t ch f) }
 
 missed_size : (t : List ℕ) → 1 ≤ length t → 0 ≡ decoded_size (decoded_of t) → Missed t
 missed_size t h e = go (decoded_of t) refl e
   where
-    go : (d : Decoded) → decoded_of t ≡ d → 0 ≡ decoded_size d → Missed t
-    go decoded.Fault f q = missed t h f
-    go (decoded.Char c k) f q = let z : 0 ≡ k = unfold decoded_size in q in absurd (omega (arith, (found t c k f).least))
+    go : (d : Option Char) → decoded_of t ≡ d → 0 ≡ decoded_size d → Missed t
+    go None f q = missed t h f
+    go (Some ch) f q = let z : 0 ≡ ch.size = unfold decoded_size in q in absurd (omega (arith, (found t ch f).least))
 
 -- ---- at a place of s
 
@@ -101,16 +95,20 @@ module _ (s : List ℕ) (at : ℕ) (h : at < length s) where
   pub ascii_on : fault_from at 0 (drop at s) ≡ first_fault s → get_or s at 0 < 128 → fault_from (at + 1) 0 (drop (at + 1) s) ≡ first_fault s
   ascii_on i l = rw (← drop-drop 1 at s) (sym ((ascii l).on at) ∙ i)
 
-  module _ (d : Decoded) (e : d ≡ decoded_of (drop at s)) where
-    pub fault_char : d ≡ decoded.Fault → char_with 0xfffd 1 ≡ char_of (drop at s)
-    fault_char b = (missed (drop at s) rest (sym e ∙ b)).char
+  module _ (d : Option Char) (e : d ≡ decoded_of (drop at s)) where
+    pub wide_char : (ch : Char) → d ≡ Some ch → ch ≡ char_of (drop at s)
+    wide_char ch b = (found (drop at s) ch (sym e ∙ b)).char
 
-    pub wide_char : (c n : ℕ) → d ≡ decoded.Char c n → char_with c n ≡ char_of (drop at s)
-    wide_char c n b = (found (drop at s) c n (sym e ∙ b)).char
+  pub wide_char_or : unwrap_or (decoded_of (drop at s)) (char_with 0xfffd 1) ≡ char_of (drop at s)
+  wide_char_or = go (decoded_of (drop at s)) refl
+    where
+      go : (d : Option Char) → d ≡ decoded_of (drop at s) → unwrap_or d (char_with 0xfffd 1) ≡ char_of (drop at s)
+      go None e = (missed (drop at s) rest (sym e)).char
+      go (Some ch) e = wide_char (Some ch) e ch refl
 
   module _ (n : ℕ) (e : n ≡ decoded_size (decoded_of (drop at s))) where
-    pub fault_at : fault_from at 0 (drop at s) ≡ first_fault s → n ≡ 0 → Fault at ≡ checked_of (first_fault s)
-    fault_at i b = unfold checked_of in ap checked_of (sym ((missed_size (drop at s) rest (sym b ∙ e)).here at) ∙ i)
+    pub fault_at : fault_from at 0 (drop at s) ≡ first_fault s → n ≡ 0 → Some at ≡ first_fault s
+    fault_at i b = sym ((missed_size (drop at s) rest (sym b ∙ e)).here at) ∙ i
 
     module _ (b : n ≡ 0 → ⊥) where
       it : FoundSize (drop at s) n
@@ -125,6 +123,6 @@ module _ (s : List ℕ) (at : ℕ) (h : at < length s) where
       pub char_on : fault_from at 0 (drop at s) ≡ first_fault s → fault_from (at + n) 0 (drop (at + n) s) ≡ first_fault s
       char_on i = rw (← drop-drop n at s) (sym (it.it.on at) ∙ i)
 
-pub checked_end : (s : List ℕ) (at : ℕ) → length s ≤ at → fault_from at 0 (drop at s) ≡ first_fault s → Valid ≡ checked_of (first_fault s)
-unfolding fault_from checked_of
-checked_end s at h i = ap checked_of (sym (ap (fault_from at 0) (drop_of_length-le s h)) ∙ i)
+pub checked_end : (s : List ℕ) (at : ℕ) → length s ≤ at → fault_from at 0 (drop at s) ≡ first_fault s → None ≡ first_fault s
+unfolding fault_from
+checked_end s at h i = sym (ap (fault_from at 0) (drop_of_length-le s h)) ∙ i

@@ -1,13 +1,6 @@
--- What `Checked` stands for: the place of the first fault, if there is one; and bytes that are ASCII.
+-- Bytes that are ASCII.
 use Rattle.std.specs.Prelude.{ℕ, zero, suc, ◌+◌, ◌-◌, ◌≤◌, ◌≡◌, Bool, true, false, List, leb, length, get_or}
-use Rattle.std.proofs.Math.Option.{Option, none, some}
 use Rattle.rules.specs.Basic.{pick}
-use Rattle.utf8.specs.declared.Checked.{Checked}
-use Rattle.utf8.specs.declared.Checked.TheVariants.{Valid, Fault}
-
-unfoldable pub checked_of : Option ℕ → Checked
-checked_of none = Valid
-checked_of (some at) = Fault at
 
 -- the n bytes of s from `at` on are ASCII
 unfoldable pub ascii_for : List ℕ → ℕ → ℕ → Bool

@@ -4,33 +4,13 @@ ghost use Rattle.std.specs.Prelude.{◌≡◌, [], ◌∷◌, ◌+◌, ◌≤◌
 ghost use Rattle.rules.specs.Utf8.{second, later, sized, first_fault, is_inside};
 ghost use Rattle.utf8.specs.Decoding.{decoded_as, decoded_of, decoded_size};
 ghost use Rattle.utf8.specs.Reading.{char_of};
-ghost use Rattle.utf8.specs.Checking.{checked_of, ascii_for, AsciiTo};
-
-// The character that bytes start with, and how many bytes it takes.
-#[derive(Clone, Copy)]
-pub enum Decoded {
-    Char { code: u32, size: usize },
-    Fault,
-}
+ghost use Rattle.utf8.specs.Checking.{ascii_for, AsciiTo};
 
 // A code point, U+FFFD for a byte where no character starts, and how many bytes it takes.
 #[derive(Clone, Copy)]
 pub struct Char {
     pub code: u32,
     pub size: usize,
-}
-
-// Whether bytes are UTF-8, and if not the place of the first byte where a character should start and none does.
-#[derive(Clone, Copy)]
-pub enum Checked {
-    Valid,
-    Fault(usize),
-}
-
-fn wide(b: u8) -> u32
-    ensures { result ≡ b }
-{
-    b as u32
 }
 
 // The byte at a place; past the end 0.
@@ -67,74 +47,74 @@ fn is_second(a: u8, b: u8) -> bool
 fn is_later(b: u8) -> bool
     ensures { result ≡ later b }
 {
-    if b < 0x80 {
-        return false;
-    }
-    b <= 0xbf
+    0x80 <= b && b <= 0xbf
 }
 
 // The character of the bytes a and b, if they are one; and of three, and of four.
-fn two(a: u8, b: u8) -> Decoded
+fn two(a: u8, b: u8) -> Option<Char>
     ensures { result ≡ decoded_as 2 (sized 2 a (b ∷ [])) }
 {
     if !is_second(a, b) {
-        return Decoded::Fault;
+        return None;
     }
-    Decoded::Char {
-        code: wide(a) % 32 * 64 + wide(b) % 64,
+    Some(Char {
+        code: (a as u32) % 32 * 64 + (b as u32) % 64,
         size: 2,
-    }
+    })
 }
 
-fn three(a: u8, b: u8, c: u8) -> Decoded
+fn three(a: u8, b: u8, c: u8) -> Option<Char>
     ensures { result ≡ decoded_as 3 (sized 3 a (b ∷ c ∷ [])) }
 {
     if !is_second(a, b) {
-        return Decoded::Fault;
+        return None;
     }
     if !is_later(c) {
-        return Decoded::Fault;
+        return None;
     }
-    Decoded::Char {
-        code: wide(a) % 16 * 4096 + wide(b) % 64 * 64 + wide(c) % 64,
+    Some(Char {
+        code: (a as u32) % 16 * 4096 + (b as u32) % 64 * 64 + (c as u32) % 64,
         size: 3,
-    }
+    })
 }
 
-fn four(a: u8, b: u8, c: u8, d: u8) -> Decoded
+fn four(a: u8, b: u8, c: u8, d: u8) -> Option<Char>
     ensures { result ≡ decoded_as 4 (sized 4 a (b ∷ c ∷ d ∷ [])) }
 {
     if !is_second(a, b) {
-        return Decoded::Fault;
+        return None;
     }
     if !is_later(c) {
-        return Decoded::Fault;
+        return None;
     }
     if !is_later(d) {
-        return Decoded::Fault;
+        return None;
     }
-    Decoded::Char {
-        code: wide(a) % 8 * 262144 + wide(b) % 64 * 4096 + wide(c) % 64 * 64 + wide(d) % 64,
+    Some(Char {
+        code: (a as u32) % 8 * 262144
+            + (b as u32) % 64 * 4096
+            + (c as u32) % 64 * 64
+            + (d as u32) % 64,
         size: 4,
-    }
+    })
 }
 
 // The character that s starts with.
-fn first(s: &[u8]) -> Decoded
+fn first(s: &[u8]) -> Option<Char>
     ensures { result ≡ decoded_of s.now }
 {
     if s.len() < 1 {
-        return Decoded::Fault;
+        return None;
     }
     let a = s[0];
     if a < 0x80 {
-        return Decoded::Char {
-            code: wide(a),
+        return Some(Char {
+            code: a as u32,
             size: 1,
-        };
+        });
     }
     if a < 0xc2 {
-        return Decoded::Fault;
+        return None;
     }
     let b = byte(s, 1);
     if a < 0xe0 {
@@ -148,11 +128,11 @@ fn first(s: &[u8]) -> Decoded
         let d = byte(s, 3);
         return four(a, b, c, d);
     }
-    Decoded::Fault
+    None
 }
 
 // The character that starts at a place.
-fn decode(s: &[u8], at: usize) -> Decoded
+fn decode(s: &[u8], at: usize) -> Option<Char>
     requires { at ≤ length s.now }
     ensures { result ≡ decoded_of (drop at s.now) }
 {
@@ -160,32 +140,32 @@ fn decode(s: &[u8], at: usize) -> Decoded
 }
 
 // The same at a byte that is not ASCII: most characters there have two or three bytes.
-fn wide_at(s: &[u8], at: usize) -> Decoded
+fn wide_at(s: &[u8], at: usize) -> Option<Char>
     requires { (at < length s.now) × (128 ≤ get_or s.now at 0) }
     ensures { result ≡ decoded_of (drop at s.now) }
 {
     let a = s[at];
     if a < 0xc2 {
-        return Decoded::Fault;
+        return None;
     }
     let j = at + 1;
     if a < 0xe0 {
         if s.len() <= j {
-            return Decoded::Fault;
+            return None;
         }
         let b = s[j];
         if !is_later(b) {
-            return Decoded::Fault;
+            return None;
         }
-        return Decoded::Char {
-            code: wide(a) % 32 * 64 + wide(b) % 64,
+        return Some(Char {
+            code: (a as u32) % 32 * 64 + (b as u32) % 64,
             size: 2,
-        };
+        });
     }
     let k = at + 2;
     if a < 0xf0 {
         if s.len() <= k {
-            return Decoded::Fault;
+            return None;
         }
         return three(a, s[j], s[k]);
     }
@@ -218,10 +198,9 @@ fn wide_size(s: &[u8], at: usize) -> usize
         }
         return 3;
     }
-    let d = decode(s, at);
-    match d {
-        Decoded::Fault => 0,
-        Decoded::Char { code: _, size } => size,
+    match decode(s, at) {
+        None => 0,
+        Some(ch) => ch.size,
     }
 }
 
@@ -233,18 +212,14 @@ pub fn char_at(s: &[u8], at: usize) -> Char
     let a = s[at];
     if a < 0x80 {
         return Char {
-            code: wide(a),
+            code: a as u32,
             size: 1,
         };
     }
-    let d = wide_at(s, at);
-    match d {
-        Decoded::Fault => Char {
-            code: 0xfffd,
-            size: 1,
-        },
-        Decoded::Char { code, size } => Char { code, size },
-    }
+    wide_at(s, at).unwrap_or(Char {
+        code: 0xfffd,
+        size: 1,
+    })
 }
 
 // The same, with characters of three bytes read in place, for where one follows another.
@@ -257,11 +232,8 @@ pub fn char_near(s: &[u8], at: usize) -> Char
         if a < 0xf0 {
             let k = at + 2;
             if k < s.len() {
-                match three(a, s[at + 1], s[k]) {
-                    Decoded::Fault => {}
-                    Decoded::Char { code, size } => {
-                        return Char { code, size };
-                    }
+                if let Some(ch) = three(a, s[at + 1], s[k]) {
+                    return ch;
                 }
             }
         }
@@ -305,16 +277,14 @@ fn past_wide(s: &[u8], at: usize) -> usize
     requires { at ≤ length s.now }
     ensures { AsciiTo s.now at result }
 {
-    if at < s.len() {
-        if s[at] < 0x80 {
-            return past_ascii(s, at);
-        }
+    if at < s.len() && s[at] < 0x80 {
+        return past_ascii(s, at);
     }
     at
 }
 
-pub fn first_fault(s: &[u8]) -> Checked
-    ensures { result ≡ checked_of (first_fault s.now) }
+pub fn first_fault(s: &[u8]) -> Option<usize>
+    ensures { result ≡ first_fault s.now }
 {
     let mut at = past_ascii(s, 0);
     while at < s.len() {
@@ -339,13 +309,13 @@ pub fn first_fault(s: &[u8]) -> Checked
         } else {
             let n = wide_size(s, at);
             if n == 0 {
-                return Checked::Fault(at);
+                return Some(at);
             }
             let next = at + n;
             at = past_wide(s, next);
         }
     }
-    Checked::Valid
+    None
 }
 
 // Whether a place is inside a character.

@@ -1,11 +1,11 @@
 use Rattle.checks.proofs.Laws.{quantity_none, quantity_alone, quantity_both}
 use Rattle.checks.proofs.quantity_check.Goals as goal
 
-pub returns-in-Absent : goal.returns-in-Absent
-returns-in-Absent c = quantity_none c.in-Absent.is
+pub returns-in-None : goal.returns-in-None
+returns-in-None c = quantity_none c.in-None.is
 
-pub returns-in-Absent-b : goal.returns-in-Absent-b
-returns-in-Absent-b c = quantity_alone _ c.in-Present.is c.in-Absent-b.is
+pub returns-in-None-b : goal.returns-in-None-b
+returns-in-None-b c = quantity_alone _ c.in-Some.is c.in-None-b.is
 
-pub returns-in-Present-b : goal.returns-in-Present-b
-returns-in-Present-b c = quantity_both _ _ c.in-Present.is c.in-Present-b.is c.pair_check.ensures
+pub returns-in-Some-b : goal.returns-in-Some-b
+returns-in-Some-b c = quantity_both _ _ c.in-Some.is c.in-Some-b.is c.pair_check.ensures

@@ -1,8 +1,8 @@
 use Rattle.checks.proofs.Laws.{place_own, place_text}
 use Rattle.checks.proofs.unit_place.Goals as goal
 
-pub returns-in-Absent : goal.returns-in-Absent
-returns-in-Absent c = place_own _ c.in-Absent.is
+pub returns-in-None : goal.returns-in-None
+returns-in-None c = place_own _ c.in-None.is
 
-pub returns-in-Present : goal.returns-in-Present
-returns-in-Present c = place_text _ _ c.in-Present.is
+pub returns-in-Some : goal.returns-in-Some
+returns-in-Some c = place_text _ _ c.in-Some.is

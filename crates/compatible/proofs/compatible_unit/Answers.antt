@@ -1,4 +1,8 @@
-use Rattle.compatible.proofs.Laws.{both_absent, left_absent, right_absent, both_present, list_read}
+use Rattle.rules.specs.Basic.{on_some}
+use Rattle.rules.specs.Checks.{compatible_unit}
+use Rattle.parts.specs.Views.{opt_text_in}
+use Rattle.compatible.specs.Fitting.{unit_in}
+use Rattle.compatible.proofs.Laws.{within_present, both_present, list_read}
 use Rattle.compatible.proofs.compatible_unit.Goals as goal
 
 pub text_part-x-requires : goal.text_part-x-requires
@@ -10,14 +14,19 @@ text_part-y-requires c = c.requires.0
 pub known_units-requires : goal.known_units-requires
 known_units-requires c = c.requires.1
 
-pub returns-in-Absent-b : goal.returns-in-Absent-b
-returns-in-Absent-b c = both_absent _ _ _ c.in-Absent.is c.in-Absent-b.is
+pub returns-in-Some-Some : goal.returns-in-Some-Some
+returns-in-Some-Some c =
+    rw (c.in-Some-Some.is-0, c.in-Some-Some.is-1)
+    (both_present _ _ _ (within_present _ _ _ c.requires.2 c.in-Some-Some.is-0) (within_present _ _ _ c.requires.3 c.in-Some-Some.is-1) c.text_part-x.ensures c.text_part-y.ensures (list_read _ _ _ c.requires.1.list c.known_units.ensures))
 
-pub returns-in-Present-b : goal.returns-in-Present-b
-returns-in-Present-b c = left_absent _ _ _ c.in-Absent.is c.in-Present-b.is
+pub returns-in-None-None : goal.returns-in-None-None
+unfolding compatible_unit unit_in opt_text_in on_some
+returns-in-None-None c = rw (c.in-None-None.is-0, c.in-None-None.is-1)
 
-pub returns-in-Absent-b-2 : goal.returns-in-Absent-b-2
-returns-in-Absent-b-2 c = right_absent _ _ _ c.in-Present.is c.in-Absent-b-2.is
+pub returns-in_default : goal.returns-in_default
+unfolding compatible_unit unit_in opt_text_in on_some
+returns-in_default c = rw (c.in_default.is-0, c.in_default.is-1)
 
-pub returns-in-Present-b-2 : goal.returns-in-Present-b-2
-returns-in-Present-b-2 c = both_present _ _ _ c.requires.2 c.requires.3 c.in-Present.is c.in-Present-b-2.is c.text_part-x.ensures c.text_part-y.ensures (list_read _ _ _ c.requires.1.list c.known_units.ensures)
+pub returns-in_default-2 : goal.returns-in_default-2
+unfolding compatible_unit unit_in opt_text_in on_some
+returns-in_default-2 c = rw (c.in_default.is-0, c.in_default.is-1)

@@ -1,20 +1,11 @@
-use Rattle.component_lines.proofs.Whole.{ready_ingredient, ready_cookware, items_ready, put_ingredient, put_cookware}
+use Rattle.component_lines.proofs.Whole.{add_ready, items_ready}
 use Rattle.component_lines.proofs.put_row.Goals as goal
 
-pub add_ingredient-k-requires : goal.add_ingredient-k-requires
-add_ingredient-k-requires c = ready_ingredient c.requires.0 c.requires.1 c.requires.2 c.if-is_ingredient.true
+pub add_component-k-requires : goal.add_component-k-requires
+add_component-k-requires c = add_ready c.requires.0 c.requires.1 c.requires.2
 
 pub push_items-requires : goal.push_items-requires
-push_items-requires c = items_ready c.requires.1 c.add_ingredient-k.ensures
-
-pub returns-then-is_ingredient : goal.returns-then-is_ingredient
-returns-then-is_ingredient c = put_ingredient c.push_items.ensures c.if-is_ingredient.true c.add_ingredient-k.ensures
-
-pub add_cookware-k-requires : goal.add_cookware-k-requires
-add_cookware-k-requires c = ready_cookware c.requires.0 c.requires.1 c.requires.2 c.if-is_ingredient.false
-
-pub push_items-requires-2 : goal.push_items-requires-2
-push_items-requires-2 c = items_ready c.requires.1 c.add_cookware-k.ensures
+push_items-requires c = items_ready c.requires.1 c.add_component-k.ensures
 
 pub returns : goal.returns
-returns c = put_cookware c.push_items-2.ensures c.if-is_ingredient.false c.add_cookware-k.ensures
+returns c = record { between = c.add_component-k.result; added = c.add_component-k.ensures; items = c.push_items.ensures }

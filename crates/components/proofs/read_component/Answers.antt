@@ -1,39 +1,36 @@
-use mathlib.Core.Path.{ap}
-use Rattle.parts.specs.Got.{span_got, text_got, opt_text_got, opt_quantity_got}
-use Rattle.components.specs.Got.{modifiers_got}
-use Rattle.components.specs.Views.{component_in}
 use Rattle.rules.specs.Read.{read_component}
-use Rattle.parts.proofs.Sequence.{gives, reads, fails, good_of, step, goes, ends, stop}
+use Rattle.components.specs.Views.{component_in}
+use Rattle.parts.proofs.Sequence.{gives, reads, failed, good_of, step, goes, ends, stop}
 use Rattle.components.proofs.read_component.Goals as goal
 
-pub returns-in_default : goal.returns-in_default
-unfolding read_component component_in
-returns-in_default c = fails (stop c.read_span.ensures (ap span_got c.in_default.is) _)
+pub returns-in_err-span : goal.returns-in_err-span
+unfolding read_component
+returns-in_err-span c = failed c.from_residual.ensures (stop c.in_err-span.ensures _)
 
-pub returns-in_default-read_text : goal.returns-in_default-read_text
-unfolding read_component component_in
-returns-in_default-read_text c = fails (step c.read_span.ensures (ap span_got c.in-Got.is) _ (stop c.read_text.ensures (ap text_got c.in_default-read_text.is) _))
+pub returns-in_err-name : goal.returns-in_err-name
+unfolding read_component
+returns-in_err-name c = failed c.from_residual-in_err-name.ensures (step c.in_ok-span.ensures _ (stop c.in_err-name.ensures _))
 
-pub returns-in_default-read_opt_text : goal.returns-in_default-read_opt_text
-unfolding read_component component_in
-returns-in_default-read_opt_text c = fails (step c.read_span.ensures (ap span_got c.in-Got.is) _ (step c.read_text.ensures (ap text_got c.in-Got-read_text.is) _ (stop c.read_opt_text.ensures (ap opt_text_got c.in_default-read_opt_text.is) _)))
+pub returns-in_err-alias : goal.returns-in_err-alias
+unfolding read_component
+returns-in_err-alias c = failed c.from_residual-in_err-alias.ensures (step c.in_ok-span.ensures _ (step c.in_ok-name.ensures _ (stop c.in_err-alias.ensures _)))
 
-pub returns-in_default-read_opt_quantity : goal.returns-in_default-read_opt_quantity
-unfolding read_component component_in
-returns-in_default-read_opt_quantity c = fails (step c.read_span.ensures (ap span_got c.in-Got.is) _ (step c.read_text.ensures (ap text_got c.in-Got-read_text.is) _ (step c.read_opt_text.ensures (ap opt_text_got c.in-Got-read_opt_text.is) _ (stop c.read_opt_quantity.ensures (ap opt_quantity_got c.in_default-read_opt_quantity.is) _))))
+pub returns-in_err-quantity : goal.returns-in_err-quantity
+unfolding read_component
+returns-in_err-quantity c = failed c.from_residual-in_err-quantity.ensures (step c.in_ok-span.ensures _ (step c.in_ok-name.ensures _ (step c.in_ok-alias.ensures _ (stop c.in_err-quantity.ensures _))))
 
-pub returns-in_default-read_opt_text-2 : goal.returns-in_default-read_opt_text-2
-unfolding read_component component_in
-returns-in_default-read_opt_text-2 c = fails (step c.read_span.ensures (ap span_got c.in-Got.is) _ (step c.read_text.ensures (ap text_got c.in-Got-read_text.is) _ (step c.read_opt_text.ensures (ap opt_text_got c.in-Got-read_opt_text.is) _ (step c.read_opt_quantity.ensures (ap opt_quantity_got c.in-Got-read_opt_quantity.is) _ (stop c.read_opt_text-2.ensures (ap opt_text_got c.in_default-read_opt_text-2.is) _)))))
+pub returns-in_err-note : goal.returns-in_err-note
+unfolding read_component
+returns-in_err-note c = failed c.from_residual-in_err-note.ensures (step c.in_ok-span.ensures _ (step c.in_ok-name.ensures _ (step c.in_ok-alias.ensures _ (step c.in_ok-quantity.ensures _ (stop c.in_err-note.ensures _)))))
 
-pub returns-in_default-read_modifiers : goal.returns-in_default-read_modifiers
-unfolding read_component component_in
-returns-in_default-read_modifiers c = fails (step c.read_span.ensures (ap span_got c.in-Got.is) _ (step c.read_text.ensures (ap text_got c.in-Got-read_text.is) _ (step c.read_opt_text.ensures (ap opt_text_got c.in-Got-read_opt_text.is) _ (step c.read_opt_quantity.ensures (ap opt_quantity_got c.in-Got-read_opt_quantity.is) _ (step c.read_opt_text-2.ensures (ap opt_text_got c.in-Got-read_opt_text-2.is) _ (stop c.read_modifiers.ensures (ap modifiers_got c.in_default-read_modifiers.is) _))))))
+pub returns-in_err-modifiers : goal.returns-in_err-modifiers
+unfolding read_component
+returns-in_err-modifiers c = failed c.from_residual-in_err-modifiers.ensures (step c.in_ok-span.ensures _ (step c.in_ok-name.ensures _ (step c.in_ok-alias.ensures _ (step c.in_ok-quantity.ensures _ (step c.in_ok-note.ensures _ (stop c.in_err-modifiers.ensures _))))))
 
-pub returns-in_default-read_span : goal.returns-in_default-read_span
-unfolding read_component component_in
-returns-in_default-read_span c = fails (step c.read_span.ensures (ap span_got c.in-Got.is) _ (step c.read_text.ensures (ap text_got c.in-Got-read_text.is) _ (step c.read_opt_text.ensures (ap opt_text_got c.in-Got-read_opt_text.is) _ (step c.read_opt_quantity.ensures (ap opt_quantity_got c.in-Got-read_opt_quantity.is) _ (step c.read_opt_text-2.ensures (ap opt_text_got c.in-Got-read_opt_text-2.is) _ (step c.read_modifiers.ensures (ap modifiers_got c.in-Got-read_modifiers.is) _ (stop c.read_span-2.ensures (ap span_got c.in_default-read_span.is) _)))))))
+pub returns-in_err-modifiers_span : goal.returns-in_err-modifiers_span
+unfolding read_component
+returns-in_err-modifiers_span c = failed c.from_residual-in_err-modifiers_span.ensures (step c.in_ok-span.ensures _ (step c.in_ok-name.ensures _ (step c.in_ok-alias.ensures _ (step c.in_ok-quantity.ensures _ (step c.in_ok-note.ensures _ (step c.in_ok-modifiers.ensures _ (stop c.in_err-modifiers_span.ensures _)))))))
 
 pub returns : goal.returns
 unfolding read_component component_in
-returns c = reads (goes c.read_span.ensures (ap span_got c.in-Got.is) _ (goes c.read_text.ensures (ap text_got c.in-Got-read_text.is) _ (goes c.read_opt_text.ensures (ap opt_text_got c.in-Got-read_opt_text.is) _ (goes c.read_opt_quantity.ensures (ap opt_quantity_got c.in-Got-read_opt_quantity.is) _ (ends c.read_opt_text-2.ensures (ap opt_text_got c.in-Got-read_opt_text-2.is) _ (goes c.read_modifiers.ensures (ap modifiers_got c.in-Got-read_modifiers.is) _ (goes c.read_span-2.ensures (ap span_got c.in-Got-read_span.is) _ (gives _ _)))))))) (record { span = good_of c.read_span.ensures (ap span_got c.in-Got.is); name = good_of c.read_text.ensures (ap text_got c.in-Got-read_text.is); alias = good_of c.read_opt_text.ensures (ap opt_text_got c.in-Got-read_opt_text.is); quantity = good_of c.read_opt_quantity.ensures (ap opt_quantity_got c.in-Got-read_opt_quantity.is); note = good_of c.read_opt_text-2.ensures (ap opt_text_got c.in-Got-read_opt_text-2.is); modifiers_span = good_of c.read_span-2.ensures (ap span_got c.in-Got-read_span.is) })
+returns c = reads (goes c.in_ok-span.ensures _ (goes c.in_ok-name.ensures _ (goes c.in_ok-alias.ensures _ (goes c.in_ok-quantity.ensures _ (ends c.in_ok-note.ensures _ (goes c.in_ok-modifiers.ensures _ (goes c.in_ok-modifiers_span.ensures _ (gives _ _)))))))) (record { span = good_of c.in_ok-span.ensures; name = good_of c.in_ok-name.ensures; alias = good_of c.in_ok-alias.ensures; quantity = good_of c.in_ok-quantity.ensures; note = good_of c.in_ok-note.ensures; modifiers_span = good_of c.in_ok-modifiers_span.ensures })

@@ -1,27 +1,24 @@
-use mathlib.Core.Path.{ap}
-use Rattle.parts.specs.Got.{flag_got, span_got}
-use Rattle.components.specs.Got.{target_got, signed_got}
-use Rattle.components.specs.Views.{intermediate_in}
 use Rattle.rules.specs.Read.{read_intermediate}
-use Rattle.parts.proofs.Sequence.{gives, reads, fails, good_of, step, goes, stop}
+use Rattle.components.specs.Views.{intermediate_in}
+use Rattle.parts.proofs.Sequence.{gives, reads, failed, good_of, step, goes, stop}
 use Rattle.components.proofs.read_intermediate.Goals as goal
 
-pub returns-in_default : goal.returns-in_default
-unfolding read_intermediate intermediate_in
-returns-in_default c = fails (stop c.read_reference.ensures (ap flag_got c.in_default.is) _)
+pub returns-in_err-relative : goal.returns-in_err-relative
+unfolding read_intermediate
+returns-in_err-relative c = failed c.from_residual.ensures (stop c.in_err-relative.ensures _)
 
-pub returns-in_default-read_target : goal.returns-in_default-read_target
-unfolding read_intermediate intermediate_in
-returns-in_default-read_target c = fails (step c.read_reference.ensures (ap flag_got c.in-Got.is) _ (stop c.read_target.ensures (ap target_got c.in_default-read_target.is) _))
+pub returns-in_err-target : goal.returns-in_err-target
+unfolding read_intermediate
+returns-in_err-target c = failed c.from_residual-in_err-target.ensures (step c.in_ok-relative.ensures _ (stop c.in_err-target.ensures _))
 
-pub returns-in_default-read_value : goal.returns-in_default-read_value
-unfolding read_intermediate intermediate_in
-returns-in_default-read_value c = fails (step c.read_reference.ensures (ap flag_got c.in-Got.is) _ (step c.read_target.ensures (ap target_got c.in-Got-read_target.is) _ (stop c.read_value.ensures (ap signed_got c.in_default-read_value.is) _)))
+pub returns-in_err-value : goal.returns-in_err-value
+unfolding read_intermediate
+returns-in_err-value c = failed c.from_residual-in_err-value.ensures (step c.in_ok-relative.ensures _ (step c.in_ok-target.ensures _ (stop c.in_err-value.ensures _)))
 
-pub returns-in_default-read_span : goal.returns-in_default-read_span
-unfolding read_intermediate intermediate_in
-returns-in_default-read_span c = fails (step c.read_reference.ensures (ap flag_got c.in-Got.is) _ (step c.read_target.ensures (ap target_got c.in-Got-read_target.is) _ (step c.read_value.ensures (ap signed_got c.in-Got-read_value.is) _ (stop c.read_span.ensures (ap span_got c.in_default-read_span.is) _))))
+pub returns-in_err-span : goal.returns-in_err-span
+unfolding read_intermediate
+returns-in_err-span c = failed c.from_residual-in_err-span.ensures (step c.in_ok-relative.ensures _ (step c.in_ok-target.ensures _ (step c.in_ok-value.ensures _ (stop c.in_err-span.ensures _))))
 
 pub returns : goal.returns
 unfolding read_intermediate intermediate_in
-returns c = reads (goes c.read_reference.ensures (ap flag_got c.in-Got.is) _ (goes c.read_target.ensures (ap target_got c.in-Got-read_target.is) _ (goes c.read_value.ensures (ap signed_got c.in-Got-read_value.is) _ (goes c.read_span.ensures (ap span_got c.in-Got-read_span.is) _ (gives _ _))))) (record { value = good_of c.read_value.ensures (ap signed_got c.in-Got-read_value.is); span = good_of c.read_span.ensures (ap span_got c.in-Got-read_span.is) })
+returns c = reads (goes c.in_ok-relative.ensures _ (goes c.in_ok-target.ensures _ (goes c.in_ok-value.ensures _ (goes c.in_ok-span.ensures _ (gives _ _))))) (record { value = good_of c.in_ok-value.ensures; span = good_of c.in_ok-span.ensures })

@@ -17,4 +17,4 @@ pub put_path-e-requires : goal.put_path-e-requires
 put_path-e-requires c = (own.name_field_lem _ _ c.requires.1.name c.part_of-f.ensures c.text_outer_trimmed-w.ensures, c.place_in-p.ensures)
 
 pub returns : goal.returns
-returns c = own.put_own _ _ _ _ c.requires.1 c.part_of-f.ensures c.text_outer_trimmed-w.ensures c.put_name-a.ensures c.put_optional-b.ensures c.put_amount-c.ensures c.put_optional-d.ensures c.put_path-e.ensures c.put_modifiers.ensures
+returns c = own.put_own _ c.is_ingredient.ensures _ _ _ c.requires.1 c.part_of-f.ensures c.text_outer_trimmed-w.ensures c.put_name-a.ensures c.put_optional-b.ensures c.put_amount-c.ensures c.put_optional-d.ensures c.put_path-e.ensures c.put_modifiers.ensures

@@ -1,21 +1,20 @@
 use mathlib.Core.List.{List}
+use mathlib.Core.Path.{sym}
 use Prim.Native.Nat.{ℕ}
 use Rattle.rules.specs.Read.{word}
 use Rattle.rules.specs.Words.{block_kinds}
-use Rattle.rules.specs.Basic.{word_in}
-use Rattle.parts.proofs.Leaves.{leaf_past}
-use Rattle.events.proofs.Blocks.{block_bad, block_step, block_text}
+use Rattle.rules.specs.Basic.{on_some, word_in}
+use Rattle.parts.proofs.Leaves.{leaf_past, leaf_bad, leaf_got}
 use Rattle.events.proofs.read_block.Goals as goal
 
 pub returns-then-line-at : goal.returns-then-line-at
 unfolding word
 returns-then-line-at c = leaf_past (λ (f : List ℕ). word_in f block_kinds) c.if-line-at.true
 
-pub returns-in-Step : goal.returns-in-Step
-returns-in-Step c = block_step c.if-line-at.false c.field-f.ensures c.block_kind.ensures c.in-Step.is
+pub returns-in_err-kind : goal.returns-in_err-kind
+unfolding word on_some
+returns-in_err-kind c = rw c.from_residual.ensures (leaf_bad (λ (f : List ℕ). word_in f block_kinds) c.if-line-at.false c.field-f.ensures (sym c.in_err-kind.ensures))
 
-pub returns-in-Text : goal.returns-in-Text
-returns-in-Text c = block_text c.if-line-at.false c.field-f.ensures c.block_kind.ensures c.in-Text.is
-
-pub returns-in-Unknown : goal.returns-in-Unknown
-returns-in-Unknown c = block_bad c.if-line-at.false c.field-f.ensures c.block_kind.ensures c.in-Unknown.is
+pub returns : goal.returns
+unfolding word on_some
+returns c = leaf_got (λ (f : List ℕ). word_in f block_kinds) c.if-line-at.false c.field-f.ensures (sym c.in_ok-kind.ensures) tt

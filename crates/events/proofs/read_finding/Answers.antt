@@ -1,14 +1,12 @@
-use mathlib.Core.Path.{ap}
-use Rattle.parts.specs.Got.{number_got}
-use Rattle.events.specs.Views.{event_in, EventWithin}
 use Rattle.rules.specs.Read.{read_finding}
-use Rattle.parts.proofs.Sequence.{gives, reads, fails, good_of, goes, stop}
+use Rattle.events.specs.Views.{event_in, EventWithin}
+use Rattle.parts.proofs.Sequence.{gives, reads, failed, good_of, goes, stop}
 use Rattle.events.proofs.read_finding.Goals as goal
 
-pub returns-in_default : goal.returns-in_default
-unfolding read_finding event_in EventWithin
-returns-in_default c = fails (stop c.read_number.ensures (ap number_got c.in_default.is) _)
+pub returns-in_err-number : goal.returns-in_err-number
+unfolding read_finding
+returns-in_err-number c = failed c.from_residual.ensures (stop c.in_err-number.ensures _)
 
 pub returns : goal.returns
 unfolding read_finding event_in EventWithin
-returns c = reads (goes c.read_number.ensures (ap number_got c.in-Got.is) _ (gives _ _)) (good_of c.read_number.ensures (ap number_got c.in-Got.is))
+returns c = reads (goes c.in_ok-number.ensures _ (gives _ _)) (good_of c.in_ok-number.ensures)

@@ -7,11 +7,11 @@ meta_of-m-requires c = let w = within_meta _ _ _ c.in-Meta.is c.requires.1 in (c
 pub returns-in-Meta : goal.returns-in-Meta
 returns-in-Meta c = between_meta _ _ c.in-Meta.is c.meta_of-m.ensures c.after_meta.ensures
 
-pub returns-in-Absent : goal.returns-in-Absent
-returns-in-Absent c = between_bare _ c.in-Section.is c.in-Absent.is c.after_section.ensures
+pub returns-in-None : goal.returns-in-None
+returns-in-None c = between_bare _ c.in-Section.is c.in-None.is c.after_section.ensures
 
-pub returns-in-Present : goal.returns-in-Present
-returns-in-Present c = between_named _ _ c.in-Section.is c.in-Present.is c.after_section-in-Present.ensures
+pub returns-in-Some : goal.returns-in-Some
+returns-in-Some c = between_named _ _ c.in-Section.is c.in-Some.is c.after_section-in-Some.ensures
 
 pub returns-in-Start : goal.returns-in-Start
 returns-in-Start c = between_start _ c.in-Start.is c.opens_as-o.ensures c.after_start.ensures

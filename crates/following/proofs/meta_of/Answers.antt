@@ -6,7 +6,7 @@ use Rattle.config_keys.specs.declared.Key.TheVariants as key
 use Rattle.following.proofs.meta_of.Goals as goal
 
 pub returns-in-Define : goal.returns-in-Define
-returns-in-Define c = meta_define c.if-odd-eq1.true c.requires.1 _ c.part_of-k.ensures _ c.key_of.ensures c.requires.2 _ c.part_of-v.ensures c.in-Define.is c.define_value-m.ensures c.word_meta.ensures
+returns-in-Define c = meta_define c.if-odd-eq1.true c.requires.1 _ c.part_of-k.ensures _ c.key_of.ensures c.requires.2 _ c.part_of-v.ensures _ c.in-Define.is c.define_value-m.ensures c.word_meta.ensures
 
 pub returns-in-Duplicate : goal.returns-in-Duplicate
 unfolding key_meta key_in

@@ -1,31 +1,31 @@
 use native.Mathlib.Omega.{arith}
 use Prim.Native.Nat.{◌-◌}
-use Rattle.inline.proofs.Items.{counting_start, counting_end, counting_fits, counting_less, counting_to, counting_more, items_few}
+use Rattle.inline.proofs.Items.{counting_start, counting_end, counting_fits, counting_less, counting_more, items_few}
 use Rattle.inline.proofs.count_items.Goals as goal
 
-pub loop-number_from-init : goal.loop-number_from-init
-loop-number_from-init c = counting_start _ _ c.requires.2
+pub loop-q-init : goal.loop-q-init
+loop-q-init c = counting_start _ _ c.requires.2
 
-pub find_inline_quantity-f-requires : goal.find_inline_quantity-f-requires
-find_inline_quantity-f-requires c = (c.requires.0, c.requires.1, c.loop-number_from.invariant.to, c.loop-number_from.invariant.left)
-
-pub overflow_add-result : goal.overflow_add-result
-overflow_add-result c = omega (arith, c.loop-number_from.invariant.few, c.loop-number_from.invariant.to, c.text_items.ensures, items_few _ _ c.loop-number_from.invariant.to)
-
-pub returns-in-Nothing : goal.returns-in-Nothing
-returns-in-Nothing c = counting_end c.loop-number_from.invariant c.find_inline_quantity-f.ensures c.in-Nothing.is c.text_items.ensures
+pub find_inline_quantity-requires : goal.find_inline_quantity-requires
+find_inline_quantity-requires c = (c.requires.0, c.requires.1, c.loop-q.invariant.to, c.loop-q.invariant.left)
 
 pub overflow_add-items : goal.overflow_add-items
-overflow_add-items c = omega (arith, counting_fits c.loop-number_from.invariant c.find_inline_quantity-f.ensures c.in-Found.is c.text_items-in-Found.ensures, counting_to c.loop-number_from.invariant c.find_inline_quantity-f.ensures c.in-Found.is)
+overflow_add-items c = omega (arith, counting_fits c.loop-q.invariant c.in-Some.ensures c.text_items.ensures, c.in-Some.ensures.end)
 
-pub overflow_add-items-in-Found : goal.overflow_add-items-in-Found
-overflow_add-items-in-Found c = omega (arith, counting_fits c.loop-number_from.invariant c.find_inline_quantity-f.ensures c.in-Found.is c.text_items-in-Found.ensures, counting_to c.loop-number_from.invariant c.find_inline_quantity-f.ensures c.in-Found.is)
+pub overflow_add-items-in-Some : goal.overflow_add-items-in-Some
+overflow_add-items-in-Some c = omega (arith, counting_fits c.loop-q.invariant c.in-Some.ensures c.text_items.ensures, c.in-Some.ensures.end)
 
 pub overflow_add-quantities : goal.overflow_add-quantities
-overflow_add-quantities c = omega (arith, c.loop-number_from.invariant.fewer, counting_less c.loop-number_from.invariant c.find_inline_quantity-f.ensures c.in-Found.is, counting_to c.loop-number_from.invariant c.find_inline_quantity-f.ensures c.in-Found.is)
+overflow_add-quantities c = omega (arith, c.loop-q.invariant.fewer, counting_less c.loop-q.invariant c.in-Some.ensures, c.in-Some.ensures.end)
 
-pub loop-number_from-smaller : goal.loop-number_from-smaller
-loop-number_from-smaller c = omega (arith, counting_less c.loop-number_from.invariant c.find_inline_quantity-f.ensures c.in-Found.is, counting_to c.loop-number_from.invariant c.find_inline_quantity-f.ensures c.in-Found.is)
+pub loop-q-smaller : goal.loop-q-smaller
+loop-q-smaller c = omega (arith, counting_less c.loop-q.invariant c.in-Some.ensures, c.in-Some.ensures.end)
 
-pub loop-number_from-preserved : goal.loop-number_from-preserved
-loop-number_from-preserved c = counting_more c.loop-number_from.invariant c.find_inline_quantity-f.ensures c.in-Found.is c.text_items-in-Found.ensures
+pub loop-q-preserved : goal.loop-q-preserved
+loop-q-preserved c = counting_more c.loop-q.invariant c.in-Some.ensures c.text_items.ensures
+
+pub overflow_add-result : goal.overflow_add-result
+overflow_add-result c = omega (arith, c.loop-q.invariant.few, c.loop-q.invariant.to, c.text_items-2.ensures, items_few _ _ c.loop-q.invariant.to)
+
+pub returns : goal.returns
+returns c = counting_end c.loop-q.invariant c.in_default.ensures c.text_items-2.ensures

@@ -13,8 +13,8 @@ invariant-loop-p l = Along l.units l.index (part l.unit_from l.unit_to l.s) l.p
 abbrev pub decreases-loop-p : goal.decreases-loop-p
 decreases-loop-p l = l.p
 
-abbrev pub invariant-numbers : goal.invariant-numbers
-invariant-numbers l = Sought (units_or (read_units l.units)) l.s l.from l.i
+abbrev pub invariant-loop-from : goal.invariant-loop-from
+invariant-loop-from l = Sought (units_or (read_units l.units)) l.s l.from l.i
 
-abbrev pub decreases-numbers : goal.decreases-numbers
-decreases-numbers l = length l.s - l.i
+abbrev pub decreases-loop-from : goal.decreases-loop-from
+decreases-loop-from l = length l.s - l.i

@@ -1,14 +1,11 @@
-use Rattle.inputs.proofs.Checks.{text_fault, units_ill, units_twice, units_good, refused_ready, good_ready}
+use Rattle.inputs.proofs.Checks.{text_fault, units_bad, units_good, refused_ready, good_ready}
 use Rattle.inputs.proofs.check_contents.Goals as goal
 
-pub returns-in_default : goal.returns-in_default
-returns-in_default c = (text_fault c.first_fault.ensures c.in_default.is, refused_ready c.requires.1)
+pub returns-in-Some : goal.returns-in-Some
+returns-in-Some c = rw c.refused.ensures (text_fault c.first_fault.ensures c.in-Some.is, refused_ready c.requires.1)
 
-pub returns-in-Ill : goal.returns-in-Ill
-returns-in-Ill c = (units_ill c.first_fault.ensures c.in-Valid.is c.index_units.ensures.is c.in-Ill.is, refused_ready c.index_units.ensures.long)
+pub returns-in-Err : goal.returns-in-Err
+returns-in-Err c = rw c.refused-in-Err.ensures (units_bad c.first_fault.ensures c.in_default.is c.index_units.ensures c.in-Err.is, refused_ready c.index_units.ensures.long)
 
-pub returns-in-Twice : goal.returns-in-Twice
-returns-in-Twice c = (units_twice c.first_fault.ensures c.in-Valid.is c.index_units.ensures.is c.in-Twice.is, refused_ready c.index_units.ensures.long)
-
-pub returns-in-Good : goal.returns-in-Good
-returns-in-Good c = (units_good c.first_fault.ensures c.in-Valid.is c.index_units.ensures.is c.in-Good.is c.check_sheet.ensures, good_ready c.index_units.ensures c.in-Good.is)
+pub returns-in-Ok : goal.returns-in-Ok
+returns-in-Ok c = (units_good c.first_fault.ensures c.in_default.is c.index_units.ensures c.in-Ok.is c.check_sheet.ensures, good_ready c.index_units.ensures c.in-Ok.is)

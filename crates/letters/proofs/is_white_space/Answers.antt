@@ -1,4 +1,5 @@
 use native.Mathlib.Omega.{arith}
+use borrow.Author.Tests.{eq-eqb}
 use Rattle.letters.proofs.Places.{lent_ready, lent_member}
 use Rattle.letters.proofs.Windows.{columns}
 use Rattle.rules.proofs.Folds.{white_ascends}
@@ -9,10 +10,10 @@ use Rattle.letters.proofs.Still.{no_white, past_white}
 use Rattle.letters.proofs.is_white_space.Goals as goal
 
 pub returns-then-c-eq32 : goal.returns-then-c-eq32
-returns-then-c-eq32 c = white_blank _ c.if-c-lt128.true c.if-c-eq32.true
+returns-then-c-eq32 c = rw (eq-eqb _ _ c.if-c-eq32.true) (white_blank _ c.if-c-lt128.true c.if-c-eq32.true)
 
-pub returns-then-c-lt128 : goal.returns-then-c-lt128
-returns-then-c-lt128 c = white_other _ c.if-c-lt128.true c.if-c-eq32.false c.is_within.ensures
+pub returns-else-c-eq32 : goal.returns-else-c-eq32
+returns-else-c-eq32 c = white_other _ c.if-c-lt128.true c.if-c-eq32.false c.is_within.ensures
 
 pub returns-then-c-lt5760 : goal.returns-then-c-lt5760
 returns-then-c-lt5760 c = no_white _ c.if-c-gt160.true c.if-c-lt5760.true

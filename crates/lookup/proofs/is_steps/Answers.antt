@@ -1,14 +1,11 @@
-use Rattle.lookup.proofs.References.{steps_all, steps_components, steps_steps, steps_text}
+use Rattle.rules.specs.Modes.{is_steps}
+use Rattle.sheet.specs.Words.{define_of}
+use Rattle.lookup.proofs.References.{steps_not}
 use Rattle.lookup.proofs.is_steps.Goals as goal
 
-pub returns-in-All : goal.returns-in-All
-returns-in-All c = steps_all _ c.in-All.is
-
-pub returns-in-Components : goal.returns-in-Components
-returns-in-Components c = steps_components _ c.in-Components.is
-
 pub returns-in-Steps : goal.returns-in-Steps
-returns-in-Steps c = steps_steps _ c.in-Steps.is
+unfolding is_steps define_of
+returns-in-Steps c = rw c.in-Steps.is
 
-pub returns-in-Text : goal.returns-in-Text
-returns-in-Text c = steps_text _ c.in-Text.is
+pub returns-in_default : goal.returns-in_default
+returns-in_default c = steps_not _ c.in_default.not-Steps

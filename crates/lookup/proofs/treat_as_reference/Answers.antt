@@ -1,14 +1,12 @@
-use Rattle.lookup.proofs.References.{treat_ref, treat_steps, treat_found, treat_not}
+use Rattle.lookup.proofs.References.{explicit_first, steps_next, treat_first, treat_found, treat_not}
 use Rattle.lookup.proofs.treat_as_reference.Goals as goal
-
-pub returns-then-reference : goal.returns-then-reference
-returns-then-reference c = treat_ref _ _ _ _ c.if-reference.true
+use Rattle.lookup.proofs.treat_as_reference.Goals.{then-reference, else-reference}
 
 pub returns-then-is_steps : goal.returns-then-is_steps
-returns-then-is_steps c = treat_steps _ _ _ _ c.if-reference.false c.is_steps.ensures c.if-is_steps.true
+returns-then-is_steps c = treat_first (elim c.if-reference.branch [ then-reference w ↦ explicit_first _ w.if-reference.true w.value-is | else-reference w ↦ steps_next w.if-reference.false w.is_steps.ensures w.value-is ]) c.if-is_steps.true
 
 pub returns-then-is_reference : goal.returns-then-is_reference
-returns-then-is_reference c = treat_found _ _ _ _ c.if-reference.false c.is_steps.ensures c.if-is_steps.false c.is_reference.ensures c.if-is_reference.true
+returns-then-is_reference c = treat_found (elim c.if-reference.branch [ then-reference w ↦ explicit_first _ w.if-reference.true w.value-is | else-reference w ↦ steps_next w.if-reference.false w.is_steps.ensures w.value-is ]) c.if-is_steps.false c.is_reference.ensures c.if-is_reference.true
 
-pub returns : goal.returns
-returns c = treat_not _ _ _ _ c.if-reference.false c.is_steps.ensures c.if-is_steps.false c.is_reference.ensures c.if-is_reference.false
+pub returns-else-is_reference : goal.returns-else-is_reference
+returns-else-is_reference c = treat_not (elim c.if-reference.branch [ then-reference w ↦ explicit_first _ w.if-reference.true w.value-is | else-reference w ↦ steps_next w.if-reference.false w.is_steps.ensures w.value-is ]) c.if-is_steps.false c.is_reference.ensures c.if-is_reference.false

@@ -1,11 +1,14 @@
 use Rattle.memory.proofs.Smalls.{section_named, section_filled, section_empty}
 use Rattle.memory.proofs.begin_section.Goals as goal
-
-pub returns-then-h : goal.returns-then-h
-returns-then-h c = section_named _ c.requires c.if-h.true c.closed.ensures
-
-pub returns-then-here-eq0 : goal.returns-then-here-eq0
-returns-then-here-eq0 c = section_empty _ c.requires c.if-h.false c.if-here-eq0.true c.closed-then-here-eq0.ensures
+use Rattle.memory.proofs.begin_section.Goals.{then-h, then-h-via-then-h, then-h-via-else-h+then-here-gt0, else-h+else-here-gt0}
 
 pub returns : goal.returns
-returns c = section_filled _ c.requires c.if-h.false c.if-here-eq0.false c.closed-2.ensures
+returns c =
+    elim c.if-h.branch [
+      | then-h w ↦
+          elim w.then-h.branch [
+            | then-h-via-then-h v ↦ section_named _ c.requires v.if-h.true (rw w.c-is at c.closed.ensures)
+            | then-h-via-else-h+then-here-gt0 v ↦ section_filled _ c.requires v.if-h.false v.if-here-gt0.true (rw w.c-is at c.closed.ensures)
+          ]
+      | else-h+else-here-gt0 w ↦ section_empty _ c.requires w.if-h.false w.if-here-gt0.false (rw w.c-is at c.closed.ensures)
+    ]

@@ -19,18 +19,18 @@ returns-in_default c = index_cut c.loop-from.invariant c.line_end.ensures c.loop
 
 pub index_line-n-requires : goal.index_line-n-requires
 index_line-n-requires c =
-    let i = c.line_end.ensures.inside _ c.in-At.is in
-    let w = index_known c.loop-from.invariant c.line_end.ensures c.in-At.is in
-    (c.requires.0, c.loop-from.invariant.indexed, index_room c.loop-from.invariant c.line_end.ensures c.in-At.is, c.requires.1, i.0, i.1, w.0, w.1)
+    let i = c.line_end.ensures.inside _ c.in-Some.is in
+    let w = index_known c.loop-from.invariant c.line_end.ensures c.in-Some.is in
+    (c.requires.0, c.loop-from.invariant.indexed, index_room c.loop-from.invariant c.line_end.ensures c.in-Some.is, c.requires.1, i.0, i.1, w.0, w.1)
 
 pub overflow_add-from : goal.overflow_add-from
-overflow_add-from c = search (rules, (c.line_end.ensures.inside _ c.in-At.is).0, (c.line_end.ensures.inside _ c.in-At.is).1)
+overflow_add-from c = search (rules, (c.line_end.ensures.inside _ c.in-Some.is).0, (c.line_end.ensures.inside _ c.in-Some.is).1)
 
 pub loop-from-smaller : goal.loop-from-smaller
-loop-from-smaller c = omega (arith, (c.line_end.ensures.inside _ c.in-At.is).0, (c.line_end.ensures.inside _ c.in-At.is).1)
+loop-from-smaller c = omega (arith, (c.line_end.ensures.inside _ c.in-Some.is).0, (c.line_end.ensures.inside _ c.in-Some.is).1)
 
 pub loop-from-preserved : goal.loop-from-preserved
-loop-from-preserved c = index_on c.loop-from.invariant c.line_end.ensures c.in-At.is c.index_line-n.ensures
+loop-from-preserved c = index_on c.loop-from.invariant c.line_end.ensures c.in-Some.is c.index_line-n.ensures
 
 pub shape_of-m : goal.shape_of-m
 shape_of-m c = search (rules, c.loop-from.invariant.indexed.long ∙ sym c.requires.2)

@@ -1,14 +1,15 @@
+use Rattle.std.proofs.Common.{rules}
 use Rattle.output.proofs.Texts.{text_is, char_backslash, char_tab, char_lf, char_plain}
 use Rattle.output.proofs.put_escaped_byte.Goals as goal
 
-pub returns-then-c-eq92 : goal.returns-then-c-eq92
-returns-then-c-eq92 c = text_is _ (char_backslash _ c.if-c-eq92.true) c.put_pair.ensures
+pub returns-in-92 : goal.returns-in-92
+returns-in-92 c = text_is _ (char_backslash _ c.in-92.is) c.put_pair.ensures
 
-pub returns-then-c-eq9 : goal.returns-then-c-eq9
-returns-then-c-eq9 c = text_is _ (char_tab _ c.if-c-eq92.false c.if-c-eq9.true) c.put_pair-then-c-eq9.ensures
+pub returns-in-9 : goal.returns-in-9
+returns-in-9 c = text_is _ (char_tab _ c.in-9.is) c.put_pair-in-9.ensures
 
-pub returns-then-c-eq10 : goal.returns-then-c-eq10
-returns-then-c-eq10 c = text_is _ (char_lf _ c.if-c-eq92.false c.if-c-eq9.false c.if-c-eq10.true) c.put_pair-then-c-eq10.ensures
+pub returns-in-10 : goal.returns-in-10
+returns-in-10 c = text_is _ (char_lf _ c.in-10.is) c.put_pair-in-10.ensures
 
-pub returns : goal.returns
-returns c = text_is _ (char_plain _ c.if-c-eq92.false c.if-c-eq9.false c.if-c-eq10.false) c.put_byte.ensures
+pub returns-in_default : goal.returns-in_default
+returns-in_default c = text_is _ (char_plain c.args.c (search rules) (search rules) (search rules)) c.put_byte.ensures

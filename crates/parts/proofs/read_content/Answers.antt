@@ -19,11 +19,11 @@ returns-then-c-eq9 c = content_ends c.loop-i.invariant (at_tab _ _ c.loop-i-test
 pub returns-then-line-j : goal.returns-then-line-j
 returns-then-line-j c = content_cut c.loop-i.invariant c.loop-i-test.true c.if-c-eq92.true c.if-line-j.true
 
-pub returns-then-letter-eq0 : goal.returns-then-letter-eq0
-returns-then-letter-eq0 c = content_wrong c.loop-i.invariant c.loop-i-test.true c.if-c-eq92.true c.if-line-j.false c.letter.ensures c.if-letter-eq0.true
+pub returns-in_err-letter : goal.returns-in_err-letter
+returns-in_err-letter c = rw c.from_residual.ensures (content_wrong c.loop-i.invariant c.loop-i-test.true c.if-c-eq92.true c.if-line-j.false c.letter.ensures c.in_err-letter.was)
 
 pub loop-i-preserved-then-c-eq92 : goal.loop-i-preserved-then-c-eq92
-loop-i-preserved-then-c-eq92 c = content_escaped c.loop-i.invariant c.loop-i-test.true c.if-c-eq92.true c.if-line-j.false c.letter.ensures c.if-letter-eq0.false
+loop-i-preserved-then-c-eq92 c = content_escaped c.loop-i.invariant c.loop-i-test.true c.if-c-eq92.true c.if-line-j.false c.letter.ensures c.in_ok-letter.was
 
 pub loop-i-preserved : goal.loop-i-preserved
 loop-i-preserved c = content_plain c.loop-i.invariant c.loop-i-test.true c.if-c-eq9.false c.if-c-eq92.false

@@ -1,21 +1,20 @@
-use Rattle.std.proofs.Common.{ap}
 use Rattle.parts.specs.Views.{opt_quantity_in, OptQuantityWithin}
-use Rattle.parts.specs.Got.{dash_as, quantity_got}
-use Rattle.parts.proofs.Sequence.{told, opt_absent, opt_present, opt_ill, opt_bad, reads, fails, got, ill, good_of}
+use Rattle.parts.specs.Got.{dash_as}
+use Rattle.parts.proofs.Sequence.{opt_absent, opt_present, opt_ill, opt_bad, reads, fails, failed, got, ill, good_of}
 use Rattle.parts.proofs.read_opt_quantity.Goals as goal
-
-pub returns-in_default : goal.returns-in_default
-unfolding dash_as opt_quantity_in OptQuantityWithin
-returns-in_default c = fails (opt_bad _ _ (told (dash_as _ _) c.opt_dash.ensures c.in-Present.is) (ill c.read_quantity.ensures (ap quantity_got c.in_default.is)))
 
 pub returns-in-Absent : goal.returns-in-Absent
 unfolding dash_as opt_quantity_in OptQuantityWithin
-returns-in-Absent c = reads (opt_absent _ _ (told (dash_as _ _) c.opt_dash.ensures c.in-Absent.is)) tt
+returns-in-Absent c = reads (opt_absent _ _ c.in-Absent.ensures) tt
 
 pub returns-in-Ill : goal.returns-in-Ill
-unfolding dash_as opt_quantity_in OptQuantityWithin
-returns-in-Ill c = fails (opt_ill _ _ (told (dash_as _ _) c.opt_dash.ensures c.in-Ill.is))
+unfolding dash_as
+returns-in-Ill c = fails (opt_ill _ _ c.in-Ill.ensures)
 
-pub returns-in-Got : goal.returns-in-Got
+pub returns-in_err-quantity-in-Present : goal.returns-in_err-quantity-in-Present
+unfolding dash_as
+returns-in_err-quantity-in-Present c = failed c.from_residual.ensures (opt_bad _ _ c.in-Present.ensures (ill c.in_err-quantity-in-Present.ensures))
+
+pub returns-in_ok-quantity-in-Present : goal.returns-in_ok-quantity-in-Present
 unfolding dash_as opt_quantity_in OptQuantityWithin
-returns-in-Got c = reads (opt_present _ _ (told (dash_as _ _) c.opt_dash.ensures c.in-Present.is) (got c.read_quantity.ensures (ap quantity_got c.in-Got.is))) (good_of c.read_quantity.ensures (ap quantity_got c.in-Got.is))
+returns-in_ok-quantity-in-Present c = reads (opt_present _ _ c.in-Present.ensures (got c.in_ok-quantity-in-Present.ensures)) (good_of c.in_ok-quantity-in-Present.ensures)

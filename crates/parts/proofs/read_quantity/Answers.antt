@@ -1,34 +1,32 @@
-use Rattle.std.proofs.Common.{ap}
-use Rattle.parts.specs.Views.{quantity_in}
 use Rattle.rules.specs.Read.{read_quantity}
-use Rattle.parts.specs.Got.{content_got, flag_got, kind_got, opt_text_got, span_got}
-use Rattle.parts.proofs.Sequence.{gives, reads, fails, good_of, step, goes, ends, stop}
+use Rattle.parts.specs.Views.{quantity_in}
+use Rattle.parts.proofs.Sequence.{gives, reads, failed, good_of, step, goes, ends, stop}
 use Rattle.parts.proofs.read_quantity.Goals as goal
 
-pub returns-in_default : goal.returns-in_default
-unfolding read_quantity quantity_in
-returns-in_default c = fails (stop c.read_span.ensures (ap span_got c.in_default.is) _)
+pub returns-in_err-span : goal.returns-in_err-span
+unfolding read_quantity
+returns-in_err-span c = failed c.from_residual.ensures (stop c.in_err-span.ensures _)
 
-pub returns-in_default-read_kind : goal.returns-in_default-read_kind
-unfolding read_quantity quantity_in
-returns-in_default-read_kind c = fails (step c.read_span.ensures (ap span_got c.in-Got.is) _ (stop c.read_kind.ensures (ap kind_got c.in_default-read_kind.is) _))
+pub returns-in_err-kind : goal.returns-in_err-kind
+unfolding read_quantity
+returns-in_err-kind c = failed c.from_residual-in_err-kind.ensures (step c.in_ok-span.ensures _ (stop c.in_err-kind.ensures _))
 
-pub returns-in_default-read_span : goal.returns-in_default-read_span
-unfolding read_quantity quantity_in
-returns-in_default-read_span c = fails (step c.read_span.ensures (ap span_got c.in-Got.is) _ (step c.read_kind.ensures (ap kind_got c.in-Got-read_kind.is) _ (stop c.read_span-2.ensures (ap span_got c.in_default-read_span.is) _)))
+pub returns-in_err-value_span : goal.returns-in_err-value_span
+unfolding read_quantity
+returns-in_err-value_span c = failed c.from_residual-in_err-value_span.ensures (step c.in_ok-span.ensures _ (step c.in_ok-kind.ensures _ (stop c.in_err-value_span.ensures _)))
 
-pub returns-in_default-read_content : goal.returns-in_default-read_content
-unfolding read_quantity quantity_in
-returns-in_default-read_content c = fails (step c.read_span.ensures (ap span_got c.in-Got.is) _ (step c.read_kind.ensures (ap kind_got c.in-Got-read_kind.is) _ (step c.read_span-2.ensures (ap span_got c.in-Got-read_span.is) _ (stop c.read_content.ensures (ap content_got c.in_default-read_content.is) _))))
+pub returns-in_err-value : goal.returns-in_err-value
+unfolding read_quantity
+returns-in_err-value c = failed c.from_residual-in_err-value.ensures (step c.in_ok-span.ensures _ (step c.in_ok-kind.ensures _ (step c.in_ok-value_span.ensures _ (stop c.in_err-value.ensures _))))
 
-pub returns-in_default-read_lock : goal.returns-in_default-read_lock
-unfolding read_quantity quantity_in
-returns-in_default-read_lock c = fails (step c.read_span.ensures (ap span_got c.in-Got.is) _ (step c.read_kind.ensures (ap kind_got c.in-Got-read_kind.is) _ (step c.read_span-2.ensures (ap span_got c.in-Got-read_span.is) _ (step c.read_content.ensures (ap content_got c.in-Got-read_content.is) _ (stop c.read_lock.ensures (ap flag_got c.in_default-read_lock.is) _)))))
+pub returns-in_err-lock : goal.returns-in_err-lock
+unfolding read_quantity
+returns-in_err-lock c = failed c.from_residual-in_err-lock.ensures (step c.in_ok-span.ensures _ (step c.in_ok-kind.ensures _ (step c.in_ok-value_span.ensures _ (step c.in_ok-value.ensures _ (stop c.in_err-lock.ensures _)))))
 
-pub returns-in_default-read_opt_text : goal.returns-in_default-read_opt_text
-unfolding read_quantity quantity_in
-returns-in_default-read_opt_text c = fails (step c.read_span.ensures (ap span_got c.in-Got.is) _ (step c.read_kind.ensures (ap kind_got c.in-Got-read_kind.is) _ (step c.read_span-2.ensures (ap span_got c.in-Got-read_span.is) _ (step c.read_content.ensures (ap content_got c.in-Got-read_content.is) _ (step c.read_lock.ensures (ap flag_got c.in-Got-read_lock.is) _ (stop c.read_opt_text.ensures (ap opt_text_got c.in_default-read_opt_text.is) _))))))
+pub returns-in_err-unit : goal.returns-in_err-unit
+unfolding read_quantity
+returns-in_err-unit c = failed c.from_residual-in_err-unit.ensures (step c.in_ok-span.ensures _ (step c.in_ok-kind.ensures _ (step c.in_ok-value_span.ensures _ (step c.in_ok-value.ensures _ (step c.in_ok-lock.ensures _ (stop c.in_err-unit.ensures _))))))
 
 pub returns : goal.returns
 unfolding read_quantity quantity_in
-returns c = reads (goes c.read_span.ensures (ap span_got c.in-Got.is) _ (goes c.read_kind.ensures (ap kind_got c.in-Got-read_kind.is) _ (goes c.read_span-2.ensures (ap span_got c.in-Got-read_span.is) _ (goes c.read_content.ensures (ap content_got c.in-Got-read_content.is) _ (goes c.read_lock.ensures (ap flag_got c.in-Got-read_lock.is) _ (ends c.read_opt_text.ensures (ap opt_text_got c.in-Got-read_opt_text.is) _ (gives _ _))))))) (record { span = good_of c.read_span.ensures (ap span_got c.in-Got.is); value_span = good_of c.read_span-2.ensures (ap span_got c.in-Got-read_span.is); value = good_of c.read_content.ensures (ap content_got c.in-Got-read_content.is); unit = good_of c.read_opt_text.ensures (ap opt_text_got c.in-Got-read_opt_text.is) })
+returns c = reads (goes c.in_ok-span.ensures _ (goes c.in_ok-kind.ensures _ (goes c.in_ok-value_span.ensures _ (goes c.in_ok-value.ensures _ (goes c.in_ok-lock.ensures _ (ends c.in_ok-unit.ensures _ (gives _ _))))))) (record { span = good_of c.in_ok-span.ensures; value_span = good_of c.in_ok-value_span.ensures; value = good_of c.in_ok-value.ensures; unit = good_of c.in_ok-unit.ensures })

@@ -1,8 +1,8 @@
 use Rattle.pass.proofs.Ends.{end_recipe, end_refused}
 use Rattle.pass.proofs.finish.Goals as goal
 
-pub returns-then-n-eq0 : goal.returns-then-n-eq0
-returns-then-n-eq0 c = end_recipe c.end_refusal-n.ensures c.if-n-eq0.true
+pub returns-in-Err : goal.returns-in-Err
+returns-in-Err c = end_refused c.check_end.ensures _ c.in-Err.is
 
-pub returns : goal.returns
-returns c = end_refused c.end_refusal-n.ensures c.if-n-eq0.false
+pub returns-in-Ok : goal.returns-in-Ok
+returns-in-Ok c = end_recipe c.check_end.ensures c.in-Ok.is

@@ -14,46 +14,46 @@ pub returns-in_default : goal.returns-in_default
 returns-in_default c = form_cut c.loop-at.invariant c.line_end.ensures c.loop-at-test.true c.in_default.is
 
 pub slice_bounds-line-count : goal.slice_bounds-line-count
-slice_bounds-line-count c = omega (arith, (c.line_end.ensures.inside _ c.in-At.is).0, (c.line_end.ensures.inside _ c.in-At.is).1)
+slice_bounds-line-count c = omega (arith, (c.line_end.ensures.inside _ c.in-Some.is).0, (c.line_end.ensures.inside _ c.in-Some.is).1)
 
 pub slice_bounds-line-start : goal.slice_bounds-line-start
-slice_bounds-line-start c = omega (arith, (c.line_end.ensures.inside _ c.in-At.is).0, (c.line_end.ensures.inside _ c.in-At.is).1)
+slice_bounds-line-start c = omega (arith, (c.line_end.ensures.inside _ c.in-Some.is).0, (c.line_end.ensures.inside _ c.in-Some.is).1)
 
 pub slice_bounds-line-end : goal.slice_bounds-line-end
-slice_bounds-line-end c = omega (arith, (c.line_end.ensures.inside _ c.in-At.is).0, (c.line_end.ensures.inside _ c.in-At.is).1)
+slice_bounds-line-end c = omega (arith, (c.line_end.ensures.inside _ c.in-Some.is).0, (c.line_end.ensures.inside _ c.in-Some.is).1)
 
 pub event_of-e-requires : goal.event_of-e-requires
-event_of-e-requires c = form_line c.loop-at.invariant c.line_end.ensures c.in-At.is
+event_of-e-requires c = form_line c.loop-at.invariant c.line_end.ensures c.in-Some.is
 
-pub line_fault-fault-requires : goal.line_fault-fault-requires
-line_fault-fault-requires c = (c.requires.0, form_long c.loop-at.invariant, form_ready c.loop-at.invariant c.line_end.ensures c.in-At.is c.event_of-e.ensures)
+pub check_marks-requires : goal.check_marks-requires
+check_marks-requires c = (c.requires.0, form_long c.loop-at.invariant, form_ready c.loop-at.invariant c.line_end.ensures c.in-Some.is c.event_of-e.ensures)
 
-pub shape_of-out-then-fault-ne0 : goal.shape_of-out-then-fault-ne0
-shape_of-out-then-fault-ne0 c = search (rules, form_kept c.loop-at.invariant)
+pub shape_of-out-in-Err : goal.shape_of-out-in-Err
+shape_of-out-in-Err c = search (rules, form_kept c.loop-at.invariant)
 
-pub returns-then-fault-ne0 : goal.returns-then-fault-ne0
-returns-then-fault-ne0 c = form_fault c.loop-at.invariant c.line_end.ensures c.in-At.is c.event_of-e.ensures c.line_fault-fault.ensures c.if-fault-ne0.true
+pub returns-in-Err : goal.returns-in-Err
+returns-in-Err c = form_fault c.loop-at.invariant c.line_end.ensures c.in-Some.is c.event_of-e.ensures c.check_marks.ensures c.in-Err.is
 
 pub plain_of-p-requires : goal.plain_of-p-requires
 plain_of-p-requires c = (c.requires.0, c.event_of-e.ensures.within, form_long c.loop-at.invariant, form_few c.loop-at.invariant)
 
 pub put_plain-n-requires : goal.put_plain-n-requires
-put_plain-n-requires c = (c.requires.2, form_fit c.loop-at.invariant c.line_end.ensures c.in-At.is c.event_of-e.ensures c.plain_of-p.ensures)
+put_plain-n-requires c = (c.requires.2, form_fit c.loop-at.invariant c.line_end.ensures c.in-Some.is c.event_of-e.ensures c.plain_of-p.ensures)
 
 pub follow_event-f-requires : goal.follow_event-f-requires
 follow_event-f-requires c = (c.requires.0, c.event_of-e.ensures.within, form_room c.loop-at.invariant (omega (arith, c.loop-at-test.true, c.requires.1)), form_inline c.loop-at.invariant)
 
 pub overflow_add-at : goal.overflow_add-at
-overflow_add-at c = omega (arith, c.requires.1, (c.line_end.ensures.inside _ c.in-At.is).1)
+overflow_add-at c = omega (arith, c.requires.1, (c.line_end.ensures.inside _ c.in-Some.is).1)
 
 pub overflow_add-number : goal.overflow_add-number
 overflow_add-number c = omega (arith, c.requires.1, form_number c.loop-at.invariant, c.loop-at-test.true)
 
 pub loop-at-smaller : goal.loop-at-smaller
-loop-at-smaller c = omega (arith, (c.line_end.ensures.inside _ c.in-At.is).0, (c.line_end.ensures.inside _ c.in-At.is).1)
+loop-at-smaller c = omega (arith, (c.line_end.ensures.inside _ c.in-Some.is).0, (c.line_end.ensures.inside _ c.in-Some.is).1)
 
 pub loop-at-preserved : goal.loop-at-preserved
-loop-at-preserved c = form_next c.loop-at.invariant c.line_end.ensures c.in-At.is c.event_of-e.ensures c.line_fault-fault.ensures c.if-fault-ne0.false c.plain_of-p.ensures c.put_plain-n.ensures c.follow_event-f.ensures
+loop-at-preserved c = form_next c.loop-at.invariant c.line_end.ensures c.in-Some.is c.event_of-e.ensures c.check_marks.ensures c.in_default-check_marks.is c.plain_of-p.ensures c.put_plain-n.ensures c.follow_event-f.ensures
 
 pub shape_of-out : goal.shape_of-out
 shape_of-out c = search (rules, form_kept c.loop-at.invariant)

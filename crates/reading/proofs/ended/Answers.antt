@@ -1,11 +1,11 @@
 use Rattle.reading.proofs.Lines.{ended_ill, ended_more, ended_got}
 use Rattle.reading.proofs.ended.Goals as goal
 
-pub returns-in_default : goal.returns-in_default
-returns-in_default c = ended_ill _ c.in_default.is
+pub returns-in_err-v : goal.returns-in_err-v
+returns-in_err-v c = rw c.from_residual.ensures (ended_ill _ c.in_err-v.was)
 
 pub returns-then-m-line : goal.returns-then-m-line
-returns-then-m-line c = ended_more _ c.in-Got.is c.if-m-line.true
+returns-then-m-line c = ended_more _ c.in_ok-v.was c.if-m-line.true
 
 pub returns : goal.returns
-returns c = ended_got _ c.in-Got.is c.if-m-line.false
+returns c = ended_got _ c.in_ok-v.was c.if-m-line.false

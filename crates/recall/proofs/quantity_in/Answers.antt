@@ -1,26 +1,26 @@
-use mathlib.Core.Path.{refl, ap}
+use mathlib.Core.Path.{refl}
 use Rattle.rules.specs.Read.{read_component}
-use Rattle.parts.specs.Got.{span_got, text_got, opt_text_got, opt_quantity_got}
 use Rattle.parts.proofs.Sequence.{good_of, step, stop}
 use Rattle.recall.proofs.Quantities.{not_ill, quantity_got_lem}
 use Rattle.recall.proofs.quantity_in.Goals as goal
 
-pub returns-in_default : goal.returns-in_default
+pub returns-in_err-span : goal.returns-in_err-span
 unfolding read_component
-returns-in_default c = not_ill _ c.requires (stop c.read_span.ensures (ap span_got c.in_default.is) _)
+returns-in_err-span c = not_ill _ c.requires (stop c.in_err-span.ensures _)
 
-pub returns-in_default-read_text : goal.returns-in_default-read_text
+pub returns-in_err-name : goal.returns-in_err-name
 unfolding read_component
-returns-in_default-read_text c = not_ill _ c.requires (step c.read_span.ensures (ap span_got c.in-Got.is) _ (stop c.read_text.ensures (ap text_got c.in_default-read_text.is) _))
+returns-in_err-name c = not_ill _ c.requires (step c.in_ok-span.ensures _ (stop c.in_err-name.ensures _))
 
-pub returns-in_default-read_opt_text : goal.returns-in_default-read_opt_text
+pub returns-in_err-alias : goal.returns-in_err-alias
 unfolding read_component
-returns-in_default-read_opt_text c = not_ill _ c.requires (step c.read_span.ensures (ap span_got c.in-Got.is) _ (step c.read_text.ensures (ap text_got c.in-Got-read_text.is) _ (stop c.read_opt_text.ensures (ap opt_text_got c.in_default-read_opt_text.is) _)))
+returns-in_err-alias c = not_ill _ c.requires (step c.in_ok-span.ensures _ (step c.in_ok-name.ensures _ (stop c.in_err-alias.ensures _)))
 
-pub returns-in_default-read_opt_quantity : goal.returns-in_default-read_opt_quantity
+pub returns-in_err-quantity : goal.returns-in_err-quantity
 unfolding read_component
-returns-in_default-read_opt_quantity c = not_ill _ c.requires (step c.read_span.ensures (ap span_got c.in-Got.is) _ (step c.read_text.ensures (ap text_got c.in-Got-read_text.is) _ (step c.read_opt_text.ensures (ap opt_text_got c.in-Got-read_opt_text.is) _ (stop c.read_opt_quantity.ensures (ap opt_quantity_got c.in_default-read_opt_quantity.is) _))))
+returns-in_err-quantity c = not_ill _ c.requires (step c.in_ok-span.ensures _ (step c.in_ok-name.ensures _ (step c.in_ok-alias.ensures _ (stop c.in_err-quantity.ensures _))))
 
 pub returns : goal.returns
 unfolding read_component
-returns c = quantity_got_lem _ c.requires _ _ _ _ (step c.read_span.ensures (ap span_got c.in-Got.is) _ (step c.read_text.ensures (ap text_got c.in-Got-read_text.is) _ (step c.read_opt_text.ensures (ap opt_text_got c.in-Got-read_opt_text.is) _ (step c.read_opt_quantity.ensures (ap opt_quantity_got c.in-Got-read_opt_quantity.is) _ refl)))) (good_of c.read_opt_quantity.ensures (ap opt_quantity_got c.in-Got-read_opt_quantity.is))
+returns c =
+    quantity_got_lem _ c.requires _ _ _ _ (step c.in_ok-span.ensures _ (step c.in_ok-name.ensures _ (step c.in_ok-alias.ensures _ (step c.in_ok-quantity.ensures _ refl)))) (good_of c.in_ok-quantity.ensures)

@@ -1,15 +1,16 @@
 use mathlib.Core.Path.{refl}
+use Rattle.std.proofs.result.Match.{err_is}
 use Rattle.recipe.proofs.Passes.{inputs_refused, inputs_good}
 use Rattle.recipe.proofs.collected.Goals as goal
 
 pub check_inputs-requires : goal.check_inputs-requires
 check_inputs-requires c = c.requires.1
 
+pub returns-in_err-check_inputs : goal.returns-in_err-check_inputs
+returns-in_err-check_inputs c = rw (err_is _ _ c.from_residual.ensures.1) (inputs_refused _ c.check_inputs.ensures.0 _ refl c.in_err-check_inputs.was)
+
 pub pass_and_write-requires : goal.pass_and_write-requires
-pass_and_write-requires c = inputs_good _ c.check_inputs.ensures.0 c.requires.0 c.check_inputs.ensures.1 c.in-Good.is
+pass_and_write-requires c = inputs_good _ c.check_inputs.ensures.0 c.requires.0 c.check_inputs.ensures.1 c.in_ok-check_inputs.was
 
-pub returns-in-Refused : goal.returns-in-Refused
-returns-in-Refused c = inputs_refused _ c.check_inputs.ensures.0 _ refl c.in-Refused.is
-
-pub returns-in-Good : goal.returns-in-Good
-returns-in-Good c = c.pass_and_write.ensures
+pub returns : goal.returns
+returns c = c.pass_and_write.ensures

@@ -1,4 +1,5 @@
 use mathlib.Core.Path.{refl}
+use Rattle.std.proofs.result.Match.{err_is}
 use Rattle.recipe.proofs.Passes.{run_given, page_given}
 use Rattle.recipe.proofs.Forms.{bytes_lent, recipe_formed, failed_formed, refused_formed}
 use Rattle.recipe.proofs.pass_and_form.Goals as goal
@@ -7,16 +8,16 @@ pub run-requires : goal.run-requires
 run-requires c = run_given c.requires
 
 pub write_form-requires : goal.write_form-requires
-write_form-requires c = (page_given c.requires c.run.ensures refl c.in-Recipe.is, bytes_lent c.requires)
+write_form-requires c = (page_given c.requires c.run.ensures refl (rw c.in-Some.is at c.in_ok-h.was), bytes_lent c.requires)
 
 pub error_line-requires : goal.error_line-requires
 error_line-requires c = (c.requires.inputs.sheet_short, c.requires.inputs.sheet_read)
 
-pub returns-in-Recipe : goal.returns-in-Recipe
-returns-in-Recipe c = recipe_formed c.requires c.run.ensures c.in-Recipe.is c.write_form.ensures
+pub returns-in-Some : goal.returns-in-Some
+returns-in-Some c = recipe_formed c.requires c.run.ensures (rw c.in-Some.is at c.in_ok-h.was) c.write_form.ensures
 
-pub returns-in-Failed : goal.returns-in-Failed
-returns-in-Failed c = failed_formed c.requires c.run.ensures _ refl c.in-Failed.is c.error_line.ensures
+pub returns-in-None : goal.returns-in-None
+returns-in-None c = failed_formed c.requires c.run.ensures _ refl (rw c.in-None.is at c.in_ok-h.was) c.error_line.ensures
 
-pub returns-in-Refused : goal.returns-in-Refused
-returns-in-Refused c = refused_formed c.requires c.run.ensures _ refl c.in-Refused.is
+pub returns-in_err-h : goal.returns-in_err-h
+returns-in_err-h c = rw (err_is _ _ c.from_residual.ensures.1) (refused_formed c.requires c.run.ensures _ refl c.in_err-h.was)

@@ -1,4 +1,5 @@
 use mathlib.Core.Path.{refl}
+use Rattle.std.proofs.result.Match.{err_is}
 use Rattle.recipe_components.proofs.Passes.{run_given, recipe_sound, recipe_rows, failed_rows, stopped_rows}
 use Rattle.recipe_components.proofs.pass_rows.Goals as goal
 
@@ -6,13 +7,13 @@ pub run-requires : goal.run-requires
 run-requires c = run_given c.requires
 
 pub recipe_counts-requires : goal.recipe_counts-requires
-recipe_counts-requires c = recipe_sound c.run.ensures c.in-Recipe.is
+recipe_counts-requires c = recipe_sound c.run.ensures (rw c.in-Some.is at c.in_ok-h.was)
 
-pub returns-in-Recipe : goal.returns-in-Recipe
-returns-in-Recipe c = recipe_rows c.requires refl c.run.ensures c.in-Recipe.is c.recipe_counts.ensures
+pub returns-in-Some : goal.returns-in-Some
+returns-in-Some c = recipe_rows c.requires refl c.run.ensures (rw c.in-Some.is at c.in_ok-h.was) c.recipe_counts.ensures
 
-pub returns-in-Failed : goal.returns-in-Failed
-returns-in-Failed c = failed_rows c.requires refl c.run.ensures c.in-Failed.is
+pub returns-in-None : goal.returns-in-None
+returns-in-None c = failed_rows c.requires refl c.run.ensures (rw c.in-None.is at c.in_ok-h.was)
 
-pub returns-in-Refused : goal.returns-in-Refused
-returns-in-Refused c = stopped_rows c.requires refl c.run.ensures c.in-Refused.is
+pub returns-in_err-h : goal.returns-in_err-h
+returns-in_err-h c = rw (err_is _ _ c.from_residual.ensures.1) (stopped_rows c.requires refl c.run.ensures c.in_err-h.was)

@@ -1,30 +1,30 @@
 use Prim.Native.Nat.{ℕ}
-use mathlib.Core.Path.{◌≡◌, refl, ap}
+use mathlib.Core.Path.{◌≡◌, refl}
 use mathlib.Core.List.{List}
 use lib.ListN.{drop}
-use Rattle.rules.specs.Basic.{word_in}
+use Rattle.rules.specs.Basic.{on_some, word_in}
 use Rattle.rules.specs.Words.{block_kinds}
-use Rattle.sheet.specs.Words.{block_as}
+use Rattle.sheet.specs.Words.{block_in}
 use Rattle.sheet.proofs.Tests.{hit, miss, ends}
 use Rattle.sheet.proofs.block_kind.Goals as goal
 
 pub returns-then-same_bytes : goal.returns-then-same_bytes
-unfolding block_as
+unfolding on_some block_in
 returns-then-same_bytes c =
     let m0 : word_in c.args.f.now block_kinds ≡ word_in c.args.f.now block_kinds = refl in
-    ap block_as (hit _ _ _ m0 c.same_bytes.ensures c.if-same_bytes.true)
+    hit _ _ _ m0 c.same_bytes.ensures c.if-same_bytes.true
 
 pub returns-then-same_bytes-2 : goal.returns-then-same_bytes-2
-unfolding block_as
+unfolding on_some block_in
 returns-then-same_bytes-2 c =
     let m0 : word_in c.args.f.now block_kinds ≡ word_in c.args.f.now block_kinds = refl in
     let m1 : word_in c.args.f.now (drop 1 block_kinds) ≡ word_in c.args.f.now block_kinds = miss _ _ _ m0 c.same_bytes.ensures c.if-same_bytes.false in
-    ap block_as (hit _ _ _ m1 c.same_bytes-2.ensures c.if-same_bytes-2.true)
+    hit _ _ _ m1 c.same_bytes-2.ensures c.if-same_bytes-2.true
 
 pub returns : goal.returns
-unfolding block_as
+unfolding on_some block_in
 returns c =
     let m0 : word_in c.args.f.now block_kinds ≡ word_in c.args.f.now block_kinds = refl in
     let m1 : word_in c.args.f.now (drop 1 block_kinds) ≡ word_in c.args.f.now block_kinds = miss _ _ _ m0 c.same_bytes.ensures c.if-same_bytes.false in
     let m2 : word_in c.args.f.now (drop 2 block_kinds) ≡ word_in c.args.f.now block_kinds = miss _ _ _ m1 c.same_bytes-2.ensures c.if-same_bytes-2.false in
-    ap block_as (ends c.args.f.now m2)
+    ends c.args.f.now m2

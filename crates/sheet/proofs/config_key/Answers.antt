@@ -1,41 +1,41 @@
 use Prim.Native.Nat.{ℕ}
-use mathlib.Core.Path.{◌≡◌, ap, sym}
+use mathlib.Core.Path.{◌≡◌, sym}
 use mathlib.Core.List.{List}
 use lib.ListN.{drop}
-use Rattle.rules.specs.Basic.{word_in}
+use Rattle.rules.specs.Basic.{on_some, word_in}
 use Rattle.rules.specs.Words.{config_keys}
 use Rattle.rules.specs.Utf8.{chars}
 use Rattle.rules.proofs.Ascii.{word_in_chars, ascii_keys}
-use Rattle.sheet.specs.Words.{key_as}
+use Rattle.sheet.specs.Words.{key_in}
 use Rattle.sheet.proofs.Tests.{hit, miss, ends}
 use Rattle.sheet.proofs.config_key.Goals as goal
 
 pub returns-then-same_bytes : goal.returns-then-same_bytes
-unfolding key_as
+unfolding on_some key_in
 returns-then-same_bytes c =
     let m0 : word_in c.args.f.now config_keys ≡ word_in (chars c.args.f.now) config_keys = sym (word_in_chars c.args.f.now config_keys ascii_keys) in
-    ap key_as (hit _ _ _ m0 c.same_bytes.ensures c.if-same_bytes.true)
+    hit _ _ _ m0 c.same_bytes.ensures c.if-same_bytes.true
 
 pub returns-then-same_bytes-2 : goal.returns-then-same_bytes-2
-unfolding key_as
+unfolding on_some key_in
 returns-then-same_bytes-2 c =
     let m0 : word_in c.args.f.now config_keys ≡ word_in (chars c.args.f.now) config_keys = sym (word_in_chars c.args.f.now config_keys ascii_keys) in
     let m1 : word_in c.args.f.now (drop 1 config_keys) ≡ word_in (chars c.args.f.now) config_keys = miss _ _ _ m0 c.same_bytes.ensures c.if-same_bytes.false in
-    ap key_as (hit _ _ _ m1 c.same_bytes-2.ensures c.if-same_bytes-2.true)
+    hit _ _ _ m1 c.same_bytes-2.ensures c.if-same_bytes-2.true
 
 pub returns-then-same_bytes-3 : goal.returns-then-same_bytes-3
-unfolding key_as
+unfolding on_some key_in
 returns-then-same_bytes-3 c =
     let m0 : word_in c.args.f.now config_keys ≡ word_in (chars c.args.f.now) config_keys = sym (word_in_chars c.args.f.now config_keys ascii_keys) in
     let m1 : word_in c.args.f.now (drop 1 config_keys) ≡ word_in (chars c.args.f.now) config_keys = miss _ _ _ m0 c.same_bytes.ensures c.if-same_bytes.false in
     let m2 : word_in c.args.f.now (drop 2 config_keys) ≡ word_in (chars c.args.f.now) config_keys = miss _ _ _ m1 c.same_bytes-2.ensures c.if-same_bytes-2.false in
-    ap key_as (hit _ _ _ m2 c.same_bytes-3.ensures c.if-same_bytes-3.true)
+    hit _ _ _ m2 c.same_bytes-3.ensures c.if-same_bytes-3.true
 
 pub returns : goal.returns
-unfolding key_as
+unfolding on_some key_in
 returns c =
     let m0 : word_in c.args.f.now config_keys ≡ word_in (chars c.args.f.now) config_keys = sym (word_in_chars c.args.f.now config_keys ascii_keys) in
     let m1 : word_in c.args.f.now (drop 1 config_keys) ≡ word_in (chars c.args.f.now) config_keys = miss _ _ _ m0 c.same_bytes.ensures c.if-same_bytes.false in
     let m2 : word_in c.args.f.now (drop 2 config_keys) ≡ word_in (chars c.args.f.now) config_keys = miss _ _ _ m1 c.same_bytes-2.ensures c.if-same_bytes-2.false in
     let m3 : word_in c.args.f.now (drop 3 config_keys) ≡ word_in (chars c.args.f.now) config_keys = miss _ _ _ m2 c.same_bytes-3.ensures c.if-same_bytes-3.false in
-    ap key_as (ends c.args.f.now m3)
+    ends c.args.f.now m3

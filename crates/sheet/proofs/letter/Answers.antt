@@ -1,14 +1,19 @@
-use Rattle.sheet.proofs.Texts.{letter_backslash, letter_tab, letter_lf, letter_other}
+use Rattle.std.proofs.Common.{rules}
+use Rattle.rules.specs.Sheet.{escaped}
+use Rattle.sheet.proofs.Texts.{letter_other}
 use Rattle.sheet.proofs.letter.Goals as goal
 
-pub returns-then-c-eq92 : goal.returns-then-c-eq92
-returns-then-c-eq92 c = letter_backslash _ c.if-c-eq92.true
+pub returns-in-92 : goal.returns-in-92
+unfolding escaped
+returns-in-92 c = rw c.in-92.is
 
-pub returns-then-c-eq116 : goal.returns-then-c-eq116
-returns-then-c-eq116 c = letter_tab _ c.if-c-eq92.false c.if-c-eq116.true
+pub returns-in-116 : goal.returns-in-116
+unfolding escaped
+returns-in-116 c = rw c.in-116.is
 
-pub returns-then-c-eq110 : goal.returns-then-c-eq110
-returns-then-c-eq110 c = letter_lf _ c.if-c-eq92.false c.if-c-eq116.false c.if-c-eq110.true
+pub returns-in-110 : goal.returns-in-110
+unfolding escaped
+returns-in-110 c = rw c.in-110.is
 
-pub returns : goal.returns
-returns c = letter_other _ c.if-c-eq92.false c.if-c-eq116.false c.if-c-eq110.false
+pub returns-in_default : goal.returns-in_default
+returns-in_default c = letter_other c.args.c (search rules) (search rules) (search rules)

@@ -7,7 +7,7 @@ use Rattle.spans.proofs.between_good.Goals as goal
 
 pub returns-in-Meta : goal.returns-in-Meta
 unfolding spans_of between_in text_in
-returns-in-Meta c = λ line. shown (λ (v : Between). spans_of (between (between_in line v))) c.in-Meta.is (and_then (one_span c.is_good_span-a.ensures) (one_span c.is_good_span-b.ensures) c.both.ensures)
+returns-in-Meta c = λ line. shown (λ (v : Between). spans_of (between (between_in line v))) c.in-Meta.is (and_then (one_span c.is_good_span.ensures) (one_span c.is_good_span-in-Meta.ensures))
 
 pub returns-in-Section : goal.returns-in-Section
 unfolding spans_of between_in text_in

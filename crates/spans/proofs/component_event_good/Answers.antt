@@ -6,12 +6,12 @@ use Rattle.spans.proofs.component_event_good.Goals as goal
 
 pub returns-in-Ingredient : goal.returns-in-Ingredient
 unfolding component_spans component_event_in
-returns-in-Ingredient c = λ line. shown (λ (v : ComponentEvent). component_spans (component_event_in line v)) c.in-Ingredient.is (and_then (c.component_good-a.ensures line) c.opt_intermediate_good-b.ensures c.both.ensures)
+returns-in-Ingredient c = λ line. shown (λ (v : ComponentEvent). component_spans (component_event_in line v)) c.in-Ingredient.is (and_then (c.component_good.ensures line) c.opt_intermediate_good.ensures)
 
 pub returns-in-Cookware : goal.returns-in-Cookware
 unfolding component_spans component_event_in
-returns-in-Cookware c = λ line. shown (λ (v : ComponentEvent). component_spans (component_event_in line v)) c.in-Cookware.is (c.component_good.ensures line)
+returns-in-Cookware c = λ line. shown (λ (v : ComponentEvent). component_spans (component_event_in line v)) c.in-Cookware.is (c.component_good-in-Cookware.ensures line)
 
 pub returns-in-Timer : goal.returns-in-Timer
 unfolding component_spans component_event_in
-returns-in-Timer c = λ line. shown (λ (v : ComponentEvent). component_spans (component_event_in line v)) c.in-Timer.is (and_then (and_then (one_span c.is_good_span-a.ensures) (c.opt_text_good-b.ensures line) c.both-in-Timer.ensures) (c.opt_quantity_good-d.ensures line) c.both-in-Timer-2.ensures)
+returns-in-Timer c = λ line. shown (λ (v : ComponentEvent). component_spans (component_event_in line v)) c.in-Timer.is (and_then (and_then (one_span c.is_good_span.ensures) (c.opt_text_good.ensures line)) (c.opt_quantity_good.ensures line))

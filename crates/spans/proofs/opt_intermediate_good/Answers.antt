@@ -1,13 +1,14 @@
-use Rattle.components.specs.declared.OptIntermediate.{OptIntermediate}
+use Rattle.std.specs.Prelude.{Option}
 use Rattle.components.specs.Views.{intermediate_in, opt_intermediate_in}
 use Rattle.rules.specs.Event.{intermediate_spans}
 use Rattle.spans.proofs.Alls.{shown, no_span, one_span}
 use Rattle.spans.proofs.opt_intermediate_good.Goals as goal
+use Rattle.components.specs.declared.Intermediate.{Intermediate}
 
-pub returns-in-Absent : goal.returns-in-Absent
+pub returns-in-None : goal.returns-in-None
 unfolding intermediate_spans opt_intermediate_in intermediate_in
-returns-in-Absent c = shown (λ (i : OptIntermediate). intermediate_spans (opt_intermediate_in i)) c.in-Absent.is no_span
+returns-in-None c = shown (λ (i : Option Intermediate). intermediate_spans (opt_intermediate_in i)) c.in-None.is no_span
 
-pub returns-in-Present : goal.returns-in-Present
+pub returns-in-Some : goal.returns-in-Some
 unfolding intermediate_spans opt_intermediate_in intermediate_in
-returns-in-Present c = shown (λ (i : OptIntermediate). intermediate_spans (opt_intermediate_in i)) c.in-Present.is (one_span c.is_good_span.ensures)
+returns-in-Some c = shown (λ (i : Option Intermediate). intermediate_spans (opt_intermediate_in i)) c.in-Some.is (one_span c.is_good_span.ensures)

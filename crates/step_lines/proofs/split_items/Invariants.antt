@@ -6,8 +6,8 @@ use Rattle.step_lines.specs.Lines.{item_text}
 use Rattle.step_lines.proofs.Splits.{Splitting}
 use Rattle.step_lines.proofs.split_items.Given as goal
 
-abbrev pub invariant-loop-rest : goal.invariant-loop-rest
-invariant-loop-rest l = Splitting item_text (units_or (read_units l.units)) l.s l.first l.initial.rest l.rest l.at l.n l.quantities
+abbrev pub invariant-loop-q : goal.invariant-loop-q
+invariant-loop-q l = Splitting item_text (units_or (read_units l.units)) l.s l.first l.initial.rest l.rest l.at l.n l.quantities
 
-abbrev pub decreases-loop-rest : goal.decreases-loop-rest
-decreases-loop-rest l = length l.s - l.at
+abbrev pub decreases-loop-q : goal.decreases-loop-q
+decreases-loop-q l = length l.s - l.at

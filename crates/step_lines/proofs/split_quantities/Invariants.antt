@@ -6,8 +6,8 @@ use Rattle.step_lines.specs.Lines.{inline_text}
 use Rattle.step_lines.proofs.Splits.{Splitting}
 use Rattle.step_lines.proofs.split_quantities.Given as goal
 
-abbrev pub invariant-loop-number_from : goal.invariant-loop-number_from
-invariant-loop-number_from l = Splitting inline_text (units_or (read_units l.units)) l.s l.first l.initial.rest l.rest l.at l.count l.quantities
+abbrev pub invariant-loop-q : goal.invariant-loop-q
+invariant-loop-q l = Splitting inline_text (units_or (read_units l.units)) l.s l.first l.initial.rest l.rest l.at l.count l.quantities
 
-abbrev pub decreases-loop-number_from : goal.decreases-loop-number_from
-decreases-loop-number_from l = length l.s - l.at
+abbrev pub decreases-loop-q : goal.decreases-loop-q
+decreases-loop-q l = length l.s - l.at

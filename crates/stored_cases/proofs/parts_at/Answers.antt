@@ -1,30 +1,40 @@
-use Rattle.stored_cases.proofs.Numbers.{told_ill, told_at}
-use Rattle.stored_cases.proofs.Cases.{no_room, no_name, no_sheet, no_text, no_units, no_flags, no_collect, no_plain, all_numbers}
+use mathlib.Core.Path.{ap}
+use Rattle.std.specs.Prelude.{Some}
+use Rattle.stored_cases.specs.Cases.{parts_at}
 use Rattle.stored_cases.proofs.parts_at.Goals as goal
 
-pub returns-in_default : goal.returns-in_default
-returns-in_default c = no_room _ _ (told_ill _ c.read_number.ensures c.in_default.is)
+pub returns-in_err-room : goal.returns-in_err-room
+unfolding parts_at
+returns-in_err-room c = rw (c.from_residual.ensures, ← c.in_err-room.ensures)
 
-pub returns-in_default-read_number : goal.returns-in_default-read_number
-returns-in_default-read_number c = no_name _ _ (told_at _ c.read_number.ensures c.in-At.is) (told_ill _ c.read_number-2.ensures c.in_default-read_number.is)
+pub returns-in_err-name : goal.returns-in_err-name
+unfolding parts_at
+returns-in_err-name c = rw (c.from_residual-in_err-name.ensures, ← c.in_ok-room.ensures, ← c.in_err-name.ensures)
 
-pub returns-in_default-read_number-2 : goal.returns-in_default-read_number-2
-returns-in_default-read_number-2 c = no_sheet _ _ (told_at _ c.read_number.ensures c.in-At.is) (told_at _ c.read_number-2.ensures c.in-At-read_number.is) (told_ill _ c.read_number-3.ensures c.in_default-read_number-2.is)
+pub returns-in_err-sheet : goal.returns-in_err-sheet
+unfolding parts_at
+returns-in_err-sheet c = rw (c.from_residual-in_err-sheet.ensures, ← c.in_ok-room.ensures, ← c.in_ok-name.ensures, ← c.in_err-sheet.ensures)
 
-pub returns-in_default-read_number-3 : goal.returns-in_default-read_number-3
-returns-in_default-read_number-3 c = no_text _ _ (told_at _ c.read_number.ensures c.in-At.is) (told_at _ c.read_number-2.ensures c.in-At-read_number.is) (told_at _ c.read_number-3.ensures c.in-At-read_number-2.is) (told_ill _ c.read_number-4.ensures c.in_default-read_number-3.is)
+pub returns-in_err-text : goal.returns-in_err-text
+unfolding parts_at
+returns-in_err-text c = rw (c.from_residual-in_err-text.ensures, ← c.in_ok-room.ensures, ← c.in_ok-name.ensures, ← c.in_ok-sheet.ensures, ← c.in_err-text.ensures)
 
-pub returns-in_default-read_number-4 : goal.returns-in_default-read_number-4
-returns-in_default-read_number-4 c = no_units _ _ (told_at _ c.read_number.ensures c.in-At.is) (told_at _ c.read_number-2.ensures c.in-At-read_number.is) (told_at _ c.read_number-3.ensures c.in-At-read_number-2.is) (told_at _ c.read_number-4.ensures c.in-At-read_number-3.is) (told_ill _ c.read_number-5.ensures c.in_default-read_number-4.is)
+pub returns-in_err-units : goal.returns-in_err-units
+unfolding parts_at
+returns-in_err-units c = rw (c.from_residual-in_err-units.ensures, ← c.in_ok-room.ensures, ← c.in_ok-name.ensures, ← c.in_ok-sheet.ensures, ← c.in_ok-text.ensures, ← c.in_err-units.ensures)
 
-pub returns-in_default-read_number-5 : goal.returns-in_default-read_number-5
-returns-in_default-read_number-5 c = no_flags _ _ (told_at _ c.read_number.ensures c.in-At.is) (told_at _ c.read_number-2.ensures c.in-At-read_number.is) (told_at _ c.read_number-3.ensures c.in-At-read_number-2.is) (told_at _ c.read_number-4.ensures c.in-At-read_number-3.is) (told_at _ c.read_number-5.ensures c.in-At-read_number-4.is) (told_ill _ c.read_number-6.ensures c.in_default-read_number-5.is)
+pub returns-in_err-flags : goal.returns-in_err-flags
+unfolding parts_at
+returns-in_err-flags c = rw (c.from_residual-in_err-flags.ensures, ← c.in_ok-room.ensures, ← c.in_ok-name.ensures, ← c.in_ok-sheet.ensures, ← c.in_ok-text.ensures, ← c.in_ok-units.ensures, ← c.in_err-flags.ensures)
 
-pub returns-in_default-read_number-6 : goal.returns-in_default-read_number-6
-returns-in_default-read_number-6 c = no_collect _ _ (told_at _ c.read_number.ensures c.in-At.is) (told_at _ c.read_number-2.ensures c.in-At-read_number.is) (told_at _ c.read_number-3.ensures c.in-At-read_number-2.is) (told_at _ c.read_number-4.ensures c.in-At-read_number-3.is) (told_at _ c.read_number-5.ensures c.in-At-read_number-4.is) (told_at _ c.read_number-6.ensures c.in-At-read_number-5.is) (told_ill _ c.read_number-7.ensures c.in_default-read_number-6.is)
+pub returns-in_err-collect : goal.returns-in_err-collect
+unfolding parts_at
+returns-in_err-collect c = rw (c.from_residual-in_err-collect.ensures, ← c.in_ok-room.ensures, ← c.in_ok-name.ensures, ← c.in_ok-sheet.ensures, ← c.in_ok-text.ensures, ← c.in_ok-units.ensures, ← c.in_ok-flags.ensures, ← c.in_err-collect.ensures)
 
-pub returns-in_default-read_number-7 : goal.returns-in_default-read_number-7
-returns-in_default-read_number-7 c = no_plain _ _ (told_at _ c.read_number.ensures c.in-At.is) (told_at _ c.read_number-2.ensures c.in-At-read_number.is) (told_at _ c.read_number-3.ensures c.in-At-read_number-2.is) (told_at _ c.read_number-4.ensures c.in-At-read_number-3.is) (told_at _ c.read_number-5.ensures c.in-At-read_number-4.is) (told_at _ c.read_number-6.ensures c.in-At-read_number-5.is) (told_at _ c.read_number-7.ensures c.in-At-read_number-6.is) (told_ill _ c.read_number-8.ensures c.in_default-read_number-7.is)
+pub returns-in_err-plain : goal.returns-in_err-plain
+unfolding parts_at
+returns-in_err-plain c = rw (c.from_residual-in_err-plain.ensures, ← c.in_ok-room.ensures, ← c.in_ok-name.ensures, ← c.in_ok-sheet.ensures, ← c.in_ok-text.ensures, ← c.in_ok-units.ensures, ← c.in_ok-flags.ensures, ← c.in_ok-collect.ensures, ← c.in_err-plain.ensures)
 
 pub returns : goal.returns
-returns c = all_numbers _ _ (told_at _ c.read_number.ensures c.in-At.is) (told_at _ c.read_number-2.ensures c.in-At-read_number.is) (told_at _ c.read_number-3.ensures c.in-At-read_number-2.is) (told_at _ c.read_number-4.ensures c.in-At-read_number-3.is) (told_at _ c.read_number-5.ensures c.in-At-read_number-4.is) (told_at _ c.read_number-6.ensures c.in-At-read_number-5.is) (told_at _ c.read_number-7.ensures c.in-At-read_number-6.is) (told_at _ c.read_number-8.ensures c.in-At-read_number-7.is) c.laid_out-c.ensures
+unfolding parts_at
+returns c = rw (← c.in_ok-room.ensures, ← c.in_ok-name.ensures, ← c.in_ok-sheet.ensures, ← c.in_ok-text.ensures, ← c.in_ok-units.ensures, ← c.in_ok-flags.ensures, ← c.in_ok-collect.ensures, ← c.in_ok-plain.ensures) (ap Some c.laid_out-c.ensures)

@@ -5,14 +5,14 @@ use Rattle.text.proofs.same_rest.Goals as goal
 pub loop-x-init : goal.loop-x-init
 loop-x-init c = same_start _ _ _ _ c.start-i.ensures c.start-j.ensures
 
-pub returns-in-End-q : goal.returns-in-End-q
-returns-in-End-q c = search (rules, both_end)
+pub returns-in-None-q : goal.returns-in-None-q
+returns-in-None-q c = search (rules, both_end)
 
-pub returns-in-Code-q : goal.returns-in-Code-q
-returns-in-Code-q c = search (rules, left_end)
+pub returns-in-Some-q : goal.returns-in-Some-q
+returns-in-Some-q c = search (rules, left_end)
 
-pub returns-in-End-q-2 : goal.returns-in-End-q-2
-returns-in-End-q-2 c = search (rules, right_end)
+pub returns-in-None-q-2 : goal.returns-in-None-q-2
+returns-in-None-q-2 c = search (rules, right_end)
 
 pub returns-then-x-y : goal.returns-then-x-y
 returns-then-x-y c = search (rules, differ)

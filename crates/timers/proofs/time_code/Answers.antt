@@ -1,26 +1,28 @@
+use Rattle.std.proofs.Common.{◌≡◌, Some, refl}
+use Rattle.units.specs.declared.Physical.{Physical}
+use Rattle.units.specs.declared.Physical.TheVariants.{Volume, Mass, Length, Temperature, Time}
+use Rattle.rules.specs.Basic.{on_some}
+use Rattle.rules.specs.Units.{same_physical, physical_number}
+use Rattle.units.specs.Quantities.{physical_in}
 use Rattle.timers.specs.Timed.{time_code}
 use Rattle.timers.proofs.time_code.Goals as goal
 
-pub returns-in-Volume : goal.returns-in-Volume
-unfolding time_code
-returns-in-Volume c = rw c.in-Volume.is
+other_code : (q : Physical) → (q ≡ Time → ⊥) → 22 ≡ time_code (Some (physical_in q))
+unfolding time_code physical_in same_physical physical_number
+other_code Volume n = refl
+other_code Mass n = refl
+other_code Length n = refl
+other_code Temperature n = refl
+other_code Time n = absurd (n refl)
 
-pub returns-in-Mass : goal.returns-in-Mass
-unfolding time_code
-returns-in-Mass c = rw c.in-Mass.is
-
-pub returns-in-Length : goal.returns-in-Length
-unfolding time_code
-returns-in-Length c = rw c.in-Length.is
-
-pub returns-in-Temperature : goal.returns-in-Temperature
-unfolding time_code
-returns-in-Temperature c = rw c.in-Temperature.is
+pub returns-in_default : goal.returns-in_default
+unfolding time_code on_some
+returns-in_default c = rw c.in_default.is
 
 pub returns-in-Time : goal.returns-in-Time
-unfolding time_code
-returns-in-Time c = rw c.in-Time.is
+unfolding time_code on_some physical_in same_physical physical_number
+returns-in-Time c = rw (c.in-Some.is, c.in-Time.is)
 
-pub returns-in-Unknown : goal.returns-in-Unknown
-unfolding time_code
-returns-in-Unknown c = rw c.in-Unknown.is
+pub returns-in_default-q : goal.returns-in_default-q
+unfolding on_some
+returns-in_default-q c = rw c.in-Some.is (other_code c.in-Some.q c.in_default-q.not-Time)

@@ -1,11 +1,11 @@
 use Rattle.unit_checks.proofs.Fitting.{has_none, has_no, has_yes}
 use Rattle.unit_checks.proofs.has_unit.Goals as goal
 
-pub returns-in-Absent : goal.returns-in-Absent
-returns-in-Absent c = has_none c.in-Absent.is
+pub returns-in-None : goal.returns-in-None
+returns-in-None c = has_none c.in-None.is
 
-pub returns-in-Absent-u : goal.returns-in-Absent-u
-returns-in-Absent-u c = has_no c.in-Present.is c.in-Absent-u.is
+pub returns-in-None-u : goal.returns-in-None-u
+returns-in-None-u c = has_no c.in-Some.is c.in-None-u.is
 
-pub returns-in-Present-u : goal.returns-in-Present-u
-returns-in-Present-u c = has_yes c.in-Present.is c.in-Present-u.is
+pub returns-in-Some-u : goal.returns-in-Some-u
+returns-in-Some-u c = has_yes c.in-Some.is c.in-Some-u.is

@@ -39,16 +39,16 @@ pub row_against-k-requires : goal.row_against-k-requires
 row_against-k-requires c = (c.requires.0, c.requires.1, c.requires.2, c.loop-from.invariant.0.sound, c.loop-from.invariant.0.fit, going_room c.loop-from.invariant.0 c.loop-from-test.true, not_past _ _ _ _ _ _ c.row_fits.ensures.0 (not-true _ c.if-not-row_fits.true-raw))
 
 pub loop-from-smaller-then-not-row_fits : goal.loop-from-smaller-then-not-row_fits
-loop-from-smaller-then-not-row_fits c = omega (arith, going_less c.loop-from.invariant.0 c.next_referrer.ensures _ _ c.in-Referrer.is, c.loop-from-test.true)
+loop-from-smaller-then-not-row_fits c = omega (arith, going_less c.loop-from.invariant.0 c.next_referrer.ensures _ _ c.in-Some.is, c.loop-from-test.true)
 
 pub loop-from-preserved-then-not-row_fits : goal.loop-from-preserved-then-not-row_fits
-loop-from-preserved-then-not-row_fits c = (going_turn c.loop-from.invariant.0 c.next_referrer.ensures _ _ c.in-Referrer.is c.loop-from-test.true c.row_against-k.ensures, c.row_fits.ensures.1)
+loop-from-preserved-then-not-row_fits c = (going_turn c.loop-from.invariant.0 c.next_referrer.ensures _ _ c.in-Some.is c.loop-from-test.true c.row_against-k.ensures, c.row_fits.ensures.1)
 
 pub loop-from-smaller : goal.loop-from-smaller
-loop-from-smaller c = omega (arith, going_less c.loop-from.invariant.0 c.next_referrer.ensures _ _ c.in-Referrer.is, c.loop-from-test.true)
+loop-from-smaller c = omega (arith, going_less c.loop-from.invariant.0 c.next_referrer.ensures _ _ c.in-Some.is, c.loop-from-test.true)
 
 pub loop-from-preserved : goal.loop-from-preserved
-loop-from-preserved c = (going_turn c.loop-from.invariant.0 c.next_referrer.ensures _ _ c.in-Referrer.is c.loop-from-test.true (row_skipped c.loop-from.invariant.0.fit (units_start _ c.requires.1.list) c.requires.3 c.row_fits.ensures.0 (not-false _ c.if-not-row_fits.false-raw)), c.row_fits.ensures.1)
+loop-from-preserved c = (going_turn c.loop-from.invariant.0 c.next_referrer.ensures _ _ c.in-Some.is c.loop-from-test.true (row_skipped c.loop-from.invariant.0.fit (units_start _ c.requires.1.list) c.requires.3 c.row_fits.ensures.0 (not-false _ c.if-not-row_fits.false-raw)), c.row_fits.ensures.1)
 
 pub shape_of-codes : goal.shape_of-codes
 shape_of-codes c = omega (arith, c.loop-from.invariant.1.long, c.requires.8.long)

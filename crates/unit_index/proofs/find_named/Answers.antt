@@ -18,10 +18,10 @@ pub slice_bounds-same_content-count : goal.slice_bounds-same_content-count
 slice_bounds-same_content-count c = omega (arith, c.line_at-u.ensures.named)
 
 pub slice_bounds-same_content-start : goal.slice_bounds-same_content-start
-slice_bounds-same_content-start c = omega (arith, c.line_at-u.ensures.named, c.line_at-u.ensures.within)
+slice_bounds-same_content-start c = omega (arith, c.line_at-u.ensures.named, c.line_at-u.ensures.ended, c.line_at-u.ensures.within)
 
 pub slice_bounds-same_content-end : goal.slice_bounds-same_content-end
-slice_bounds-same_content-end c = c.line_at-u.ensures.within
+slice_bounds-same_content-end c = omega (arith, c.line_at-u.ensures.ended, c.line_at-u.ensures.within)
 
 pub returns-then-same_content : goal.returns-then-same_content
 returns-then-same_content c = content_found c.requires c.loop-p.invariant c.loop-p-test.true c.start_at-from.ensures c.line_at-u.ensures c.same_content.ensures c.if-same_content.true

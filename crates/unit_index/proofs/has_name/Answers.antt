@@ -16,7 +16,7 @@ pub line_at-u-requires : goal.line_at-u-requires
 line_at-u-requires c = rw c.start_at-from.ensures (line_in c.requires.0 (seek_below c.requires.0 c.loop-p.invariant c.loop-p-test.true))
 
 pub is_named-requires : goal.is_named-requires
-is_named-requires c = omega (arith, c.line_at-u.ensures.named, c.line_at-u.ensures.within)
+is_named-requires c = omega (arith, c.line_at-u.ensures.named, c.line_at-u.ensures.ended, c.line_at-u.ensures.within)
 
 pub returns-then-is_named : goal.returns-then-is_named
 returns-then-is_named c = name_found c.args.name.now c.requires.0 c.requires.1 c.loop-p.invariant c.loop-p-test.true c.start_at-from.ensures c.line_at-u.ensures c.is_named.ensures c.if-is_named.true

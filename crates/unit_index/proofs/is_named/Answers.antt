@@ -15,10 +15,10 @@ pub slice_bounds-same_chars-count : goal.slice_bounds-same_chars-count
 slice_bounds-same_chars-count c = omega (arith, c.line_at-u.ensures.named)
 
 pub slice_bounds-same_chars-start : goal.slice_bounds-same_chars-start
-slice_bounds-same_chars-start c = omega (arith, c.line_at-u.ensures.named, c.line_at-u.ensures.within)
+slice_bounds-same_chars-start c = omega (arith, c.line_at-u.ensures.named, c.line_at-u.ensures.ended, c.line_at-u.ensures.within)
 
 pub slice_bounds-same_chars-end : goal.slice_bounds-same_chars-end
-slice_bounds-same_chars-end c = c.line_at-u.ensures.within
+slice_bounds-same_chars-end c = omega (arith, c.line_at-u.ensures.ended, c.line_at-u.ensures.within)
 
 pub returns : goal.returns
 returns c = c.same_chars.ensures ∙ ap (eq_list (content_in c.args.name.now)) (sym (line_name c.requires.0.filled (linked_below c.requires.1) c.start_at-from.ensures c.line_at-u.ensures))

@@ -1,43 +1,26 @@
-use borrow.Author.Rules.{rules}
-use native.Mathlib.Omega.{arith}
-use Rattle.units.proofs.Turns.{here, end_here, letters_in, volume_turn, mass_turn, length_turn, time_turn, temperature_turn}
+use Rattle.std.proofs.Common.{arith, rules}
+use Rattle.units.proofs.Turns.{units_end, letters_in, volume_turn, mass_turn, length_turn, time_turn, temperature_turn}
 use Rattle.units.proofs.unit_at.Goals as goal
+use Rattle.units.proofs.unit_at.Goals.{then-c-eq118, else-c-eq118+then-c-eq109, else-c-eq118+else-c-eq109+then-c-eq108, else-c-eq118+else-c-eq109+else-c-eq108+then-d-eq105, else-c-eq118+else-c-eq109+else-c-eq108+else-d-eq105}
 
 pub returns-then-units-at : goal.returns-then-units-at
-returns-then-units-at c = end_here _ _ c.if-units-at.true
+returns-then-units-at c = units_end _ _ c.if-units-at.true
 
 pub bounds-units-w : goal.bounds-units-w
 bounds-units-w c = let k = letters_in _ _ c.requires c.if-units-at.false c.field-name.ensures in omega arith
 
-pub overflow_add-w-then-c-eq118 : goal.overflow_add-w-then-c-eq118
-overflow_add-w-then-c-eq118 c = let k = volume_turn _ _ c.requires c.if-units-at.false c.field-name.ensures c.if-c-eq118.true in search rules
-
-pub returns-then-c-eq118 : goal.returns-then-c-eq118
-returns-then-c-eq118 c = here c.unit_to.ensures (volume_turn _ _ c.requires c.if-units-at.false c.field-name.ensures c.if-c-eq118.true)
-
-pub overflow_add-w-then-c-eq109 : goal.overflow_add-w-then-c-eq109
-overflow_add-w-then-c-eq109 c = let k = mass_turn _ _ c.requires c.if-units-at.false c.field-name.ensures c.if-c-eq109.true in search rules
-
-pub returns-then-c-eq109 : goal.returns-then-c-eq109
-returns-then-c-eq109 c = here c.unit_to-then-c-eq109.ensures (mass_turn _ _ c.requires c.if-units-at.false c.field-name.ensures c.if-c-eq109.true)
-
-pub overflow_add-w-then-c-eq108 : goal.overflow_add-w-then-c-eq108
-overflow_add-w-then-c-eq108 c = let k = length_turn _ _ c.requires c.if-units-at.false c.field-name.ensures c.if-c-eq108.true in search rules
-
-pub returns-then-c-eq108 : goal.returns-then-c-eq108
-returns-then-c-eq108 c = here c.unit_to-then-c-eq108.ensures (length_turn _ _ c.requires c.if-units-at.false c.field-name.ensures c.if-c-eq108.true)
-
 pub bounds-units-w-2 : goal.bounds-units-w-2
-bounds-units-w-2 c = let k = letters_in _ _ c.requires c.if-units-at.false c.field-name.ensures in omega arith
-
-pub overflow_add-w-then-d-eq105 : goal.overflow_add-w-then-d-eq105
-overflow_add-w-then-d-eq105 c = let k = time_turn _ _ c.requires c.if-units-at.false c.field-name.ensures c.if-d-eq105.true in search rules
-
-pub returns-then-d-eq105 : goal.returns-then-d-eq105
-returns-then-d-eq105 c = here c.unit_to-then-d-eq105.ensures (time_turn _ _ c.requires c.if-units-at.false c.field-name.ensures c.if-d-eq105.true)
-
-pub overflow_add-w-2 : goal.overflow_add-w-2
-overflow_add-w-2 c = let k = temperature_turn _ _ c.requires c.if-units-at.false c.field-name.ensures c.if-c-eq118.false c.if-c-eq109.false c.if-c-eq108.false c.if-d-eq105.false in search rules
+bounds-units-w-2 c = letters_in _ _ c.requires c.if-units-at.false c.field-name.ensures
 
 pub returns : goal.returns
-returns c = here c.unit_to-2.ensures (temperature_turn _ _ c.requires c.if-units-at.false c.field-name.ensures c.if-c-eq118.false c.if-c-eq109.false c.if-c-eq108.false c.if-d-eq105.false)
+returns c =
+    elim c.if-c-eq118.branch [
+      | then-c-eq118 w ↦ rw w.physical-is (volume_turn _ _ c.requires c.if-units-at.false c.field-name.ensures w.if-c-eq118.true)
+      | else-c-eq118+then-c-eq109 w ↦ rw w.physical-is (mass_turn _ _ c.requires c.if-units-at.false c.field-name.ensures w.if-c-eq109.true)
+      | else-c-eq118+else-c-eq109+then-c-eq108 w ↦ rw w.physical-is (length_turn _ _ c.requires c.if-units-at.false c.field-name.ensures w.if-c-eq108.true)
+      | else-c-eq118+else-c-eq109+else-c-eq108+then-d-eq105 w ↦ rw w.physical-is (time_turn _ _ c.requires c.if-units-at.false c.field-name.ensures w.if-d-eq105.true)
+      | else-c-eq118+else-c-eq109+else-c-eq108+else-d-eq105 w ↦ rw w.physical-is (temperature_turn _ _ c.requires c.if-units-at.false c.field-name.ensures w.if-c-eq118.false w.if-c-eq109.false w.if-c-eq108.false w.if-d-eq105.false)
+    ]
+
+pub overflow_add-result : goal.overflow_add-result
+overflow_add-result c = let k = (returns c).within in search rules

@@ -20,8 +20,8 @@ returns-then-not-is_later-2 c = search (rules, three_miss_2)
 pub returns-then-a-lt240 : goal.returns-then-a-lt240
 returns-then-a-lt240 c = search (rules, three_size)
 
-pub returns-in-Fault : goal.returns-in-Fault
-returns-in-Fault c = search (rules, size_fault)
+pub returns-in-None : goal.returns-in-None
+returns-in-None c = search (rules, size_fault)
 
-pub returns-in-Char : goal.returns-in-Char
-returns-in-Char c = search (rules, size_char)
+pub returns-in-Some : goal.returns-in-Some
+returns-in-Some c = search (rules, size_char)

@@ -1,5 +1,4 @@
 use Rattle.rules.proofs.Basics.{no_truth}
-use borrow.Author.Tests.{not-false}
 use mathlib.Core.Path.{sym, ◌∙◌}
 use Rattle.text.proofs.Lasts.{closes, parted_last}
 use Rattle.text.proofs.fronts.is_parted_last.Goals as goal
@@ -19,8 +18,5 @@ returns-then-a-n-eq92 c = λ e. no_truth e
 pub returns-then-b-m-eq92 : goal.returns-then-b-m-eq92
 returns-then-b-m-eq92 c = λ e. no_truth e
 
-pub returns-then-not-is_plain : goal.returns-then-not-is_plain
-returns-then-not-is_plain c = λ e. no_truth e
-
-pub returns : goal.returns
-returns c = λ e. parted_last (closes _ c.if-n-lt2.false c.if-a-n-eq92.false (sym c.is_plain.ensures ∙ not-false _ c.if-not-is_plain.false-raw)) (closes _ c.if-m-lt2.false c.if-b-m-eq92.false (sym c.is_plain-2.ensures ∙ e)) c.if-x-y.false
+pub returns-then-is_plain : goal.returns-then-is_plain
+returns-then-is_plain c = λ e. parted_last (closes _ c.if-n-lt2.false c.if-a-n-eq92.false (sym c.is_plain.ensures ∙ c.if-is_plain.true)) (closes _ c.if-m-lt2.false c.if-b-m-eq92.false (sym c.is_plain-then-is_plain.ensures ∙ e)) c.if-x-y.false
