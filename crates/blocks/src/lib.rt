@@ -23,16 +23,7 @@ use sheet::{BlockKind, Define};
 fn with_block(h: Held, block: Open) -> Held
     ensures { result ≡ with_block block h }
 {
-    let define = h.define;
-    let duplicate = h.duplicate;
-    let counts = h.counts;
-    Held {
-        define,
-        duplicate,
-        block,
-        named: h.named,
-        counts,
-    }
+    Held { block, ..h }
 }
 
 pub fn is_open(h: Held) -> bool
@@ -111,10 +102,8 @@ pub fn push_items(mut h: Held, n: usize) -> Held
     requires { h.counts.items + n ≤ 100000 }
     ensures { ItemsPushed n h result }
 {
-    let define = h.define;
     let more = h.counts.items + n;
-    let items = items_after(define, h.counts.items, more);
-    h.counts.items = items;
+    h.counts.items = items_after(h.define, h.counts.items, more);
     with_block(h, Open::Step)
 }
 

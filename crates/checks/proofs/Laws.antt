@@ -1,6 +1,6 @@
 -- One law for each way through a check.
 use Prim.Native.Nat.{ℕ, zero, suc, ◌+◌, ◌-◌, ◌<◌, ◌≤◌}
-use mathlib.Core.Path.{◌≡◌, refl, ◌∙◌}
+use mathlib.Core.Path.{◌≡◌, refl, sym, ◌∙◌}
 use mathlib.Core.Bool.{Bool, true, false, not}
 use Rattle.std.specs.Prelude.{Some, None, Option}
 use mathlib.Core.List.{List, [], ◌∷◌, ◌++◌}
@@ -17,7 +17,8 @@ use Rattle.parts.specs.declared.TextView.{TextView}
 use Rattle.parts.specs.declared.QuantityView.{QuantityView}
 use Rattle.parts.specs.Views.{span_in, SpanWithin, text_in, opt_text_in, OptTextWithin, quantity_in, opt_quantity_in, QuantityWithin, OptQuantityWithin}
 use Rattle.model.specs.declared.Held.{Held}
-use Rattle.compatible.specs.Fitting.{unit_in}
+use Rattle.compatible.specs.Fitting.{told, unit_in}
+use Rattle.compatible.proofs.Laws.{not_told, is_told, told_not}
 use Rattle.checks.specs.Reports.{Reported, nothing, NoteWithin, NoteChecked, QuantityChecked, place_with, place_of, UnitsChecked}
 use Rattle.checks.proofs.Reports.{reported_seq, reported_count}
 use Rattle.sheet.specs.Words.{kind_in}
@@ -176,13 +177,13 @@ module _ (us : List NamedUnit) (f g : List ℕ) {a b : Option QuantityView} {w�
   unfolding unit_pair opt_quantity_in on_some
   units_alone x e o = record { is = λ i j new old p q. none_found (rw (e, o)) }
 
-  module _ (x y : QuantityView) {n : ℕ} (e : a ≡ Some x) (o : b ≡ Some y) (k : n ≡ compatible_unit us (unit_in g y.unit) (unit_in f x.unit)) where
-    pub units_fit : n ≡ 0 → UnitsChecked us f a g b w₀ h₀ w₀ h₀
-    units_fit z = record { is = λ i j new old p q. none_found (pair_is us f g x y e o k i j new old p q ∙ finding_none n _ z) }
+  module _ (x y : QuantityView) {r : Option ℕ} (e : a ≡ Some x) (o : b ≡ Some y) (k : r ≡ told (compatible_unit us (unit_in g y.unit) (unit_in f x.unit))) where
+    pub units_fit : r ≡ None → UnitsChecked us f a g b w₀ h₀ w₀ h₀
+    units_fit z = record { is = λ i j new old p q. none_found (pair_is us f g x y e o refl i j new old p q ∙ finding_none _ _ (not_told (sym z ∙ k))) }
 
-    pub units_differ : {w : List ℕ} {h : Held} {s t : Span} → (n ≡ 0 → ⊥) → s ≡ place_of x → t ≡ place_of y
+    pub units_differ : (n : ℕ) {w : List ℕ} {h : Held} {s t : Span} → r ≡ Some n → s ≡ place_of x → t ≡ place_of y
         → Reported (found_two n (span_in s) (span_in t) false ∷ []) w₀ h₀ w h → UnitsChecked us f a g b w₀ h₀ w h
-    units_differ z u v r = record { is = λ i j new old p q. said (pair_is us f g x y e o k i j new old p q ∙ finding_some n _ z ∙ rw (places f g x y, u, v)) r }
+    units_differ n z u v m = record { is = λ i j new old p q. said (pair_is us f g x y e o (is_told (sym z ∙ k)) i j new old p q ∙ finding_some n _ (told_not _ (sym z ∙ k)) ∙ rw (places f g x y, u, v)) m }
 
 pub place_own : (q : QuantityView) → q.unit ≡ None → q.span ≡ place_of q
 unfolding place_of place_with

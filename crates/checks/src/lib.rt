@@ -190,15 +190,14 @@ pub fn unit_pair(
         Some(x) => match b {
             None => h,
             Some(y) => {
-                let u = x.unit;
-                let v = y.unit;
-                let code = compatible::compatible_unit(t, units, index, g, v, f, u);
-                if code == 0 {
-                    return h;
+                match compatible::compatible_unit(t, units, index, g, y.unit, f, x.unit) {
+                    None => h,
+                    Some(code) => {
+                        let p = unit_place(x);
+                        let q = unit_place(y);
+                        push_two(words, h, code, p, q, false)
+                    }
                 }
-                let p = unit_place(x);
-                let q = unit_place(y);
-                push_two(words, h, code, p, q, false)
             }
         },
     }

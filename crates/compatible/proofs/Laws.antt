@@ -7,12 +7,12 @@ use mathlib.Core.List.{List}
 use native.Mathlib.Omega.{arith}
 use lib.Dec.{eqb}
 use borrow.Author.Tests.{eq-eqb, ne_eqb, eqb-true}
-use Rattle.rules.specs.Basic.{eq_list, is_some, on_some}
+use Rattle.rules.specs.Basic.{pick, eq_list, is_some, on_some}
 use Rattle.rules.specs.Units.{NamedUnit, PhysicalQuantity, volume, mass, len, temperature, time, physical_number, same_physical, read_units, find_unit}
 use Rattle.rules.specs.Answer.{units_or}
 use Rattle.rules.specs.Model.{trimmed_text}
 use Rattle.rules.specs.Checks.{known_units, compatible_unit}
-use Rattle.rules.proofs.Basics.{no_truth}
+use Rattle.rules.proofs.Basics.{no_truth, no_some, some_inj}
 use Rattle.rules.proofs.SameChars.{eq_true, eq_itself}
 use Rattle.content.specs.Contents.{kept_in}
 use Rattle.content.proofs.Plains as plains
@@ -23,7 +23,7 @@ use Rattle.units.proofs.Walks.{units_start}
 use Rattle.parts.specs.declared.TextView.{TextView}
 use Rattle.parts.specs.Views.{part_of, text_in, opt_text_in, TextWithin, OptTextWithin}
 use Rattle.parts.proofs.Contents.{content_of_lem}
-use Rattle.compatible.specs.Fitting.{code_of, unit_code, known_of, trimmed_in, unit_in}
+use Rattle.compatible.specs.Fitting.{code_of, unit_code, known_of, told, trimmed_in, unit_in}
 
 -- ---- numbers of physical quantities
 
@@ -103,6 +103,40 @@ module _ (us : List NamedUnit) (a b : List ℕ) {m n : ℕ} (x : m ≡ unit_code
   units_differ g h e =
       sym (both_other us a b (find_unit a us) (find_unit b us) (λ k. g (x ∙ k)) (λ k. h (y ∙ k)) (λ k. e (x ∙ k ∙ sym y)))
 
+-- ---- the finding that a code stands for
+
+pub told_none : {n : ℕ} → 0 ≡ n → None ≡ told n
+unfolding told
+told_none e = rw (← e)
+
+pub told_some : {c n : ℕ} → (c ≡ 0 → ⊥) → c ≡ n → Some c ≡ told n
+unfolding told
+told_some {c} h e = rw (← e, ne_eqb c 0 h)
+
+pub not_told : {n : ℕ} → None ≡ told n → n ≡ 0
+unfolding told
+not_told {n} e = go (eqb n 0) refl e
+  where
+    go : (b : Bool) → b ≡ eqb n 0 → None ≡ pick b None (Some n) → n ≡ 0
+    go true q e = eqb-true n 0 (sym q)
+    go false q e = no_some e
+
+pub is_told : {c n : ℕ} → Some c ≡ told n → c ≡ n
+unfolding told
+is_told {c} {n} e = go (eqb n 0) e
+  where
+    go : (b : Bool) → Some c ≡ pick b None (Some n) → c ≡ n
+    go true e = no_some (sym e)
+    go false e = some_inj e
+
+pub told_not : {c : ℕ} (n : ℕ) → Some c ≡ told n → c ≡ 0 → ⊥
+unfolding told
+told_not {c} n e z = go (eqb n 0) refl e
+  where
+    go : (b : Bool) → b ≡ eqb n 0 → Some c ≡ pick b None (Some n) → ⊥
+    go true q e = no_some (sym e)
+    go false q e = no_truth (q ∙ eq-eqb n 0 (sym (some_inj e) ∙ z))
+
 -- ---- whether they fit
 
 pub code_small : (us : List NamedUnit) (a : List ℕ) → unit_code us a ≤ 5
@@ -148,14 +182,14 @@ pub within_present : (line : List ℕ) (o : Option TextView) (v : TextView) → 
 unfolding OptTextWithin
 within_present line o v w e = rw e at w
 
-pub both_present : (us : List NamedUnit) (f g : List ℕ) {u v : TextView} {x y : List ℕ} {r : ℕ} → TextWithin f u → TextWithin g v
-    → TrimmedTo (part_of f u.content) x → TrimmedTo (part_of g v.content) y → r ≡ known_of us (kept_in x) (kept_in y)
-    → r ≡ compatible_unit us (unit_in f (Some u)) (unit_in g (Some v))
+pub both_present : (us : List NamedUnit) (f g : List ℕ) {u v : TextView} {x y : List ℕ} {r : Option ℕ} → TextWithin f u → TextWithin g v
+    → TrimmedTo (part_of f u.content) x → TrimmedTo (part_of g v.content) y → r ≡ told (known_of us (kept_in x) (kept_in y))
+    → r ≡ told (compatible_unit us (unit_in f (Some u)) (unit_in g (Some v)))
 unfolding compatible_unit unit_in opt_text_in on_some known_of
 both_present us f g {u} {v} {x} {y} i j k l e = rw (text_kept f u x i k, text_kept g v y j l) at e
 
 -- the units of a list that was read
-pub list_read : (s a b : List ℕ) {r : ℕ} → is_some (read_units s) ≡ true → r ≡ known_of (units_from s 0) a b → r ≡ known_of (units_or (read_units s)) a b
+pub list_read : (s a b : List ℕ) {r : Option ℕ} → is_some (read_units s) ≡ true → r ≡ told (known_of (units_from s 0) a b) → r ≡ told (known_of (units_or (read_units s)) a b)
 list_read s a b h e = rw (units_start s h) at e
 
 -- the trimming of the part that was taken

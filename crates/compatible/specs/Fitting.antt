@@ -1,6 +1,6 @@
 -- The units of quantities as their lines have them.
-use Rattle.std.specs.Prelude.{ℕ, List, Option, None, Some}
-use Rattle.rules.specs.Basic.{on_some}
+use Rattle.std.specs.Prelude.{ℕ, List, eqb, Option, None, Some}
+use Rattle.rules.specs.Basic.{pick, on_some}
 use Rattle.rules.specs.Units.{NamedUnit, PhysicalQuantity, physical_number, find_unit}
 use Rattle.rules.specs.Model.{trimmed_text}
 use Rattle.rules.specs.Text.{text_trimmed}
@@ -21,6 +21,10 @@ unit_code us a = code_of (find_unit a us)
 -- the code for two units that are there
 unfoldable pub known_of : List NamedUnit → List ℕ → List ℕ → ℕ
 known_of us a b = known_units us a b (find_unit a us) (find_unit b us)
+
+-- the finding that a code stands for: 0 for none
+unfoldable pub told : ℕ → Option ℕ
+told n = pick (eqb n 0) None (Some n)
 
 -- the unit of a field as the pass trims it
 unfoldable pub trimmed_in : List ℕ → List ℕ

@@ -12,7 +12,7 @@ ghost use Rattle.unit_index.specs.Index.{Indexed};
 ghost use Rattle.units.specs.Quantities.{physical_in};
 ghost use Rattle.units.specs.Lists.{units_from};
 ghost use Rattle.parts.specs.Views.{part_of, OptTextWithin};
-ghost use Rattle.compatible.specs.Fitting.{unit_code, known_of, unit_in};
+ghost use Rattle.compatible.specs.Fitting.{unit_code, known_of, unit_in, told};
 
 use parts::TextView;
 use units::Physical;
@@ -40,26 +40,26 @@ pub fn unit_code(units: &[u8], index: &[u32], a: &[u8]) -> u32
     }
 }
 
-// The code for two units, or 0 where they fit. The same unit fits, known or not.
-fn known_units(units: &[u8], index: &[u32], a: &[u8], b: &[u8]) -> u32
+// The code for two units, or none where they fit. The same unit fits, known or not.
+fn known_units(units: &[u8], index: &[u32], a: &[u8], b: &[u8]) -> Option<u32>
     requires { Indexed units.now index.now }
-    ensures { result ≡ known_of (units_from units.now 0) (kept_in a.now) (kept_in b.now) }
+    ensures { result ≡ told (known_of (units_from units.now 0) (kept_in a.now) (kept_in b.now)) }
 {
     if content::same_parts(a, b) {
-        return 0;
+        return None;
     }
     let m = unit_code(units, index, a);
     if m == 5 {
-        return 17;
+        return Some(17);
     }
     let n = unit_code(units, index, b);
     if n == 5 {
-        return 17;
+        return Some(17);
     }
     if m == n {
-        return 0;
+        return None;
     }
-    16
+    Some(16)
 }
 
 // The part of a line that a text's trimming leaves.
@@ -71,7 +71,7 @@ pub fn text_part<'a>(t: &[u32], line: &'a [u8], v: TextView) -> &'a [u8]
     text::text_outer_trimmed(t, f)
 }
 
-// The code for the units of two quantities, each of its line: 15, 16, 17, or 0 where they fit.
+// The code for the units of two quantities, each of its line: 15, 16 or 17, or none where they fit.
 pub fn compatible_unit(
     t: &[u32],
     units: &[u8],
@@ -80,9 +80,9 @@ pub fn compatible_unit(
     a: Option<TextView>,
     g: &[u8],
     b: Option<TextView>,
-) -> u32
+) -> Option<u32>
     requires { (t.now ≡ unicode_tables) × Indexed units.now index.now × OptTextWithin f.now a × OptTextWithin g.now b }
-    ensures { result ≡ compatible_unit (units_or (read_units units.now)) (unit_in f.now a) (unit_in g.now b) }
+    ensures { result ≡ told (compatible_unit (units_or (read_units units.now)) (unit_in f.now a) (unit_in g.now b)) }
 {
     match (a, b) {
         (Some(u), Some(v)) => {
@@ -90,7 +90,7 @@ pub fn compatible_unit(
             let y = text_part(t, g, v);
             known_units(units, index, x, y)
         }
-        (None, None) => 0,
-        _ => 15,
+        (None, None) => None,
+        _ => Some(15),
     }
 }

@@ -31,18 +31,14 @@ not_at e = absurd (let z : ◌≡◌ {A = ℕ} 0 1 = cc in omega arith)
 
 -- ---- what `asks_same` answers
 
-module _ (modes : Modes) {ref : Bool} where
-  pub asks_ref : ref ≡ true → true ≡ asks_same modes ref
+module _ (modes : Modes) (ref : Bool) {v : Bool} (e : v ≡ (ref || is_steps modes.define)) where
+  pub asks_steps : v ≡ true → v ≡ asks_same modes ref
   unfolding asks_same
-  asks_ref e = rw e
+  asks_steps h = rw (← e, h)
 
-  pub asks_steps : {s : Bool} → ref ≡ false → s ≡ is_steps modes.define → s ≡ true → true ≡ asks_same modes ref
+  pub asks_last : {r : Bool} → v ≡ false → r ≡ is_reference modes.duplicate → r ≡ asks_same modes ref
   unfolding asks_same
-  asks_steps e q h = rw (e, sym q ∙ h)
-
-  pub asks_duplicate : {s r : Bool} → ref ≡ false → s ≡ is_steps modes.define → s ≡ false → r ≡ is_reference modes.duplicate → r ≡ asks_same modes ref
-  unfolding asks_same
-  asks_duplicate e q h k = rw (e, sym q ∙ h) k
+  asks_last h k = rw (← e, h) k
 
 -- ---- the answer of the search, or none
 

@@ -14,7 +14,6 @@ ghost use Rattle.components.specs.Views.{modifiers_in};
 ghost use Rattle.events.specs.Views.{component_event_in, ComponentEventWithin};
 ghost use Rattle.events.specs.declared.ComponentEvent.TheVariants as event;
 ghost use Rattle.known_events.specs.Fields.{ComponentEventFields};
-ghost use Rattle.model.specs.Rows as rows;
 ghost use Rattle.model.specs.Memory.{Sound};
 ghost use Rattle.model.specs.Fits.{AllFit};
 ghost use Rattle.lookup.specs.Names.{SameFound};
@@ -48,13 +47,7 @@ fn name_of(t: &[u32], sheet: &[u8], at: usize, v: ComponentView, kind: Kind) -> 
 fn asks_same(define: Define, duplicate: Duplicate, reference: bool) -> bool
     ensures { result ≡ asks_same (modes_of define duplicate) reference }
 {
-    if reference {
-        return true;
-    }
-    if lookup::is_steps(define) {
-        return true;
-    }
-    lookup::is_reference(duplicate)
+    reference || lookup::is_steps(define) || lookup::is_reference(duplicate)
 }
 
 // The earlier component of the name; an explicit REF does not ask for OPT.
@@ -98,18 +91,6 @@ fn same_of(
     None
 }
 
-fn modifiers_of(r: Row) -> Modifiers
-    ensures { modifiers_in result ≡ rows.modifiers_in r }
-{
-    Modifiers {
-        recipe: r.recipe,
-        reference: r.reference,
-        hidden: r.hidden,
-        opt: r.opt,
-        new: r.new,
-    }
-}
-
 // The modifiers of what the search found.
 fn old_of(words: &[u32], h: Held, same: Option<usize>, kind: Kind) -> Option<Modifiers>
     requires { Sound words.now h × SameBelow (kind_of kind) h same }
@@ -119,7 +100,7 @@ fn old_of(words: &[u32], h: Held, same: Option<usize>, kind: Kind) -> Option<Mod
         None => None,
         Some(i) => {
             let r = unit_checks::kind_row(words, kind, i);
-            let m = modifiers_of(r);
+            let m = new_rows::modifiers_of(r);
             Some(m)
         }
     }

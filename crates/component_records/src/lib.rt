@@ -110,10 +110,8 @@ pub fn lend_records(words: &[u32], from: usize, count: usize, all: &mut [Compone
     requires { (count ≤ 513) × (0 < count → from + count * 12 ≤ length words.now) × (count ≤ length all.old) }
     ensures { all.new ≡ records_in words.now from count ++ replicate (length all.old - count) no_component }
 {
-    let mut i = 0;
-    while i < all.len() {
-        all[i] = component_at(words, from, count, i);
-        i += 1;
+    for (i, c) in all.iter_mut().enumerate() {
+        *c = component_at(words, from, count, i);
     }
 }
 
@@ -200,10 +198,8 @@ pub fn link_records(all: &mut [Component], count: usize, pairs: &mut [u32]) -> u
         × (result ≡ own_count (take count all.old)) }
 {
     let mut n = 0;
-    let mut i = 0;
-    while i < count {
+    for i in 0..count {
         n = link_record(all, i, pairs, n);
-        i += 1;
     }
     n
 }

@@ -104,6 +104,12 @@ module _ {f : List ℕ} {at i : ℕ} (v : Skipping f at i) where
   unfolding kept_in retain
   skip_end h = record { least = v.least; most = v.most; is = sym v.is ∙ rw (content_none f i h) }
 
+  pub skip_whole : length f ≤ i → Skipped f at (length f)
+  skip_whole h =
+      let m : i ≤ length f = v.most in
+      let e : i ≡ length f = omega arith in
+      rw e at (skip_end h)
+
   pub skip_other : i < length f → (get_or f i 0 ≡ 32 → ⊥) → Skipped f at i
   unfolding kept_in
   skip_other h n =

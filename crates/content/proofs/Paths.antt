@@ -45,7 +45,7 @@ module _ (f : List ℕ) (at : ℕ) where
 
 -- ---- `is_path`
 
-pub no_path : (f : List ℕ) → length f < 1 → false ≡ is_path (content_in f)
+pub no_path : (f : List ℕ) → length f ≡ 0 → false ≡ is_path (content_in f)
 no_path [] h = rw no_content (sym path_none)
 no_path (x ∷ f) h = absurd (omega arith)
 

@@ -54,14 +54,12 @@ fn skip_blanks(f: &[u8], at: usize) -> usize
     requires { at ≤ length f.now }
     ensures { Skipped f.now at result }
 {
-    let mut i = at;
-    while i < f.len() {
+    for i in at..f.len() {
         if f[i] != b' ' {
             return i;
         }
-        i += 1;
     }
-    i
+    f.len()
 }
 
 // The character at a place, which takes the blanks with it that go after it.
@@ -203,7 +201,7 @@ fn separator_at(f: &[u8], at: usize) -> bool
 fn is_path(f: &[u8]) -> bool
     ensures { result ≡ is_path (content_in f.now) }
 {
-    if f.len() < 1 {
+    if f.is_empty() {
         return false;
     }
     let a = char_in(f, 0);
@@ -218,10 +216,7 @@ fn is_path(f: &[u8]) -> bool
         return false;
     }
     let b = char_in(f, i);
-    if b.code != 46 {
-        return false;
-    }
-    separator_at(f, i + b.size)
+    b.code == 46 && separator_at(f, i + b.size)
 }
 
 // Where the path before a name ends, and where the name starts; without a path both are 0.

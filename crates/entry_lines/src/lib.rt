@@ -15,7 +15,6 @@ ghost use Rattle.content.specs.Contents.{kept_in};
 ghost use Rattle.content.specs.Parts.{Field};
 ghost use Rattle.components.specs.Views.{modifiers_in, component_in};
 ghost use Rattle.known_events.specs.Fields.{ComponentFields};
-ghost use Rattle.model.specs.Rows as model;
 ghost use Rattle.model.specs.Rows.{referrers_in, referrers_from, relation_in, entry_in, entries_in, component_of_line};
 ghost use Rattle.model.specs.Memory.{state_in, Sound};
 ghost use Rattle.model.specs.Fits.{is_of_kind, AllFit};
@@ -25,7 +24,7 @@ ghost use Rattle.entry_lines.specs.Ready.{RowReady, TableReady};
 
 use components::{ComponentView, Modifiers};
 use content::NamePlace;
-use model::{Held, Kind, Relation, RelationRecord, Row, Target};
+use model::{Held, Kind, Relation, RelationRecord, Target};
 
 // ---- relations
 
@@ -33,10 +32,11 @@ use model::{Held, Kind, Relation, RelationRecord, Row, Target};
 fn put_word(out: &mut [u8], at: usize, kind: Kind) -> usize
     ensures { Put (kind_word (kind_of kind)) out.old at out.new result }
 {
-    match kind {
-        Kind::Ingredient => output::put_bytes(out, at, b"ingredient"),
-        Kind::Cookware => output::put_bytes(out, at, b"cookware"),
-    }
+    let word: &[u8] = match kind {
+        Kind::Ingredient => b"ingredient",
+        Kind::Cookware => b"cookware",
+    };
+    output::put_bytes(out, at, word)
 }
 
 fn put_target(out: &mut [u8], at: usize, t: Target, kind: Kind) -> usize
@@ -65,10 +65,7 @@ fn put_reference(out: &mut [u8], at: usize, t: Target, index: u32, kind: Kind) -
 fn put_place(out: &mut [u8], at: usize, in_step: bool) -> usize
     ensures { Put (tabbed (pick in_step (codes "step") (codes "list") ∷ [])) out.old at out.new result }
 {
-    if in_step {
-        return output::put_field(out, at, b"step");
-    }
-    output::put_field(out, at, b"list")
+    output::put_field(out, at, if in_step { b"step" } else { b"list" })
 }
 
 // The referrers of a definition from a pair on, oldest first, each after a comma.
@@ -199,10 +196,7 @@ fn put_path(out: &mut [u8], at: usize, w: &[u8], p: NamePlace, kind: Kind) -> us
 fn is_ingredient(kind: Kind) -> bool
     ensures { result ≡ is_ingredient (kind_of kind) }
 {
-    match kind {
-        Kind::Ingredient => true,
-        Kind::Cookware => false,
-    }
+    matches!(kind, Kind::Ingredient)
 }
 
 // The fields of a component between its index and its relation.
@@ -249,19 +243,6 @@ fn put_component(
     put_own(t, out, at, line, v, marks, kind)
 }
 
-// The modifiers that the pass left to a row.
-fn marks_of(row: Row) -> Modifiers
-    ensures { modifiers_in result ≡ model.modifiers_in row }
-{
-    Modifiers {
-        recipe: row.recipe,
-        reference: row.reference,
-        hidden: row.hidden,
-        opt: row.opt,
-        new: row.new,
-    }
-}
-
 // The line of the i-th row at the front of the unwritten rest of the output: how many bytes it took, or one more than the
 // rest has where it does not fit.
 fn entry_line(
@@ -281,7 +262,7 @@ fn entry_line(
     let from = row.line_at as usize;
     let to = row.line_end as usize;
     let relation = row.relation;
-    let marks = marks_of(row);
+    let marks = new_rows::modifiers_of(row);
     let index = i as u32;
     let a = put_word(rest, 0, kind);
     let b = output::put_number(rest, a, index);
@@ -330,10 +311,8 @@ fn put_entries(
         return out.len() + 1;
     }
     let mut next = at;
-    let mut i = 0;
-    while i < n {
+    for i in 0..n {
         next = put_entry(t, sheet, rows, pairs, m, i, kind, out, next);
-        i += 1;
     }
     next
 }

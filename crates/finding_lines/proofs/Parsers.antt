@@ -140,9 +140,10 @@ pub severe_yes : {s : Severity} → s ≡ severity.Severe → pick true words.se
 unfolding severity_in
 severe_yes e = rw e
 
-pub severe_no : {s : Severity} → s ≡ severity.Mild → pick false words.severe words.mild ≡ severity_in s
+pub severe_no : {s : Severity} → (s ≡ severity.Severe → ⊥) → pick false words.severe words.mild ≡ severity_in s
 unfolding severity_in
-severe_no e = rw e
+severe_no {s = severity.Severe} n = absurd (n refl)
+severe_no {s = severity.Mild} n = refl
 
 module _ {v : EventView} {o₀ o : List ℕ} {at r : ℕ} where
   pub event_between : {b : BetweenView} → v ≡ event.Between b → Put [] o₀ at o r → EventPut v o₀ at o r

@@ -31,66 +31,25 @@ pub fn begin(out: &[u8], at: usize) -> usize
 // ---- one finding
 
 // Whether a finding of the pass is an error.
+#[tactic(auto, unfolding(rules::specs::Finding::is_error))]
 fn is_error(code: u32) -> bool
     ensures { result ≡ is_error code }
 {
-    if code == 1 {
-        return true;
-    }
-    if code == 7 {
-        return true;
-    }
-    if code == 8 {
-        return true;
-    }
-    if code == 9 {
-        return true;
-    }
-    if code == 10 {
-        return true;
-    }
-    if code == 13 {
-        return true;
-    }
-    if code == 14 {
-        return true;
-    }
-    if code == 18 {
-        return true;
-    }
-    if code == 19 {
-        return true;
-    }
-    if code == 21 {
-        return true;
-    }
-    if code == 22 {
-        return true;
-    }
-    if code == 23 {
-        return true;
-    }
-    false
+    matches!(code, 1 | 7 | 8 | 9 | 10 | 13 | 14 | 18 | 19 | 21 | 22 | 23)
 }
 
 // The field `E` or `W`.
 fn put_severity(out: &mut [u8], at: usize, error: bool) -> usize
     ensures { Put (tabbed (severity_word (pick error severe mild) ∷ [])) out.old at out.new result }
 {
-    if error {
-        return output::put_field(out, at, b"E");
-    }
-    output::put_field(out, at, b"W")
+    output::put_field(out, at, if error { b"E" } else { b"W" })
 }
 
 // The field `i` or `-`.
 fn put_flag(out: &mut [u8], at: usize, implicit: bool) -> usize
     ensures { Put (tabbed (flag_field implicit ∷ [])) out.old at out.new result }
 {
-    if implicit {
-        return output::put_field(out, at, b"i");
-    }
-    output::put_field(out, at, b"-")
+    output::put_field(out, at, if implicit { b"i" } else { b"-" })
 }
 
 // A span as `3-14`.
@@ -173,15 +132,11 @@ pub fn finding_lines(words: &[u32], h: Held, out: &mut [u8], at: usize) -> usize
     requires { Sound words.now h }
     ensures { FindingsPut words.now h out.old at out.new result }
 {
-    let n = h.counts.findings;
-    let mut m = begin(out, at);
-    let mut i = 0;
-    while i < n {
-        let x = model::finding_at(&words[10780..23132], i);
-        m = put_finding(out, m, x);
-        i += 1;
+    let mut n = begin(out, at);
+    for i in 0..h.counts.findings {
+        n = put_finding(out, n, model::finding_at(&words[10780..23132], i));
     }
-    m
+    n
 }
 
 // ---- 3, old metadata, whose spans are not in work memory: what stands before them, one of them, what stands after them
@@ -213,10 +168,7 @@ pub fn old_close(rest: &mut [u8]) -> usize
 fn is_severe(s: Severity) -> bool
     ensures { pick result severe mild ≡ severity_in s }
 {
-    match s {
-        Severity::Severe => true,
-        Severity::Mild => false,
-    }
+    matches!(s, Severity::Severe)
 }
 
 fn put_parsed(out: &mut [u8], at: usize, error: bool, number: u32) -> usize

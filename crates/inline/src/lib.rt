@@ -292,7 +292,7 @@ pub struct Counts {
 fn text_items(from: usize, to: usize) -> usize
     ensures { result ≡ text_items from to }
 {
-    if from < to { 1 } else { 0 }
+    usize::from(from < to)
 }
 
 pub fn count_items(t: &[u32], units: &[u8], index: &[u32], s: &[u8]) -> Counts
@@ -303,7 +303,7 @@ pub fn count_items(t: &[u32], units: &[u8], index: &[u32], s: &[u8]) -> Counts
     let mut quantities = 0;
     let mut at = 0;
     while let Some(q) = find_inline_quantity(t, units, index, s, at) {
-        items = items + text_items(at, q.number_from) + 1;
+        items += text_items(at, q.number_from) + 1;
         quantities += 1;
         at = q.after;
     }

@@ -1,10 +1,10 @@
 -- The classes and the folding below 128, each by one computed test.
-use Prim.Native.Nat.{ℕ, ◌+◌, ◌≤◌, ◌<◌}
+use Prim.Native.Nat.{ℕ, ◌+◌, ◌<◌}
 use mathlib.Core.Path.{◌≡◌, refl, sym, ◌∙◌}
 use mathlib.Core.Bool.{Bool, true, false, not}
 use mathlib.Core.List.{List, [], ◌∷◌}
-use lib.Dec.{eqb, leb, ltb}
-use borrow.Author.Tests.{eqb-true, eq-eqb, ne_eqb, lt-ltb, le-ltb}
+use lib.Dec.{eqb}
+use borrow.Author.Tests.{eqb-true, eq-eqb, ne_eqb}
 use Rattle.rules.specs.Basic.{pick, within}
 use Rattle.rules.specs.Ranges.{member, lookup}
 use Rattle.rules.specs.Alphabetic.{alphabetic}
@@ -29,7 +29,7 @@ abbrev ascii_white : ℕ → Bool
 ascii_white c = pick (eqb c 32) true (within 9 13 c)
 
 abbrev ascii_letter : ℕ → Bool
-ascii_letter c = pick (ltb c 97) (within 65 90 c) (leb c 122)
+ascii_letter c = pick (within 97 122 c) true (within 65 90 c)
 
 white_below : all_below (λ c. same (ascii_white c) (is_white_space c)) 128 ≡ true
 unfolding is_white_space member white_space
@@ -83,11 +83,11 @@ module _ (c : ℕ) (h : c < 128) where
   pub white_other : {r : Bool} → (c ≡ 32 → ⊥) → r ≡ within 9 13 c → r ≡ is_white_space c
   white_other n e = e ∙ (rw (ne_eqb c 32 n) at (ascii_white_lem c h))
 
-  pub letter_upper : {r : Bool} → c < 97 → r ≡ within 65 90 c → r ≡ is_alphabetic c
-  letter_upper l e = e ∙ (rw (lt-ltb c 97 l) at (ascii_alphabetic c h))
+  pub letter_lower : {r : Bool} → r ≡ within 97 122 c → r ≡ true → r ≡ is_alphabetic c
+  letter_lower e t = t ∙ (rw (sym e ∙ t) at (ascii_alphabetic c h))
 
-  pub letter_lower : 97 ≤ c → leb c 122 ≡ is_alphabetic c
-  letter_lower l = rw (le-ltb c 97 l) at (ascii_alphabetic c h)
+  pub letter_upper : {r s : Bool} → r ≡ within 97 122 c → r ≡ false → s ≡ within 65 90 c → s ≡ is_alphabetic c
+  letter_upper e f g = g ∙ (rw (sym e ∙ f) at (ascii_alphabetic c h))
 
   pub digit : {r : Bool} → r ≡ within 48 57 c → r ≡ is_numeric c
   digit e = e ∙ ascii_numeric c h

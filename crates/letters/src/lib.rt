@@ -88,13 +88,8 @@ pub fn is_white_space(t: &[u32], c: u32) -> bool
     if c < 128 {
         return c == 32 || is_within(9, 13, c);
     }
-    if 0xa0 < c {
-        if c < 0x1680 {
-            return false;
-        }
-        if 0x3000 < c {
-            return false;
-        }
+    if 0xa0 < c && (c < 0x1680 || 0x3000 < c) {
+        return false;
     }
     in_ranges(&t[WHITE..WHITE_ENDS], &t[WHITE_ENDS..ALPHABETIC], c)
 }
@@ -120,23 +115,18 @@ pub fn is_alphabetic(t: &[u32], c: u32) -> bool
     ensures { result ≡ is_alphabetic c }
 {
     if c < 128 {
-        if c < 97 {
-            return is_within(65, 90, c);
-        }
-        return c <= 122;
+        return is_within(97, 122, c) || is_within(65, 90, c);
     }
     // Chinese characters, and the letters of Yi after them
     if is_within(0x4e00, 0xa48c, c) {
         return true;
     }
-    if is_mark(c) {
-        return false;
-    }
-    in_ranges(
-        &t[ALPHABETIC..ALPHABETIC_ENDS],
-        &t[ALPHABETIC_ENDS..NUMERIC],
-        c,
-    )
+    !is_mark(c)
+        && in_ranges(
+            &t[ALPHABETIC..ALPHABETIC_ENDS],
+            &t[ALPHABETIC_ENDS..NUMERIC],
+            c,
+        )
 }
 
 pub fn is_numeric(t: &[u32], c: u32) -> bool
@@ -146,10 +136,7 @@ pub fn is_numeric(t: &[u32], c: u32) -> bool
     if c < 128 {
         return is_within(48, 57, c);
     }
-    if is_mark(c) {
-        return false;
-    }
-    in_ranges(&t[NUMERIC..NUMERIC_ENDS], &t[NUMERIC_ENDS..KEYS], c)
+    !is_mark(c) && in_ranges(&t[NUMERIC..NUMERIC_ENDS], &t[NUMERIC_ENDS..KEYS], c)
 }
 
 pub fn is_alphanumeric(t: &[u32], c: u32) -> bool
@@ -214,10 +201,8 @@ fn fold_in(t: &[u32], c: u32) -> Folded
     ensures { folded_of result ≡ fold_rule c }
 {
     let k = lower_bound(&t[KEYS..FIRST], c);
-    if k < 1557 {
-        if t[KEYS + k] == c {
-            return row_at(t, k);
-        }
+    if k < 1557 && t[KEYS + k] == c {
+        return row_at(t, k);
     }
     Folded::One(c)
 }

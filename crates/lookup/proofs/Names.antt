@@ -2,7 +2,7 @@
 use Prim.Native.Nat.{ℕ, zero, suc, ◌+◌, ◌-◌, ◌*◌, ◌≤◌, ◌<◌}
 use mathlib.Core.Path.{◌≡◌, refl, sym, ap, ◌∙◌}
 use mathlib.Core.List.{List, [], ◌∷◌}
-use mathlib.Core.Bool.{Bool, true, false, ◌||◌, not, beq}
+use mathlib.Core.Bool.{Bool, true, false, ◌&&◌, ◌||◌, not, beq}
 use Rattle.std.specs.Prelude.{Option, None, Some}
 use native.Mathlib.Omega.{arith}
 use borrow.Author.Tests.{eq-eqb, ne_eqb, not-true, not-false}
@@ -160,20 +160,27 @@ part_slice (suc a) (suc b) [] h = take-nil (suc b - suc a)
 part_slice (suc a) (suc b) (x ∷ l) h = let e : suc b - suc a ≡ b - a = omega arith in ap (λ (n : ℕ). take n (drop a l)) e ∙ part_slice a b l (omega arith)
 
 module _ (sheet rows : List ℕ) (i : ℕ) (name : List ℕ) (any is : Bool) where
-  pub fits_reference : get_or rows (i * 12 + 5) 0 ≡ 1 → false ≡ row_fits sheet (fold_name (kept_in name)) any is (row_of (row_at 12 rows i))
-  unfolding row_fits
-  fits_reference e = rw (row_reference rows i, eq-eqb (get_or rows (i * 12 + 5) 0) 1 e)
+  -- REF and OPT
+  module _ {v : Bool} where
+    pub asked_opt : {o : Bool} → (get_or rows (i * 12 + 5) 0 ≡ 1 → ⊥) → o ≡ (any || eq_bool (eqb (get_or rows (i * 12 + 7) 0) 1) is) → v ≡ o
+        → v ≡ (not (eqb (get_or rows (i * 12 + 5) 0) 1) && (any || eq_bool (eqb (get_or rows (i * 12 + 7) 0) 1) is))
+    asked_opt n eo e = e ∙ eo ∙ rw (ne_eqb (get_or rows (i * 12 + 5) 0) 1 n)
 
-  module _ (n : get_or rows (i * 12 + 5) 0 ≡ 1 → ⊥) (o : Bool) (eo : o ≡ (any || eq_bool (eqb (get_or rows (i * 12 + 7) 0) 1) is)) where
-    pub fits_opt : not o ≡ true → false ≡ row_fits sheet (fold_name (kept_in name)) any is (row_of (row_at 12 rows i))
-    unfolding row_fits
-    fits_opt t = rw (row_reference rows i, ne_eqb (get_or rows (i * 12 + 5) 0) 1 n, row_opt rows i, ← eo, not-true o t)
+    pub asked_ref : get_or rows (i * 12 + 5) 0 ≡ 1 → v ≡ not (eqb (get_or rows (i * 12 + 5) 0) 1) → v ≡ (not (eqb (get_or rows (i * 12 + 5) 0) 1) && (any || eq_bool (eqb (get_or rows (i * 12 + 7) 0) 1) is))
+    asked_ref n e = e ∙ rw (eq-eqb (get_or rows (i * 12 + 5) 0) 1 n)
 
-    pub fits_name : not o ≡ false → (r : Bool) → r ≡ same_name (kept_in (slice (get_or rows (i * 12 + 2) 0) (get_or rows (i * 12 + 3) 0) sheet)) (kept_in name)
-        → r ≡ row_fits sheet (fold_name (kept_in name)) any is (row_of (row_at 12 rows i))
-    unfolding row_fits same_name
-    fits_name t r e =
-        e ∙ rw (row_reference rows i, ne_eqb (get_or rows (i * 12 + 5) 0) 1 n, row_opt rows i, ← eo, not-false o t, row_name_at rows i, row_name_end rows i)
+    -- then the name
+    module _ (e : v ≡ (not (eqb (get_or rows (i * 12 + 5) 0) 1) && (any || eq_bool (eqb (get_or rows (i * 12 + 7) 0) 1) is))) where
+      asked_is : (r : Bool) → r ≡ (v && same_name (kept_in (slice (get_or rows (i * 12 + 2) 0) (get_or rows (i * 12 + 3) 0) sheet)) (kept_in name)) → r ≡ row_fits sheet (fold_name (kept_in name)) any is (row_of (row_at 12 rows i))
+      unfolding row_fits same_name
+      asked_is r q = q ∙ rw (e, row_reference rows i, row_opt rows i, row_name_at rows i, row_name_end rows i)
+
+      pub fits_not : v ≡ false → v ≡ row_fits sheet (fold_name (kept_in name)) any is (row_of (row_at 12 rows i))
+      fits_not f = asked_is v (rw f)
+
+      pub fits_name : v ≡ true → (r : Bool) → r ≡ same_name (kept_in (slice (get_or rows (i * 12 + 2) 0) (get_or rows (i * 12 + 3) 0) sheet)) (kept_in name)
+          → r ≡ row_fits sheet (fold_name (kept_in name)) any is (row_of (row_at 12 rows i))
+      fits_name t r q = asked_is r (q ∙ rw t)
 
 -- where the name of a row stands
 pub name_order : (sheet rows : List ℕ) (i : ℕ) → NameInside sheet (row_of (row_at 12 rows i)) → get_or rows (i * 12 + 2) 0 ≤ get_or rows (i * 12 + 3) 0

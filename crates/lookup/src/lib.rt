@@ -53,14 +53,10 @@ fn row_fits(
     ensures { result ≡ row_fits sheet.now (fold_name (kept_in name.now)) any_opt is_opt (row_of (row_at 12 rows.now i)) }
 {
     let at = i * 12;
-    if rows[at + 5] == 1 {
-        return false;
-    }
     let opt = rows[at + 7] == 1;
-    if !agrees(any_opt, opt, is_opt) {
-        return false;
-    }
-    named(t, sheet, rows[at + 2], rows[at + 3], name)
+    rows[at + 5] != 1
+        && agrees(any_opt, opt, is_opt)
+        && named(t, sheet, rows[at + 2], rows[at + 3], name)
 }
 
 // The last of the first rows that has the name, without REF, and with OPT as asked.

@@ -58,15 +58,13 @@ fn push_row(words: &mut [u32], mut h: Held, kind: Kind, row: Row) -> Held
         Kind::Ingredient => {
             let n = h.counts.ingredients;
             model::put_row(&mut words[0..6156], n, row);
-            let more = n + 1;
-            h.counts.ingredients = more;
+            h.counts.ingredients = n + 1;
             h
         }
         Kind::Cookware => {
             let n = h.counts.cookware;
             model::put_row(&mut words[6156..9240], n, row);
-            let more = n + 1;
-            h.counts.cookware = more;
+            h.counts.cookware = n + 1;
             h
         }
     }
@@ -81,15 +79,13 @@ fn push_pair(words: &mut [u32], mut h: Held, kind: Kind, definition: u32, referr
         Kind::Ingredient => {
             let n = h.counts.ingredient_pairs;
             model::put_pair(&mut words[9240..10266], n, definition, referrer);
-            let more = n + 1;
-            h.counts.ingredient_pairs = more;
+            h.counts.ingredient_pairs = n + 1;
             h
         }
         Kind::Cookware => {
             let n = h.counts.cookware_pairs;
             model::put_pair(&mut words[10266..10780], n, definition, referrer);
-            let more = n + 1;
-            h.counts.cookware_pairs = more;
+            h.counts.cookware_pairs = n + 1;
             h
         }
     }
@@ -114,8 +110,7 @@ pub fn push_finding(words: &mut [u32], mut h: Held, x: Noted) -> Held
 {
     let n = h.counts.findings;
     model::put_finding(&mut words[10780..23132], n, x);
-    let more = n + 1;
-    h.counts.findings = more;
+    h.counts.findings = n + 1;
     h
 }
 
@@ -123,14 +118,11 @@ pub fn push_finding(words: &mut [u32], mut h: Held, x: Noted) -> Held
 fn closed(h: Held, named: bool, counts: Counts) -> Held
     ensures { result ≡ with_block Nothing (with_named named (with_counts counts h)) }
 {
-    let define = h.define;
-    let duplicate = h.duplicate;
     Held {
-        define,
-        duplicate,
         block: Open::Nothing,
         named,
         counts,
+        ..h
     }
 }
 
@@ -142,12 +134,9 @@ pub fn keep_step(words: &mut [u32], h: Held) -> Held
     let mut c = h.counts;
     let n = c.here;
     model::put_kind(&mut words[23132..24157], n, true);
-    let here = n + 1;
-    let blocks = c.blocks + 1;
-    let counter = c.counter + 1;
-    c.here = here;
-    c.blocks = blocks;
-    c.counter = counter;
+    c.here = n + 1;
+    c.blocks += 1;
+    c.counter += 1;
     closed(h, h.named, c)
 }
 
@@ -159,10 +148,8 @@ pub fn keep_text(words: &mut [u32], h: Held) -> Held
     let mut c = h.counts;
     let n = c.here;
     model::put_kind(&mut words[23132..24157], n, false);
-    let here = n + 1;
-    let blocks = c.blocks + 1;
-    c.here = here;
-    c.blocks = blocks;
+    c.here = n + 1;
+    c.blocks += 1;
     closed(h, h.named, c)
 }
 
@@ -221,8 +208,7 @@ pub fn check_end(h: Held) -> Result<(), Reason>
     requires { (h.counts.sections < 100000) × (h.counts.findings < 100000) }
     ensures { EndChecked h result }
 {
-    let block = h.block;
-    if is_open(block) {
+    if is_open(h.block) {
         return Err(Reason::OpenAtEnd);
     }
     let mut g = begin_section(h, false);
@@ -232,8 +218,7 @@ pub fn check_end(h: Held) -> Result<(), Reason>
         }
         return Ok(());
     }
-    let more = h.counts.findings + 1;
-    g.counts.findings = more;
+    g.counts.findings = h.counts.findings + 1;
     if over_limits(g) {
         return Err(Reason::OverLimits);
     }

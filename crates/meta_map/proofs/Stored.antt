@@ -1,15 +1,16 @@
 -- One key more in the index, or another value for a key that is there: the rules' `insert_meta`.
-use Prim.Native.Nat.{ℕ, zero, suc, ◌+◌, ◌*◌, ◌≤◌, ◌<◌}
+use Prim.Native.Nat.{ℕ, zero, suc, ◌+◌, ◌-◌, ◌*◌, ◌≤◌, ◌<◌}
 use mathlib.Core.Path.{◌≡◌, refl, ap, sym, ◌∙◌}
 use mathlib.Core.Bool.{Bool, true, false, ◌||◌}
-use mathlib.Core.List.{List, [], ◌∷◌}
+use mathlib.Core.List.{List, [], ◌∷◌, ◌++◌}
 use Rattle.std.specs.Prelude.{None, Some, Option}
 use native.Mathlib.Omega.{arith}
 use native.Mathlib.Numerals.{add-one}
 use borrow.Author.Tests.{eqb-true, eqb-false}
 use lib.Dec.{eqb}
-use lib.ListN.{length, get_or, set, length-set}
-use lib.Seq.{sets, length-sets, get_or-set_same, get_or-set_other}
+use borrow.Rule.Slice.PartMut.{mid_of, post_of, put_mid, mid_len, same_len_mid}
+use lib.ListN.{length, get_or, set, take, replicate, length-set, length-replicate, get_or-append, get_or-replicate}
+use lib.Seq.{sets, length-sets, get_or-set_same, get_or-set_other, get_or-append_right, length-take-le}
 use Rattle.rules.specs.Basic.{pick, eq_list, any, each, is_some}
 use Rattle.rules.specs.Model.{MetaEntry}
 use Rattle.rules.specs.Metadata.{has_key, with_value, insert_meta}
@@ -299,25 +300,18 @@ module _ {sheet m₀ : List ℕ} {n ka ke va ve : ℕ} (z : Indexed sheet m₀ n
 
 -- ---- no rows
 
-pub record Clearing (m₀ m : List ℕ) (b : ℕ) : Type 0 where
-  pub most : b ≤ 1024
-  pub long : length m ≡ length m₀
-  pub heads : (d : ℕ) → d < b → head m d ≡ 0
-
-pub clear_starts : (m : List ℕ) → Clearing m m 0
-clear_starts m = record { most = omega arith; long = refl; heads = λ d l. absurd (omega arith) }
-
-module _ {m₀ m : List ℕ} {b : ℕ} (v : Clearing m₀ m b) where
-  pub clear_on : b < 1024 → length m₀ ≡ 21504 → Clearing m₀ (set m (20480 + b) 0) (b + 1)
-  clear_on l h =
-      record {
-        most = omega arith;
-        long = length-set m (20480 + b) 0 ∙ v.long;
-        heads = λ d g. by_order b d (λ k. let e : d ≡ b = omega arith in rw e (get_or-set_same m (20480 + b) 0 0 (omega (arith, v.long)))) (λ k. get_or-set_other m (20480 + b) (20480 + d) 0 0 (λ q. omega arith) ∙ v.heads d k);
-      }
-
-  pub clear_ends : 1024 ≤ b → Cleared m₀ m
-  clear_ends h = record { long = v.long; heads = λ d l. v.heads d (omega arith) }
+pub heads_cleared : (m : List ℕ) {p : List ℕ} → length m ≡ 21504 → p ≡ replicate (length (mid_of 20480 (length m - 20480) m)) 0 → Cleared m (put_mid 20480 (length m - 20480) m p)
+heads_cleared m {p} h e =
+    let k : length (mid_of 20480 (length m - 20480) m) ≡ length m - 20480 = mid_len 20480 (length m) m (omega arith) in
+    let q : length p ≡ length m - 20480 = ap (λ (l : List ℕ). length l) e ∙ length-replicate _ 0 ∙ k in
+    let a : length (take 20480 m) ≡ 20480 = length-take-le 20480 m (omega arith) in
+    record {
+      long = same_len_mid 20480 (length m - 20480) m p (q ∙ sym k);
+      heads = λ b l.
+          let i : 20480 + b - length (take 20480 m) ≡ b = omega arith in
+          get_or-append_right (take 20480 m) (p ++ post_of 20480 (length m - 20480) m) (20480 + b) 0 (omega arith)
+          ∙ rw i (get_or-append p (post_of 20480 (length m - 20480) m) 0 b (omega arith) ∙ ap (λ (w : List ℕ). get_or w b 0) e ∙ get_or-replicate _ b 0 0 (omega (arith, k)));
+    }
 
 pub indexed_none : (sheet : List ℕ) {m₀ m : List ℕ} → length m₀ ≡ 21504 → Cleared m₀ m → Indexed sheet m 0
 unfolding head_in

@@ -21,27 +21,19 @@ use events::{Between, EventView};
 use parts::{Part, TextView};
 use text::Dropped;
 
-fn wide(x: u32) -> usize
-    ensures { result ≡ x }
-{
-    x as usize
-}
-
 // A word of a row, and the head of a chain.
 fn cell_at(m: &[u32], i: usize, j: usize) -> usize
     requires { (i < 4096) × (j < 5) × (length m.now ≡ 21504) }
     ensures { result ≡ cell m.now i j }
 {
-    let at = i * 5 + j;
-    wide(m[at])
+    m[i * 5 + j] as usize
 }
 
 fn head_at(m: &[u32], b: usize) -> usize
     requires { (b < 1024) × (length m.now ≡ 21504) }
     ensures { result ≡ head m.now b }
 {
-    let at = 20480 + b;
-    wide(m[at])
+    m[20480 + b] as usize
 }
 
 // The row of a key with the hash b among the first n rows: the chain of b from its head on.
@@ -116,12 +108,7 @@ fn clear_heads(m: &mut [u32])
     requires { length m.old ≡ 21504 }
     ensures { Cleared m.old m.new }
 {
-    let mut b = 0;
-    while b < 1024 {
-        let first = 20480 + b;
-        m[first] = 0;
-        b += 1;
-    }
+    m[20480..].fill(0);
 }
 
 // ---- the lines of a sheet
@@ -279,14 +266,12 @@ fn row_lines(sheet: &[u8], m: &[u32], n: usize, out: &mut [u8], at: usize) -> us
     ensures { MetasPut sheet.now m.now n out.old at out.new result }
 {
     let mut c = finding_lines::begin(out, at);
-    let mut i = 0;
-    while i < n {
+    for i in 0..n {
         let ka = cell_at(m, i, 0);
         let ke = cell_at(m, i, 1);
         let va = cell_at(m, i, 2);
         let ve = cell_at(m, i, 3);
         c = put_meta(out, c, &sheet[ka..ke], &sheet[va..ve]);
-        i += 1;
     }
     c
 }

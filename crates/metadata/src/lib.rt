@@ -15,31 +15,13 @@ use sheet::{Define, Duplicate};
 fn with_define(h: Held, define: Define) -> Held
     ensures { result ≡ with_define define h }
 {
-    let duplicate = h.duplicate;
-    let block = h.block;
-    let counts = h.counts;
-    Held {
-        define,
-        duplicate,
-        block,
-        named: h.named,
-        counts,
-    }
+    Held { define, ..h }
 }
 
 fn with_duplicate(h: Held, duplicate: Duplicate) -> Held
     ensures { result ≡ with_duplicate duplicate h }
 {
-    let define = h.define;
-    let block = h.block;
-    let counts = h.counts;
-    Held {
-        define,
-        duplicate,
-        block,
-        named: h.named,
-        counts,
-    }
+    Held { duplicate, ..h }
 }
 
 // `[mode]` and `[define]`, with what the value chooses; 1, config value.
@@ -84,8 +66,7 @@ fn count_ordinary(mut h: Held) -> Held
     requires { h.counts.old < 100000 }
     ensures { OrdinaryCounted h result }
 {
-    let more = h.counts.old + 1;
-    h.counts.old = more;
+    h.counts.old += 1;
     h
 }
 

@@ -74,24 +74,9 @@ get_or_sets_other w at (v ∷ vs) i h =
 pub get_or_mid : (a k : ℕ) (w : List ℕ) (j : ℕ) → j < k → get_or (mid_of a k w) j 0 ≡ get_or w (a + j) 0
 get_or_mid a k w j h = get_or-take k (drop a w) j 0 h ∙ get_or-drop a w j 0
 
--- ---- a copy in a loop: what is left to store, from here, is the whole
-
-pub record Copying (w₀ : List ℕ) (at : ℕ) (row w : List ℕ) (i : ℕ) : Type 0 where
-  pub high : i ≤ length row
-  pub long : length w ≡ length w₀
-  pub is : sets w (at + i) (drop i row) ≡ sets w₀ at row
-
-pub copy_start : (w : List ℕ) (at : ℕ) (row : List ℕ) → Copying w at row w 0
-copy_start w at row = record { high = omega arith; long = refl; is = ap (λ (n : ℕ). sets w n row) (add-zero at) }
-
-pub copy_turn : {w₀ w row : List ℕ} {at i : ℕ} → Copying w₀ at row w i → i < length row → Copying w₀ at row (set w (at + i) (get_or row i 0)) (i + 1)
-copy_turn {w₀} {w} {row} {at} {i} z h =
-    let e : i + 1 ≡ suc i = omega arith in
-    record {
-      high = omega arith;
-      long = length-set w (at + i) (get_or row i 0) ∙ z.long;
-      is = rw (e, add-suc at i) (rw (drop-cons row i 0 h) at z.is);
-    }
-
-pub copy_end : {w₀ w row : List ℕ} {at i : ℕ} → Copying w₀ at row w i → length row ≤ i → w ≡ sets w₀ at row
-copy_end {w₀} {w} {row} {at} {i} z h = rw (drop_of_length-le row h) at z.is
+-- a part that was lent, stored whole
+pub put_whole : (a : ℕ) (w vs : List ℕ) {p : List ℕ} → a + length vs ≤ length w → p ≡ vs → put_mid a (a + length vs - a) w p ≡ sets w a vs
+put_whole a w vs h e =
+    let k : a + length vs - a ≡ length vs = omega arith in
+    let n : length (mid_of a (length vs) w) ≡ length vs = length-take-le (length vs) (drop a w) (omega (arith, length-drop a w)) in
+    rw (k, e) (ap (put_mid a (length vs) w) (sym (sets_all (mid_of a (length vs) w) vs n)) ∙ put_sets a (length vs) w 0 vs (omega arith) ∙ ap (λ (i : ℕ). sets w i vs) (add-zero a))

@@ -108,11 +108,7 @@ pub fn copy_words(words: &mut [u32], at: usize, row: &[u32])
     requires { at + length row.now ≤ length words.old }
     ensures { words.new ≡ sets words.old at row.now }
 {
-    let mut i = 0;
-    while i < row.len() {
-        words[at + i] = row[i];
-        i += 1;
-    }
+    words[at..at + row.len()].copy_from_slice(row);
 }
 
 fn bit(b: bool) -> u32
@@ -200,8 +196,7 @@ pub fn row_at(rows: &[u32], i: usize) -> Row
     ensures { result ≡ row_of (row_at 12 rows.now i) }
 {
     let at = i * 12;
-    let end = at + 12;
-    row_of(&rows[at..end])
+    row_of(&rows[at..at + 12])
 }
 
 // ---- pairs
@@ -220,13 +215,11 @@ pub fn next_referrer(pairs: &[u32], n: usize, definition: u32, from: usize) -> O
     requires { (n ≤ 513) × (n * 2 ≤ length pairs.now) }
     ensures { NextReferrer pairs.now n definition from result }
 {
-    let mut i = from;
-    while i < n {
+    for i in from..n {
         let at = i * 2;
         if pairs[at] == definition {
             return Some((pairs[at + 1], i + 1));
         }
-        i += 1;
     }
     None
 }
@@ -272,8 +265,7 @@ pub fn finding_at(findings: &[u32], i: usize) -> Noted
     ensures { result ≡ noted_of (row_at 8 findings.now i) }
 {
     let at = i * 8;
-    let end = at + 8;
-    noted_of(&findings[at..end])
+    noted_of(&findings[at..at + 8])
 }
 
 // A finding of the pass at one span.
@@ -341,18 +333,15 @@ fn step_back(kinds: &[u32], n: usize, value: u32) -> Option<u32>
     if value == 0 {
         return None;
     }
-    let mut i = n;
     let mut v = value;
+    let mut i = n;
     while 0 < i {
-        let k = i - 1;
-        if kinds[k] == 1 {
+        i -= 1;
+        if kinds[i] == 1 {
             if v == 1 {
-                return Some(k as u32);
+                return Some(i as u32);
             }
             v -= 1;
-            i = k;
-        } else {
-            i = k;
         }
     }
     None
@@ -366,17 +355,13 @@ fn step_ahead(kinds: &[u32], n: usize, value: u32) -> Option<u32>
     if value == 0 {
         return None;
     }
-    let mut i: usize = 0;
     let mut v = value;
-    while i < n {
-        if kinds[i] == 1 {
+    for k in 0..n {
+        if kinds[k] == 1 {
             if v == 1 {
-                return Some(i as u32);
+                return Some(k as u32);
             }
             v -= 1;
-            i += 1;
-        } else {
-            i += 1;
         }
     }
     None

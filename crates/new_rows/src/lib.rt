@@ -5,6 +5,7 @@ ghost use Rattle.std.specs.Prelude.{◌≡◌, ◌||◌};
 ghost use Rattle.rules.specs.Model.{either, both, with_ref, inherits};
 ghost use Rattle.components.specs.Views.{modifiers_in};
 ghost use Rattle.new_rows.specs.Rows.{RowMade};
+ghost use Rattle.model.specs.Rows as rows;
 ghost use Rattle.model.specs.Kinds.{kind_of};
 
 use components::Modifiers;
@@ -31,6 +32,19 @@ pub fn referring_modifiers(kind: Kind, m: Modifiers, d: Modifiers) -> Modifiers
         hidden,
         opt,
         new,
+    }
+}
+
+// The modifiers that a row has.
+pub fn modifiers_of(r: Row) -> Modifiers
+    ensures { modifiers_in result ≡ rows.modifiers_in r }
+{
+    Modifiers {
+        recipe: r.recipe,
+        reference: r.reference,
+        hidden: r.hidden,
+        opt: r.opt,
+        new: r.new,
     }
 }
 

@@ -87,6 +87,13 @@ run_byte {f} {at} {i} {r} p h q y =
     let b : take (i + 1 - i) (drop i f) ≡ get_or f i 0 ∷ [] = rw (k, drop-cons f i 0 h) in
     run_more (i + 1) p (omega arith) (omega arith) (rw b (and_both (is_plain (get_or f i 0)) true (sym q ∙ not-false r y) refl))
 
+-- a run up to the field's end
+pub run_whole : {f : List ℕ} {at i : ℕ} → PlainTo f at i → length f ≤ i → PlainTo f at (length f)
+run_whole {f} {at} {i} p h =
+    let u : i ≤ length f = p.upto in
+    let e : i ≡ length f = omega arith in
+    rw e at p
+
 -- ---- a field from i on is a run and the rest
 module _ {f : List ℕ} {i e : ℕ} where
   pub run_cut : PlainTo f i e → escape (drop i f) ≡ take (e - i) (drop i f) ++ escape (drop e f)

@@ -43,10 +43,8 @@ fn put_each(out: &mut [u8], at: usize, w: &[u8]) -> usize
     ensures { Put w.now out.old at out.new result }
 {
     let mut n = at;
-    let mut i = 0;
-    while i < w.len() {
-        n = put_byte(out, n, w[i]);
-        i += 1;
+    for &b in w {
+        n = put_byte(out, n, b);
     }
     if n <= out.len() { n } else { out.len() + 1 }
 }
@@ -98,10 +96,8 @@ fn put_each_escaped(out: &mut [u8], at: usize, f: &[u8]) -> usize
     ensures { Put (escape f.now) out.old at out.new result }
 {
     let mut n = at;
-    let mut i = 0;
-    while i < f.len() {
-        n = put_escaped_byte(out, n, f[i]);
-        i += 1;
+    for &c in f {
+        n = put_escaped_byte(out, n, c);
     }
     if n <= out.len() { n } else { out.len() + 1 }
 }
@@ -118,10 +114,8 @@ fn all_plain(f: &[u8]) -> bool
     ensures { result ≡ all_plain f.now }
 {
     let mut plain = true;
-    let mut i = 0;
-    while i < f.len() {
-        plain = plain & is_plain(f[i]);
-        i += 1;
+    for &c in f {
+        plain &= is_plain(c);
     }
     plain
 }
@@ -148,14 +142,13 @@ fn plain_end(f: &[u8], at: usize) -> usize
     ensures { PlainTo f.now at result }
 {
     let a = plain_pieces(f, at, 16);
-    let mut i = plain_pieces(f, a, 4);
-    while i < f.len() {
+    let b = plain_pieces(f, a, 4);
+    for i in b..f.len() {
         if !is_plain(f[i]) {
             return i;
         }
-        i += 1;
     }
-    i
+    f.len()
 }
 
 // A field, escaped: what needs no escape is copied as it stands.

@@ -4,7 +4,7 @@ use mathlib.Core.Path.{◌≡◌, refl, sym, ◌∙◌}
 use mathlib.Core.Bool.{Bool, true, false, not}
 use mathlib.Core.List.{List, [], ◌∷◌, ◌++◌, append_assoc}
 use lib.ListN.{length}
-use Rattle.rules.specs.Basic.{tab, when, is_empty}
+use Rattle.rules.specs.Basic.{tab, pick, when, is_empty}
 use Rattle.rules.specs.Sheet.{escape_char, escape}
 use Rattle.rules.specs.Event.{Modifiers}
 use Rattle.rules.specs.Write.{or_point, modifiers_field}
@@ -35,31 +35,25 @@ pub put_letters : {o₀ o₁ o₂ o₃ o₄ o₅ : List ℕ} {at i j k l r : ℕ
 unfolding letters
 put_letters m a b c d e = put_seq (put_seq (put_seq (put_seq a b) c) d) e
 
-new_alone : (t : Bool) → not t ≡ is_empty {A = ℕ} (when t 43)
-unfolding when is_empty
-new_alone true = refl
-new_alone false = refl
+-- a value that is true where a is, and b elsewhere
+module _ {a v : Bool} (b : Bool) where
+  pub or_then : a ≡ true → v ≡ a → v ≡ pick a true b
+  or_then e q = rw e (q ∙ e)
 
-module _ (m : Modifiers) where
-  pub some_recipe : m.recipe ≡ true → false ≡ is_empty (letters m)
-  unfolding letters when is_empty
-  some_recipe a = rw a
+  pub or_else : a ≡ false → v ≡ b → v ≡ pick a true b
+  or_else e q = rw e q
 
-  pub some_ref : m.recipe ≡ false → m.ref ≡ true → false ≡ is_empty (letters m)
-  unfolding letters when is_empty
-  some_ref a b = rw (a, b)
+none_of : (a b c d e : Bool) → not (pick (pick (pick (pick a true b) true c) true d) true e) ≡ is_empty (letters (record { recipe = a; ref = b; hidden = c; opt = d; new = e }))
+unfolding letters when is_empty
+none_of true b c d e = refl
+none_of false true c d e = refl
+none_of false false true d e = refl
+none_of false false false true e = refl
+none_of false false false false true = refl
+none_of false false false false false = refl
 
-  pub some_hidden : m.recipe ≡ false → m.ref ≡ false → m.hidden ≡ true → false ≡ is_empty (letters m)
-  unfolding letters when is_empty
-  some_hidden a b c = rw (a, b, c)
-
-  pub some_opt : m.recipe ≡ false → m.ref ≡ false → m.hidden ≡ false → m.opt ≡ true → false ≡ is_empty (letters m)
-  unfolding letters when is_empty
-  some_opt a b c d = rw (a, b, c, d)
-
-  pub some_new : m.recipe ≡ false → m.ref ≡ false → m.hidden ≡ false → m.opt ≡ false → not m.new ≡ is_empty (letters m)
-  unfolding letters when
-  some_new a b c d = rw (a, b, c, d) (new_alone m.new)
+pub none_set : (m : Modifiers) (x y z r : Bool) → x ≡ pick m.recipe true m.ref → y ≡ pick x true m.hidden → z ≡ pick y true m.opt → r ≡ pick z true m.new → not r ≡ is_empty (letters m)
+none_set m x y z r p q s t = rw (t, s, q, p) (none_of m.recipe m.ref m.hidden m.opt m.new)
 
 -- ---- the field
 

@@ -85,10 +85,7 @@ fn is_scalable(of_ingredient: bool, kind: ValueKind, lock: bool) -> bool
 fn put_scaling(out: &mut [u8], at: usize, scalable: bool) -> usize
     ensures { Put (tabbed (pick scalable (codes "s") (codes "f") ∷ [])) out.old at out.new result }
 {
-    if scalable {
-        return output::put_field(out, at, b"s");
-    }
-    output::put_field(out, at, b"f")
+    output::put_field(out, at, if scalable { b"s" } else { b"f" })
 }
 
 fn put_quantity(
@@ -155,19 +152,7 @@ fn put_letters(out: &mut [u8], at: usize, m: Modifiers) -> usize
 fn has_none(m: Modifiers) -> bool
     ensures { result ≡ is_empty (letters (modifiers_in m)) }
 {
-    if m.recipe {
-        return false;
-    }
-    if m.reference {
-        return false;
-    }
-    if m.hidden {
-        return false;
-    }
-    if m.opt {
-        return false;
-    }
-    !m.new
+    !(m.recipe || m.reference || m.hidden || m.opt || m.new)
 }
 
 // The letters of the modifiers that are set, or a point.

@@ -42,32 +42,18 @@ fn part_line(
 }
 
 // Whether a line begins like an `ingredient`, a `cookware` or a `warning`, or with t and x.
+#[tactic(auto, unfolding(crate::specs::Walk::is_aside))]
 fn is_aside(x: u8, a: u8, b: u8) -> bool
     ensures { result ≡ is_aside x a b }
 {
-    if a == b'i' {
-        return true;
-    }
-    if a == b'c' {
-        return true;
-    }
-    if a == b'w' {
-        return true;
-    }
-    if a == b't' {
-        return b == x;
-    }
-    false
+    matches!(a, b'i' | b'c' | b'w') || (a == b't' && b == x)
 }
 
 // Whether a line begins with another byte than a `meta` line.
 fn is_other(a: u8) -> bool
     ensures { result ≡ not (eqb a 109) }
 {
-    if a == b'm' {
-        return false;
-    }
-    true
+    a != b'm'
 }
 
 // Whether a line's first bytes tell that it adds nothing to the part, and changes nothing that the part depends on.

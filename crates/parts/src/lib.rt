@@ -47,10 +47,7 @@ pub fn part_of<'a>(line: &'a [u8], p: Part) -> &'a [u8]
 {
     let from = p.from;
     let to = p.to;
-    if line.len() < from {
-        return &line[..0];
-    }
-    if to < from {
+    if line.len() < from || to < from {
         return &line[..0];
     }
     if line.len() < to {
@@ -105,38 +102,30 @@ pub fn read_number(line: &[u8], at: usize) -> Option<(u32, usize)>
         return None;
     }
     let first = line[at];
-    let mut i = at + 1;
     if first == b'0' {
-        if ends_at(line, i) {
-            return Some((0, i + 1));
+        if ends_at(line, at + 1) {
+            return Some((0, at + 2));
         }
         return None;
     }
-    if first < b'0' {
-        return None;
-    }
-    if b'9' < first {
+    if first < b'0' || b'9' < first {
         return None;
     }
     let mut n = (first - b'0') as u32;
-    while i < line.len() {
+    for i in at + 1..line.len() {
         let c = line[i];
-        if c < b'0' {
-            if c == b'\t' {
-                return Some((n, i + 1));
-            }
-            return None;
+        if c == b'\t' {
+            return Some((n, i + 1));
         }
-        if b'9' < c {
+        if c < b'0' || b'9' < c {
             return None;
         }
         n = n * 10 + ((c - b'0') as u32);
         if 65535 < n {
             return None;
         }
-        i += 1;
     }
-    Some((n, i + 1))
+    Some((n, line.len() + 1))
 }
 
 // The value of a digit; of any other byte a number above 9, and of a tab 4294967257.

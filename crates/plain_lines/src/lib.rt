@@ -91,10 +91,7 @@ fn put_opt_text_fields(out: &mut [u8], at: usize, line: &[u8], o: Option<TextVie
 fn put_lock(out: &mut [u8], at: usize, lock: bool) -> usize
     ensures { Put (tabbed (pick «lock» (codes "l") (codes "-") ∷ [])) out.old at out.new result }
 {
-    if lock {
-        return output::put_field(out, at, b"l");
-    }
-    output::put_field(out, at, b"-")
+    output::put_field(out, at, if lock { b"l" } else { b"-" })
 }
 
 fn put_quantity_fields(out: &mut [u8], at: usize, line: &[u8], v: QuantityView) -> usize

@@ -26,14 +26,12 @@ fn leads(line: &[u8], word: &[u8]) -> bool
     if line.len() <= word.len() {
         return false;
     }
-    let mut i = 0;
-    while i < word.len() {
+    for i in 0..word.len() {
         if line[i] != word[i] {
             return false;
         }
-        i += 1;
     }
-    line[i] == b'\t'
+    line[word.len()] == b'\t'
 }
 
 // A line's first word, if it is one of an event's, and where its next field starts. The frequent words first, without a search

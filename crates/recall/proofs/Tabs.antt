@@ -6,8 +6,8 @@ use mathlib.Core.List.{List, [], ◌∷◌}
 use native.Mathlib.Omega.{arith}
 use borrow.Author.Tests.{ne_eqb, eqb-true, eqb-false, le-leb}
 use lib.Dec.{eqb}
-use lib.ListN.{length, get_or, drop}
-use lib.Seq.{drop-cons, drop-nil}
+use lib.ListN.{length, get_or, take, drop, length-drop}
+use lib.Seq.{drop-cons, drop-nil, get_or-drop, get_or-take, length-take-le}
 use Rattle.rules.specs.Basic.{pick, tab, split_at, on_first}
 use Rattle.rules.specs.Sheet.{fields_of}
 use Rattle.rules.proofs.Basics.{pick_either, by_order}
@@ -89,6 +89,14 @@ module _ (s : List ℕ) (at j : ℕ) {n : ℕ} (e : n ≡ tabs_in s at j) where
   pub tabs_miss : (get_or s (at + j) 0 ≡ 9 → ⊥) → n ≡ tabs_in s at (j + 1)
   unfolding tabs_in
   tabs_miss q = let k : j + 1 ≡ suc j = omega arith in rw (k, ne_eqb (get_or s (at + j) 0) 9 q, e)
+
+-- the eight bytes at a place
+module _ (s : List ℕ) (at : ℕ) where
+  pub eight_long : at + 8 ≤ length s → length (take (at + 8 - at) (drop at s)) ≡ 8
+  eight_long h = let k : at + 8 - at ≡ 8 = omega arith in rw k (length-take-le 8 (drop at s) (omega (arith, length-drop at s)))
+
+  pub eight_byte : {j : ℕ} → j < 8 → get_or (take (at + 8 - at) (drop at s)) j 0 ≡ get_or s (at + j) 0
+  eight_byte {j} l = get_or-take (at + 8 - at) (drop at s) j 0 (omega arith) ∙ get_or-drop at s j 0
 
 pub tabs_whole : (s : List ℕ) (at j : ℕ) {n : ℕ} → n ≡ tabs_in s at j → 8 ≤ j → j ≤ 8 → n ≡ tabs_in s at 8
 tabs_whole s at j e h g = let k : j ≡ 8 = omega arith in rw k at e

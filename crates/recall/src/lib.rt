@@ -96,12 +96,10 @@ fn tabs_in_eight(line: &[u8], at: usize) -> usize
     ensures { result ≡ tabs_in line.now at 8 }
 {
     let mut n = 0;
-    let mut j = 0;
-    while j < 8 {
-        if line[at + j] == b'\t' {
+    for c in &line[at..at + 8] {
+        if *c == b'\t' {
             n += 1;
         }
-        j += 1;
     }
     n
 }

@@ -6,7 +6,7 @@ use mathlib.Core.List.{List, ◌++◌, append_assoc}
 use native.Mathlib.Omega.{arith}
 use Rattle.std.specs.Prelude.{Option, None, Some, Result, Ok, Err}
 use borrow.Author.Tests.{le-ltb, lt-ltb, ne_eqb}
-use lib.Dec.{eqb, ltb}
+use lib.Dec.{ltb}
 use lib.ListN.{length, take, drop, length-append}
 use lib.Seq.{take_at}
 use Rattle.rules.specs.Utf8.{is_utf8}
@@ -21,7 +21,6 @@ use Rattle.rules.proofs.Collected.{Begins, collected_is}
 use Rattle.rules.proofs.Kept.{form_reads}
 use Rattle.letters.specs.Tables.{unicode_tables}
 use Rattle.refusals.specs.Told.{number_of}
-use Rattle.refusals.specs.declared.Reason.{Reason}
 use Rattle.refusals.specs.declared.Reason.TheVariants.{OverLimits, ErrorLine, LongForm}
 use Rattle.refusals.specs.declared.Refusal.{Refusal}
 use Rattle.refusals.proofs.Told.{same_reason}

@@ -57,19 +57,15 @@ pub own_start : (w : List ℕ) (from : ℕ) → OwnCounted w from 0 0
 unfolding records_in own_count
 own_start w from = record { is = refl; few = omega arith }
 
-pub own_turn : {w : List ℕ} {from count i n k : ℕ} {c : Component} → OwnCounted w from i n → i < count
-    → c ≡ pick (ltb i count) (component_in w from i) no_component → k ≡ own_at c → OwnCounted w from (i + 1) (n + k)
+pub own_turn : {w : List ℕ} {from count i n m : ℕ} {c : Component} → OwnCounted w from i n → i < count
+    → c ≡ pick (ltb i count) (component_in w from i) no_component → m ≡ n + own_at c → OwnCounted w from (i + 1) m
 unfolding records_in
-own_turn {w} {from} {count} {i} {n} {k} {c} o l e q =
+own_turn {w} {from} {count} {i} {n} {m} {c} o l e q =
     let d : c ≡ component_in w from i = rw (lt-ltb i count l) at e in
     record {
-      is = rw (add-one i) (rw (o.is, q, d) (sym (count_snoc (records_in w from i) (component_in w from i))));
+      is = rw (q, add-one i) (rw (o.is, d) (sym (count_snoc (records_in w from i) (component_in w from i))));
       few = omega (arith, o.few, q, own_few c);
     }
-
--- a turn counts one at most
-pub own_small : {k : ℕ} (c : Component) → k ≡ own_at c → k ≤ 1
-own_small c q = rw q (own_few c)
 
 pub own_end : {w : List ℕ} {from count i n : ℕ} → OwnCounted w from i n → i ≤ count → count ≤ i → OwnCounted w from count n
 own_end {w} {from} {count} {i} {n} o a b = let e : i ≡ count = omega arith in subst (λ (j : ℕ). OwnCounted w from j n) e o

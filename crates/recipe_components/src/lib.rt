@@ -3,7 +3,6 @@
 
 ghost use Rattle.std.specs.Prelude.{◌≡◌, ◌+◌, ◌*◌, ◌<◌, ◌≤◌, length};
 ghost use Rattle.model.specs.Memory.{Sound};
-ghost use Rattle.component_records.specs.Links.{own_at};
 ghost use Rattle.recipe_components.specs.Components.{ComponentsLeft};
 ghost use Rattle.recipe_components.specs.Tables.{ingredients_of, cookware_of, OwnCounted, room_for, room_of, is_room_for, counts_or20, Given, RowsCollected, Ready, Laid};
 
@@ -45,41 +44,28 @@ fn cookware_of(r: Components) -> usize
 
 // ---- rows
 
-// 1 for a component that refers to one of its own kind.
-fn own_at(c: Component) -> usize
-    ensures { result ≡ own_at c }
-{
-    let g = c.relation;
-    if component_records::is_own_reference(g) {
-        return 1;
-    }
-    0
-}
-
 // How many of the first `count` rows refer to a component of their own kind.
 fn own_references(words: &[u32], from: usize, count: usize) -> usize
     requires { (count ≤ 513) × (0 < count → from + count * 12 ≤ length words.now) }
     ensures { OwnCounted words.now from count result }
 {
     let mut n: usize = 0;
-    let mut i = 0;
-    while i < count {
+    for i in 0..count {
         let c = component_records::component_at(words, from, count, i);
-        n += own_at(c);
-        i += 1;
+        if component_records::is_own_reference(c.relation) {
+            n += 1;
+        }
     }
     n
 }
 
 // Whether the records of a table and its pairs fit in what is lent.
+#[tactic(auto, unfolding(crate::specs::Tables::is_room_for))]
 fn table_fits(count: usize, pairs: usize, records: usize, words: usize) -> bool
     requires { pairs ≤ 513 }
     ensures { result ≡ is_room_for count pairs (room_for records words) }
 {
-    if records < count {
-        return false;
-    }
-    pairs * 2 <= words
+    count <= records && pairs * 2 <= words
 }
 
 // The counts of a recipe, or 20 where some of it does not fit.

@@ -1,7 +1,7 @@
 -- One law for each way through.
 use Prim.Native.Nat.{ℕ, ◌+◌, ◌<◌}
 use mathlib.Core.Path.{◌≡◌, refl, ap, sym, ◌∙◌}
-use mathlib.Core.Bool.{Bool, true, false, ◌&&◌, not}
+use mathlib.Core.Bool.{Bool, true, false, ◌&&◌, ◌||◌, not}
 use mathlib.Core.List.{List, [], ◌∷◌, ◌++◌}
 use Rattle.std.specs.Prelude.{Option, None, Some}
 use Rattle.std.specs.Option as option
@@ -56,23 +56,30 @@ module _ {k : Kind} {r : Bool} (d : Modifiers) where
   unfolding modifiers_in both inherits
   handed_cookware e f = rw (e, f, and_false d.recipe, and_false d.reference, and_true d.hidden, and_true d.opt, and_false d.new)
 
-module _ (a b : Modifiers) {p : Bool} where
-  pub beyond_recipe : p ≡ (a.recipe && not b.recipe) → p ≡ true → true ≡ any_beyond (modifiers_in a) (with_ref (modifiers_in b))
-  unfolding any_beyond with_ref modifiers_in
-  beyond_recipe e t = rw (← e, t)
+-- `&&` and `||` by their first operand
+module _ {a v : Bool} (b : Bool) where
+  pub and_then : a ≡ true → v ≡ b → v ≡ (a && b)
+  and_then t e = e ∙ rw t
 
-  pub beyond_hidden : {q : Bool} → p ≡ (a.recipe && not b.recipe) → p ≡ false → q ≡ (a.hidden && not b.hidden) → q ≡ true → true ≡ any_beyond (modifiers_in a) (with_ref (modifiers_in b))
-  unfolding any_beyond with_ref modifiers_in
-  beyond_hidden e n f t = rw (← e, n, and_false a.reference, ← f, t)
+  pub and_else : a ≡ false → v ≡ a → v ≡ (a && b)
+  and_else t e = e ∙ rw t
 
-  pub beyond_opt : {q r : Bool} → p ≡ (a.recipe && not b.recipe) → p ≡ false → q ≡ (a.hidden && not b.hidden) → q ≡ false → r ≡ (a.opt && not b.opt) → r ≡ true → true ≡ any_beyond (modifiers_in a) (with_ref (modifiers_in b))
-  unfolding any_beyond with_ref modifiers_in
-  beyond_opt e n f m g t = rw (← e, n, and_false a.reference, ← f, m, ← g, t)
+  pub or_then : a ≡ true → v ≡ a → v ≡ (a || b)
+  or_then t e = e ∙ rw t
 
-  pub beyond_new : {q r s : Bool} → p ≡ (a.recipe && not b.recipe) → p ≡ false → q ≡ (a.hidden && not b.hidden) → q ≡ false → r ≡ (a.opt && not b.opt) → r ≡ false → s ≡ (a.new && not b.new)
-      → s ≡ any_beyond (modifiers_in a) (with_ref (modifiers_in b))
-  unfolding any_beyond with_ref modifiers_in
-  beyond_new e n f m g k i = rw (← e, n, and_false a.reference, ← f, m, ← g, k, ← i)
+  pub or_else : a ≡ false → v ≡ b → v ≡ (a || b)
+  or_else t e = e ∙ rw t
+
+pub any_is : (a b : Modifiers) {p q r s : Bool} → p ≡ (a.recipe && not b.recipe) → q ≡ (p || (a.hidden && not b.hidden)) → r ≡ (q || (a.opt && not b.opt)) → s ≡ (r || (a.new && not b.new))
+    → s ≡ any_beyond (modifiers_in a) (with_ref (modifiers_in b))
+unfolding any_beyond with_ref modifiers_in
+any_is a b {p} {q} {r} {s} e f g h = h ∙ rw (g, f, e, and_false a.reference) (sides (a.recipe && not b.recipe) (a.hidden && not b.hidden) (a.opt && not b.opt) (a.new && not b.new))
+  where
+    sides : (x y z w : Bool) → (((x || y) || z) || w) ≡ (x || false || y || z || w)
+    sides true y z w = refl
+    sides false true z w = refl
+    sides false false true w = refl
+    sides false false false w = refl
 
 -- ---- 11 and 12
 

@@ -2,7 +2,7 @@
 // modifiers that its definition does not hand down, a definition that is not there.
 #![tactic(auto)]
 
-ghost use Rattle.std.specs.Prelude.{◌≡◌, ◌&&◌, not, [], ◌∷◌, ◌+◌, ◌<◌};
+ghost use Rattle.std.specs.Prelude.{◌≡◌, [], ◌∷◌, ◌+◌, ◌<◌};
 ghost use Rattle.rules.specs.Finding.{diag};
 ghost use Rattle.rules.specs.Model.{both, any_beyond, with_ref, inherits};
 ghost use Rattle.parts.specs.Views.{span_in};
@@ -45,26 +45,11 @@ pub fn handed_down(kind: Kind, d: Modifiers) -> Modifiers
     }
 }
 
-fn beyond(a: bool, b: bool) -> bool
-    ensures { result ≡ (a && not b) }
-{
-    a && !b
-}
-
 // Whether some of `a` but REF is not in `b`.
 fn any_beyond(a: Modifiers, b: Modifiers) -> bool
     ensures { result ≡ any_beyond (modifiers_in a) (with_ref (modifiers_in b)) }
 {
-    if beyond(a.recipe, b.recipe) {
-        return true;
-    }
-    if beyond(a.hidden, b.hidden) {
-        return true;
-    }
-    if beyond(a.opt, b.opt) {
-        return true;
-    }
-    beyond(a.new, b.new)
+    (a.recipe && !b.recipe) || (a.hidden && !b.hidden) || (a.opt && !b.opt) || (a.new && !b.new)
 }
 
 // ---- the findings

@@ -2,6 +2,7 @@
 use Prim.Native.Nat.{ℕ, suc, ◌+◌, ◌-◌, ◌*◌, ◌≤◌, ◌<◌}
 use mathlib.Core.Path.{◌≡◌, refl, ap, sym, ◌∙◌}
 use mathlib.Core.Bool.{Bool, true, false, and-false}
+use mathlib.Core.Logic.{◌⊎◌, inl, inr}
 use Rattle.std.specs.Prelude.{Option, None, Some}
 use mathlib.Core.List.{List, [], ◌∷◌}
 use native.Mathlib.Numerals.{add-one}
@@ -48,13 +49,10 @@ too_large m n (x ∷ xs) h = by (is_digit x) (too_large m (n * 10 + (x - 48)) xs
     by false ih = refl
 
 module _ (m : ℕ) (s : List ℕ) (acc i : ℕ) {r : Option ℕ} (e : at_most m (digits_from acc (drop i s)) ≡ r) where
-  pub digit_below : i < length s → get_or s i 0 < 48 → None ≡ r
+  pub digit_other : i < length s → (get_or s i 0 < 48) ⊎ (57 < get_or s i 0) → None ≡ r
   unfolding digits_from at_most
-  digit_below h q = simp (drop-cons s i 0 h, lt-leb _ _ q) at e
-
-  pub digit_above : i < length s → 57 < get_or s i 0 → None ≡ r
-  unfolding digits_from at_most
-  digit_above h q = simp (drop-cons s i 0 h, lt-leb _ _ q, and-false) at e
+  digit_other h (inl q) = simp (drop-cons s i 0 h, lt-leb _ _ q) at e
+  digit_other h (inr q) = simp (drop-cons s i 0 h, lt-leb _ _ q, and-false) at e
 
   pub digit : i < length s → 48 ≤ get_or s i 0 → get_or s i 0 ≤ 57 → at_most m (digits_from (acc * 10 + (get_or s i 0 - 48)) (drop (i + 1) s)) ≡ r
   unfolding digits_from

@@ -78,8 +78,10 @@ module _ {s : List ℕ} {at i : ℕ} (c : Scan tab s at i) (h : at ≤ length s)
   pub field_hit : i < length s → get_or s i 0 ≡ 9 → take (i - at) (drop at s) ≡ field_at s at
   field_hit l q = field_is s at _ _ h (ap (split_at tab) (scan_hit c l q) ∙ split_more tab (drop (i + 1) s) refl c.clean)
 
-  pub field_end : length s ≤ i → take (i - at) (drop at s) ≡ field_at s at
-  field_end l = scan_end c l ∙ field_is s at _ _ h (split_one tab (rw (scan_end c l) at c.clean))
+  pub field_end : length s ≤ i → take (length s - at) (drop at s) ≡ field_at s at
+  field_end l =
+      let k : length (drop at s) ≤ length s - at = omega (arith, length-drop at s) in
+      take_all (length s - at) (drop at s) k ∙ field_is s at _ _ h (split_one tab (rw (scan_end c l) at c.clean))
 
 -- a list cut at its first b
 data Cut (b : ℕ) : List ℕ → Type 0 where

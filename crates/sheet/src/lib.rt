@@ -80,12 +80,11 @@ pub fn past_lacking(s: &[u8], at: usize, b: u8) -> usize
 pub fn line_end(s: &[u8], at: usize) -> Option<usize>
     ensures { LineAt s.now at result }
 {
-    let mut i = past_lacking(s, at, b'\n');
-    while i < s.len() {
+    let start = past_lacking(s, at, b'\n');
+    for i in start..s.len() {
         if s[i] == b'\n' {
             return Some(i);
         }
-        i += 1;
     }
     None
 }
@@ -97,14 +96,12 @@ pub fn field<'a>(line: &'a [u8], at: usize) -> &'a [u8]
     if line.len() < at {
         return &line[..0];
     }
-    let mut i = at;
-    while i < line.len() {
+    for i in at..line.len() {
         if line[i] == b'\t' {
             return &line[at..i];
         }
-        i += 1;
     }
-    &line[at..i]
+    &line[at..]
 }
 
 pub fn same_bytes(a: &[u8], b: &[u8]) -> bool
@@ -300,28 +297,21 @@ pub fn duplicate_mode(f: &[u8]) -> Option<Duplicate>
 fn read_up_to(f: &[u8], most: u16) -> Option<u32>
     ensures { result ≡ number_up_to most f.now }
 {
-    if f.len() == 0 {
+    if f.is_empty() {
         return None;
     }
     if f[0] == b'0' {
-        if f.len() == 1 {
-            return Some(0);
-        } else {
-            return None;
-        }
+        return if f.len() == 1 { Some(0) } else { None };
     }
-    let mut n: u32 = 0;
-    let mut i = 0;
-    while i < f.len() {
-        let c = f[i];
-        if c < b'0' || b'9' < c {
+    let mut n = 0;
+    for &c in f {
+        if !c.is_ascii_digit() {
             return None;
         }
         n = n * 10 + ((c - b'0') as u32);
         if (most as u32) < n {
             return None;
         }
-        i += 1;
     }
     Some(n)
 }

@@ -14,16 +14,10 @@ fn is_good_span(text: &[u8], s: parts::Span) -> bool
 {
     let start = s.start as usize;
     let end = s.end as usize;
-    if end < start {
+    if end < start || text.len() < end {
         return false;
     }
-    if text.len() < end {
-        return false;
-    }
-    if utf8::is_inside(text, start) {
-        return false;
-    }
-    !utf8::is_inside(text, end)
+    !utf8::is_inside(text, start) && !utf8::is_inside(text, end)
 }
 
 // Whether all spans of a part are good; they do not depend on the line that the contents stand in.

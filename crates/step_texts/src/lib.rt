@@ -20,8 +20,7 @@ fn count_inline(mut h: Held, n: usize) -> Held
     requires { h.counts.inline + n ≤ 100000 }
     ensures { result ≡ with_inline (h.counts.inline + n) h }
 {
-    let more = h.counts.inline + n;
-    h.counts.inline = more;
+    h.counts.inline += n;
     h
 }
 

@@ -45,7 +45,7 @@ blank_starts {s} {r} v =
 pub drops_blank : (d : Dropped) → drops_of d 32 ≡ true
 unfolding drops_of is_not_alphabetic
 drops_blank White = sym (white_blank 32 (omega arith) refl)
-drops_blank NotAlphabetic = rw (← letter_upper 32 (omega arith) (omega arith) (sym (within_low 65 90 32 (omega arith))))
+drops_blank NotAlphabetic = rw (← letter_upper 32 (omega arith) (sym (within_low 97 122 32 (omega arith))) refl (sym (within_low 65 90 32 (omega arith))))
 
 blank_content : (q : List ℕ) → content_in (32 ∷ q) ≡ 32 ∷ content_in q
 blank_content q =

@@ -35,13 +35,13 @@ module _ (w : List ℕ) (at : ℕ) where
   unfolding is_back
   back_past h = rw (past_none w at h)
 
-  pub back_other : (get_or w at 0 ≡ 92 → ⊥) → false ≡ is_back w at
-  unfolding is_back
-  back_other n = rw (ne_eqb (get_or w at 0) 92 n)
-
   pub back_last : get_or w at 0 ≡ 92 → length w ≤ at + 1 → false ≡ is_back w at
   unfolding is_back
   back_last e h = rw (e, past_none w (at + 1) h)
+
+  pub back_other : (get_or w at 0 ≡ 92 → ⊥) → false ≡ is_back w at
+  unfolding is_back
+  back_other n = rw (ne_eqb (get_or w at 0) 92 n)
 
   pub back_next : get_or w at 0 ≡ 92 → eqb (get_or w (at + 1) 0) 92 ≡ is_back w at
   unfolding is_back

@@ -61,14 +61,16 @@ common_four {a} {b} {i} {x} {y} v h g p q e =
     common_next : (k : ℕ) → Common a b (i + k) → i + k < length a → i + k < length b → get_or a (i + k) 0 ≡ get_or b (i + k) 0 → Common a b (i + suc k)
     common_next k c l m z = let w : i + suc k ≡ (i + k) + 1 = omega arith in rw w (common_one c l m z)
 
-pub common_back : {a b : List ℕ} {i : ℕ} → Common a b i → Common a b (i - 1)
-common_back {a} {b} {i} v =
-    let h : i - 1 ≤ i = omega arith in
+pub common_less : {a b : List ℕ} {i n : ℕ} → n ≤ i → Common a b i → Common a b n
+common_less {a} {b} {i} {n} h v =
     record {
       left = omega (arith, v.left);
       right = omega (arith, v.right);
-      same = sym (take-take (i - 1) i a h) ∙ ap (take (i - 1)) v.same ∙ take-take (i - 1) i b h;
+      same = sym (take-take n i a h) ∙ ap (take n) v.same ∙ take-take n i b h;
     }
+
+pub common_back : {a b : List ℕ} {i : ℕ} → Common a b i → Common a b (i - 1)
+common_back v = common_less (omega arith) v
 
 -- ---- the ways of `opens`
 

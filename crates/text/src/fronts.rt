@@ -13,18 +13,12 @@ ghost use Rattle.text.specs.Trims.{LastStart, BlankFrom};
 pub(crate) fn is_parted(a: &[u8], i: usize, b: &[u8], j: usize) -> bool
     ensures { result ≡ true → same_at a.now i b.now j ≡ false }
 {
-    if a.len() <= i {
-        return false;
-    }
-    if b.len() <= j {
+    if a.len() <= i || b.len() <= j {
         return false;
     }
     let x = a[i];
     let y = b[j];
-    if x % 32 == y % 32 {
-        return false;
-    }
-    content::is_plain(x) && content::is_plain(y)
+    x % 32 != y % 32 && content::is_plain(x) && content::is_plain(y)
 }
 
 // Whether the last bytes of two names tell that they are not the same: the bytes before them start no escape, and both are
@@ -34,21 +28,12 @@ pub(crate) fn is_parted_last(a: &[u8], b: &[u8]) -> bool
 {
     let n = a.len();
     let m = b.len();
-    if n < 2 {
-        return false;
-    }
-    if m < 2 {
+    if n < 2 || m < 2 {
         return false;
     }
     let x = a[n - 1];
     let y = b[m - 1];
-    if x % 32 == y % 32 {
-        return false;
-    }
-    if a[n - 2] == b'\\' {
-        return false;
-    }
-    if b[m - 2] == b'\\' {
+    if x % 32 == y % 32 || a[n - 2] == b'\\' || b[m - 2] == b'\\' {
         return false;
     }
     content::is_plain(x) && content::is_plain(y)
@@ -100,14 +85,12 @@ fn common(a: &[u8], b: &[u8]) -> usize
     ensures { Common a.now b.now result }
 {
     let n = shorter(a.len(), b.len());
-    let mut i = common_words(a, b);
-    while i < n {
+    for i in common_words(a, b)..n {
         if a[i] != b[i] {
             return i;
         }
-        i += 1;
     }
-    i
+    n
 }
 
 // Whether no blank stands at a place and no byte that goes on with a character.
@@ -118,13 +101,7 @@ fn opens(s: &[u8], i: usize) -> bool
         return true;
     }
     let c = s[i];
-    if c == 32 {
-        return false;
-    }
-    if c < 0x80 {
-        return true;
-    }
-    0xbf < c
+    c != b' ' && (c < 0x80 || 0xbf < c)
 }
 
 // Whether the names can be cut at a place, the bytes before it being the same: no escape goes over it, and both rests open.
@@ -132,10 +109,7 @@ fn is_seam(a: &[u8], b: &[u8], i: usize) -> bool
     requires { (0 < i) × Common a.now b.now i }
     ensures { result ≡ true → Seam a.now b.now i }
 {
-    if a[i - 1] == b'\\' {
-        return false;
-    }
-    opens(a, i) && opens(b, i)
+    a[i - 1] != b'\\' && opens(a, i) && opens(b, i)
 }
 
 // A length of the common front that leaves two names with the same answer.
@@ -176,17 +150,12 @@ fn blanks(a: &[u8], b: &[u8]) -> usize
     ensures { Common a.now b.now result }
 {
     let n = shorter(a.len(), b.len());
-    let mut i = 0;
-    while i < n {
-        if a[i] != b' ' {
+    for i in 0..n {
+        if a[i] != b' ' || b[i] != b' ' {
             return i;
         }
-        if b[i] != b' ' {
-            return i;
-        }
-        i += 1;
     }
-    i
+    n
 }
 
 // The same where neither goes on with one more blank, else 0.
@@ -194,12 +163,7 @@ fn blank_seam(a: &[u8], b: &[u8]) -> usize
     ensures { Seam a.now b.now result }
 {
     let i = blanks(a, b);
-    if 0 < i {
-        if is_seam(a, b, i) {
-            return i;
-        }
-    }
-    0
+    if 0 < i && is_seam(a, b, i) { i } else { 0 }
 }
 
 // The place after the letters of ASCII from a place on that are the same in two names, in whatever case, and the blanks

@@ -115,14 +115,12 @@ fn next_blank(w: &[u8], at: usize) -> usize
     requires { at ≤ length w.now }
     ensures { NextBlank w.now at result }
 {
-    let mut i = sheet::past_lacking(w, at, b' ');
-    while i < w.len() {
+    for i in sheet::past_lacking(w, at, b' ')..w.len() {
         if w[i] == b' ' {
             return i;
         }
-        i += 1;
     }
-    i
+    w.len()
 }
 
 // Whether a blank stands after the place.
@@ -179,17 +177,10 @@ pub fn put_kept(out: &mut [u8], at: usize, w: &[u8]) -> usize
 fn is_back(w: &[u8], at: usize) -> bool
     ensures { result ≡ is_back w.now at }
 {
-    if w.len() <= at {
+    if w.len() <= at || w[at] != b'\\' {
         return false;
     }
-    if w[at] != b'\\' {
-        return false;
-    }
-    let j = at + 1;
-    if w.len() <= j {
-        return false;
-    }
-    w[j] == b'\\'
+    at + 1 < w.len() && w[at + 1] == b'\\'
 }
 
 // A path before a name, as a page has it: with slashes for backslashes, and with single blanks.
@@ -440,8 +431,5 @@ pub fn same_name(t: &[u32], a: &[u8], b: &[u8]) -> bool
     if a.len() < 2 {
         return same_whole(t, a, b);
     }
-    if fronts::is_parted_last(a, b) {
-        return false;
-    }
-    same_whole(t, a, b)
+    !fronts::is_parted_last(a, b) && same_whole(t, a, b)
 }

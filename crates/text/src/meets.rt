@@ -107,10 +107,7 @@ fn wide_pair(t: &[u32], a: &[u8], b: &[u8]) -> usize
     requires { t.now ≡ unicode_tables }
     ensures { Seam a.now b.now result }
 {
-    if a.len() < 1 {
-        return 0;
-    }
-    if b.len() < 1 {
+    if a.is_empty() || b.is_empty() {
         return 0;
     }
     if (a[0] < 0x80) | (b[0] < 0x80) {
@@ -118,10 +115,7 @@ fn wide_pair(t: &[u32], a: &[u8], b: &[u8]) -> usize
     }
     let x = content::kept_char(a, 0);
     let y = content::kept_char(b, 0);
-    if x.size != y.size {
-        return 0;
-    }
-    if x.code == y.code {
+    if x.size != y.size || x.code == y.code {
         return 0;
     }
     match letters::fold(t, x.code) {
@@ -163,10 +157,7 @@ fn starts_sharp(s: &[u8]) -> bool
         return false;
     }
     let c = content::kept_char(s, 0);
-    if c.code != 0xdf {
-        return false;
-    }
-    c.size == 2
+    c.code == 0xdf && c.size == 2
 }
 
 // 2 where one name starts with ß and the other with ss, else 0.

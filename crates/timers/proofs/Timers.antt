@@ -9,6 +9,7 @@ use native.Mathlib.Numerals.{add-one}
 use borrow.Author.Tests.{eq-eqb, ne_eqb}
 use lib.ListN.{length, replicate, length-replicate}
 use Rattle.rules.specs.Basic.{pick, when, is_some}
+use Rattle.rules.proofs.Basics.{no_some, some_inj}
 use Rattle.rules.specs.Event as rules
 use Rattle.rules.specs.Finding.{Finding, found}
 use Rattle.rules.specs.Units.{NamedUnit, PhysicalQuantity, time, same_physical, find_unit, read_units}
@@ -88,23 +89,23 @@ module _ {k : ValueKind} (f : Finding) where
 -- ---- 22 and 23
 
 module _ (us : List NamedUnit) (flags : ℕ) (s : rules.Span) where
-  time_none : (o : Option PhysicalQuantity) → time_code o ≡ 0 → time_unit us flags s o ≡ []
+  time_none : (o : Option PhysicalQuantity) → time_code o ≡ None → time_unit us flags s o ≡ []
   unfolding time_code time_unit
-  time_none None e = absurd (omega arith)
+  time_none None e = no_some (sym e)
   time_none (Some p) e = go (same_physical p time) e
     where
-      go : (b : Bool) → ◌≡◌ {A = ℕ} (pick b 0 22) 0 → when (not b) (found 22 s) ≡ []
+      go : (b : Bool) → ◌≡◌ {A = Option ℕ} (pick b None (Some 22)) None → when (not b) (found 22 s) ≡ []
       go true e = unfold when in refl
-      go false e = absurd (omega arith)
+      go false e = no_some (sym e)
 
-  time_found : (o : Option PhysicalQuantity) → (time_code o ≡ 0 → ⊥) → time_unit us flags s o ≡ found (time_code o) s ∷ []
+  time_found : (o : Option PhysicalQuantity) (n : ℕ) → time_code o ≡ Some n → time_unit us flags s o ≡ found n s ∷ []
   unfolding time_code time_unit
-  time_found None n = refl
-  time_found (Some p) n = go (same_physical p time) n
+  time_found None n e = ap (λ (m : ℕ). found m s ∷ []) (some_inj e)
+  time_found (Some p) n e = go (same_physical p time) e
     where
-      go : (b : Bool) → (◌≡◌ {A = ℕ} (pick b 0 22) 0 → ⊥) → when (not b) (found 22 s) ≡ found (pick b 0 22) s ∷ []
-      go true n = absurd (n refl)
-      go false n = unfold when in refl
+      go : (b : Bool) → ◌≡◌ {A = Option ℕ} (pick b None (Some 22)) (Some n) → when (not b) (found 22 s) ≡ found n s ∷ []
+      go true e = no_some e
+      go false e = unfold when in ap (λ (m : ℕ). found m s ∷ []) (some_inj e)
 
 pub unit_none : {us : List NamedUnit} {line : List ℕ} {u : Option TextView} {w : List ℕ} {h : Held} → u ≡ None → UnitChecked us line u w h w h
 unfolding timer_unit opt_text_in
@@ -115,20 +116,17 @@ unfolding timer_unit opt_text_in text_in
 unit_is us line v e flags = rw e
 
 module _ (s : List ℕ) (line : List ℕ) {u : Option TextView} (v : TextView) (g : is_some (read_units s) ≡ true) (z : OptTextWithin line u) (e : u ≡ Some v) (x : List ℕ) (t : TrimmedTo (part_of line v.content) x)
-    {p : Option PhysicalQuantity} (f : p ≡ find_unit (kept_in x) (units_from s 0)) {n : ℕ} (c : n ≡ time_code p) where
-  unit_code_lem : n ≡ time_code (find_unit (trimmed_text (text_in line v)) (units_or (read_units s)))
+    {p : Option PhysicalQuantity} (f : p ≡ find_unit (kept_in x) (units_from s 0)) {r : Option ℕ} (c : r ≡ time_code p) where
+  unit_code_lem : r ≡ time_code (find_unit (trimmed_text (text_in line v)) (units_or (read_units s)))
   unit_code_lem =
       c ∙ ap time_code (f ∙ (ap (λ (y : List ℕ). find_unit y (units_from s 0)) (text_kept line v x (within_present line u v z e) t)
       ∙ ap (λ (us : List NamedUnit). find_unit (trimmed_text (text_in line v)) us) (units_start s g)))
 
-  pub unit_time : {w : List ℕ} {h : Held} → n ≡ 0 → UnitChecked (units_or (read_units s)) line u w h w h
+  pub unit_time : {w : List ℕ} {h : Held} → r ≡ None → UnitChecked (units_or (read_units s)) line u w h w h
   unit_time o = record { is = λ flags. none_found (unit_is _ line v e flags ∙ time_none _ flags _ _ (sym unit_code_lem ∙ o)) }
 
-  pub unit_found : {w₀ w : List ℕ} {h₀ h : Held} → (n ≡ 0 → ⊥) → Reported (found n (span_in v.span) ∷ []) w₀ h₀ w h → UnitChecked (units_or (read_units s)) line u w₀ h₀ w h
-  unit_found o r =
-      record {
-        is = λ flags. said (unit_is _ line v e flags ∙ (time_found _ flags _ _ (λ k. o (unit_code_lem ∙ k)) ∙ ap (λ (m : ℕ). found m (span_in v.span) ∷ []) (sym unit_code_lem))) r;
-      }
+  pub unit_found : (n : ℕ) {w₀ w : List ℕ} {h₀ h : Held} → r ≡ Some n → Reported (found n (span_in v.span) ∷ []) w₀ h₀ w h → UnitChecked (units_or (read_units s)) line u w₀ h₀ w h
+  unit_found n o k = record { is = λ flags. said (unit_is _ line v e flags ∙ time_found _ flags _ _ n (sym unit_code_lem ∙ o)) k }
 
 -- ---- 21 to 23
 

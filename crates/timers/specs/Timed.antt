@@ -18,10 +18,10 @@ use Rattle.parts.specs.declared.QuantityView.{QuantityView}
 pub record LockChecked (q : Option QuantityView) (w₀ : List ℕ) (h₀ : Held) (w : List ℕ) (h : Held) : Type 0 where
   pub is : (line : List ℕ) → Reported (lock_findings (opt_quantity_in line q)) w₀ h₀ w h
 
--- the code for a timer's unit; 0 where it is of time
-unfoldable pub time_code : Option PhysicalQuantity → ℕ
-time_code None = 23
-time_code (Some p) = pick (same_physical p time) 0 22
+-- the code for a timer's unit; none where it is of time
+unfoldable pub time_code : Option PhysicalQuantity → Option ℕ
+time_code None = Some 23
+time_code (Some p) = pick (same_physical p time) None (Some 22)
 
 -- 22 and 23; the flags do not matter here
 pub record UnitChecked (us : List NamedUnit) (line : List ℕ) (u : Option TextView) (w₀ : List ℕ) (h₀ : Held) (w : List ℕ) (h : Held) : Type 0 where

@@ -59,16 +59,16 @@ fn text_finding(words: &mut [u32], h: Held, kind: ValueKind, s: Span) -> Held
     }
 }
 
-// 22 where a unit is not of time, 23 where it is unknown, else 0.
-fn time_code(p: Option<Physical>) -> u32
+// 22 where a unit is not of time, 23 where it is unknown.
+fn time_code(p: Option<Physical>) -> Option<u32>
     ensures { result ≡ time_code (on_some physical_in p) }
 {
-    let Some(q) = p else {
-        return 23;
-    };
-    match q {
-        Physical::Time => 0,
-        _ => 22,
+    match p {
+        None => Some(23),
+        Some(q) => match q {
+            Physical::Time => None,
+            _ => Some(22),
+        },
     }
 }
 
@@ -88,11 +88,10 @@ fn unit_finding(
         None => h,
         Some(v) => {
             let name = compatible::text_part(t, line, v);
-            let code = time_code(unit_index::find_named(units, index, name));
-            if code == 0 {
-                return h;
+            match time_code(unit_index::find_named(units, index, name)) {
+                None => h,
+                Some(code) => push_one(words, h, code, v.span),
             }
-            push_one(words, h, code, v.span)
         }
     }
 }
@@ -126,8 +125,7 @@ fn count_timer(mut h: Held) -> Held
     requires { h.counts.timers < 100000 }
     ensures { result ≡ with_timers (h.counts.timers + 1) h }
 {
-    let more = h.counts.timers + 1;
-    h.counts.timers = more;
+    h.counts.timers += 1;
     h
 }
 

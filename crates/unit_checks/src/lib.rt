@@ -111,10 +111,8 @@ fn row_fits(
     let r = model::row_at(&words[0..6156], i);
     let at = r.line_at;
     let end = r.line_end;
-    if kept::known_fits(codes, i, at, end, has, m) {
-        return true;
-    }
-    kept::line_fits(t, units, index, codes, sheet, at, end, i, has, f, x, m)
+    kept::known_fits(codes, i, at, end, has, m)
+        || kept::line_fits(t, units, index, codes, sheet, at, end, i, has, f, x, m)
 }
 
 // The unit of a new ingredient's quantity `a`, of its line, against that of the row i.

@@ -2,4 +2,4 @@ use Rattle.blocks.proofs.Lines.{items_pushed}
 use Rattle.blocks.proofs.push_items.Goals as goal
 
 pub returns : goal.returns
-returns c = items_pushed c.requires c.items_after-items.ensures c.with_block.ensures
+returns c = items_pushed c.requires c.items_after-h.ensures c.with_block.ensures

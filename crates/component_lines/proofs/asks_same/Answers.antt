@@ -1,11 +1,11 @@
-use Rattle.component_lines.proofs.Asked.{asks_ref, asks_steps, asks_duplicate}
+use Rattle.lookup.specs.References.{modes_of}
+use Rattle.lookup.proofs.References.{explicit_first, steps_next}
+use Rattle.component_lines.proofs.Asked.{asks_steps, asks_last}
 use Rattle.component_lines.proofs.asks_same.Goals as goal
-
-pub returns-then-reference : goal.returns-then-reference
-returns-then-reference c = asks_ref _ c.if-reference.true
+use Rattle.component_lines.proofs.asks_same.Goals.{then-reference, else-reference}
 
 pub returns-then-is_steps : goal.returns-then-is_steps
-returns-then-is_steps c = asks_steps _ c.if-reference.false c.is_steps.ensures c.if-is_steps.true
+returns-then-is_steps c = asks_steps (modes_of c.args.define c.args.duplicate) c.args.reference {v = c.if-reference.value} (elim c.if-reference.branch [ then-reference w ↦ explicit_first _ w.if-reference.true w.value-is | else-reference w ↦ steps_next w.if-reference.false w.is_steps.ensures w.value-is ]) c.if-is_steps.true
 
-pub returns : goal.returns
-returns c = asks_duplicate _ c.if-reference.false c.is_steps.ensures c.if-is_steps.false c.is_reference.ensures
+pub returns-else-is_steps : goal.returns-else-is_steps
+returns-else-is_steps c = asks_last (modes_of c.args.define c.args.duplicate) c.args.reference {v = c.if-reference.value} (elim c.if-reference.branch [ then-reference w ↦ explicit_first _ w.if-reference.true w.value-is | else-reference w ↦ steps_next w.if-reference.false w.is_steps.ensures w.value-is ]) c.if-is_steps.false c.is_reference.ensures

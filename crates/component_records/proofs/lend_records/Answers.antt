@@ -6,5 +6,5 @@ use Rattle.component_records.proofs.lend_records.Goals as goal
 
 pub returns : goal.returns
 returns c =
-    let done : c.loop-i.i ≡ length c.args.all.now = omega arith in
-    rw done at c.loop-i.invariant.1 ∙ all_filled c.args.words.now c.args.from c.args.count c.args.all.now c.requires.2
+    let done : c.loop-i.i ≡ length c.args.all.now = omega (arith, c.loop-i.auto.i-end, c.loop-i-test.false) in
+    rw done at c.loop-i.invariant ∙ all_filled c.args.words.now c.args.from c.args.count c.args.all.now c.requires.2

@@ -1,5 +1,4 @@
 use mathlib.Core.Path.{◌≡◌}
-use Prim.Native.Nat.{◌-◌, ◌≤◌}
 use Rattle.component_records.proofs.Pairs.{counted, linked}
 use Rattle.component_records.proofs.link_records.Given as goal
 
@@ -7,11 +6,7 @@ use Rattle.component_records.proofs.link_records.Given as goal
 abbrev pub invariant-loop-i : goal.invariant-loop-i
 invariant-loop-i l =
     record {
-      within : l.i ≤ l.count;
       kept : l.all ≡ l.initial.all;
       pairs : l.pairs ≡ linked l.initial.all l.initial.pairs l.i;
       number : l.n ≡ counted l.initial.all l.i;
     }
-
-abbrev pub decreases-loop-i : goal.decreases-loop-i
-decreases-loop-i l = l.count - l.i

@@ -1,7 +1,6 @@
 use native.Mathlib.Omega.{arith}
-use Prim.Native.Nat.{◌-◌}
 use mathlib.Core.Path.{refl}
-use Rattle.content.proofs.Kept.{skip_more, skip_end, skip_other}
+use Rattle.content.proofs.Kept.{skip_more, skip_whole, skip_other}
 use Rattle.content.proofs.skip_blanks.Goals as goal
 
 pub loop-i-init : goal.loop-i-init
@@ -14,4 +13,4 @@ pub loop-i-preserved : goal.loop-i-preserved
 loop-i-preserved c = skip_more c.loop-i.invariant c.loop-i-test.true c.if-f-i-ne32.false
 
 pub returns : goal.returns
-returns c = skip_end c.loop-i.invariant c.loop-i-test.false
+returns c = skip_whole c.loop-i.invariant c.loop-i-test.false

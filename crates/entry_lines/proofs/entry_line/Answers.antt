@@ -18,4 +18,4 @@ pub put_relation-d-requires : goal.put_relation-d-requires
 put_relation-d-requires c = (c.requires.1.few_pairs, c.requires.1.room_pairs)
 
 pub returns : goal.returns
-returns c = put_entry_line c.requires.1 c.row_at-row.ensures _ c.marks_of-marks.ensures c.put_word-a.ensures c.put_number-b.ensures c.put_component-c.ensures c.put_relation-d.ensures c.put_byte.ensures
+returns c = put_entry_line c.requires.1 c.row_at-row.ensures _ c.modifiers_of-marks.ensures c.put_word-a.ensures c.put_number-b.ensures c.put_component-c.ensures c.put_relation-d.ensures c.put_byte.ensures

@@ -8,16 +8,16 @@ pub returns-then-out-at : goal.returns-then-out-at
 returns-then-out-at c = put_past _ _ _ c.if-out-at.true
 
 pub loop-i-init : goal.loop-i-init
-loop-i-init c = (lined_none _ _ _ _ _ c.if-out-at.false, omega arith)
+loop-i-init c = lined_none _ _ _ _ _ c.if-out-at.false
 
 pub put_entry-next-requires : goal.put_entry-next-requires
 put_entry-next-requires c = (c.requires.0, row_ready _ c.requires.1 c.loop-i-test.true)
 
 pub loop-i-preserved : goal.loop-i-preserved
-loop-i-preserved c = (lined_more _ _ _ _ _ c.loop-i.invariant.0 c.put_entry-next.ensures, omega (arith, c.loop-i-test.true))
+loop-i-preserved c = lined_more _ _ _ _ _ c.loop-i.invariant c.put_entry-next.ensures
 
 pub shape_of-out : goal.shape_of-out
-shape_of-out c = let x = keeps c.loop-i.invariant.0.is in search rules
+shape_of-out c = let x = keeps c.loop-i.invariant.is in search rules
 
 pub returns : goal.returns
-returns c = lined_all c.loop-i.invariant.0 (omega (arith, c.loop-i.invariant.1, c.loop-i-test.false))
+returns c = lined_all c.loop-i.invariant (omega (arith, c.loop-i.auto.i-end, c.loop-i-test.false))

@@ -1,8 +1,9 @@
 use Rattle.entry_lines.proofs.Relations.{word_ingredient, word_cookware}
 use Rattle.entry_lines.proofs.put_word.Goals as goal
+use Rattle.entry_lines.proofs.put_word.Goals.{in-Ingredient, in-Cookware}
 
-pub returns-in-Ingredient : goal.returns-in-Ingredient
-returns-in-Ingredient c = word_ingredient c.in-Ingredient.is c.put_bytes.ensures
-
-pub returns-in-Cookware : goal.returns-in-Cookware
-returns-in-Cookware c = word_cookware c.in-Cookware.is c.put_bytes-in-Cookware.ensures
+pub returns : goal.returns
+returns c = elim c.match-kind.branch [
+  | in-Ingredient w ↦ word_ingredient w.in-Ingredient.is (rw w.word-is at c.put_bytes.ensures)
+  | in-Cookware w ↦ word_cookware w.in-Cookware.is (rw w.word-is at c.put_bytes.ensures)
+]

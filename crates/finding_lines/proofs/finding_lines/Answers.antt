@@ -6,13 +6,13 @@ use Rattle.finding_lines.proofs.Tables.{list_starts, list_on, list_ends, window_
 use Rattle.finding_lines.proofs.finding_lines.Goals as goal
 
 pub loop-i-init : goal.loop-i-init
-loop-i-init c = list_starts c.begin-m.ensures
+loop-i-init c = list_starts c.begin-n.ensures
 
-pub finding_at-x-requires : goal.finding_at-x-requires
-finding_at-x-requires c = let z = c.requires in omega (arith, window_long c.args.words.now z.long, c.loop-i-test.true, z.room.findings)
+pub finding_at-requires : goal.finding_at-requires
+finding_at-requires c = let z = c.requires in omega (arith, window_long c.args.words.now z.long, c.loop-i-test.true, z.room.findings)
 
 pub loop-i-preserved : goal.loop-i-preserved
-loop-i-preserved c = list_on c.loop-i.invariant c.loop-i-test.true c.finding_at-x.ensures c.put_finding-m.ensures
+loop-i-preserved c = list_on c.loop-i.invariant c.loop-i-test.true c.finding_at.ensures c.put_finding-n.ensures
 
 pub shape_of-out : goal.shape_of-out
 shape_of-out c = search (rules, keeps c.loop-i.invariant.put)

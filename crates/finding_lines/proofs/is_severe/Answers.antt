@@ -4,5 +4,5 @@ use Rattle.finding_lines.proofs.is_severe.Goals as goal
 pub returns-in-Severe : goal.returns-in-Severe
 returns-in-Severe c = severe_yes c.in-Severe.is
 
-pub returns-in-Mild : goal.returns-in-Mild
-returns-in-Mild c = severe_no c.in-Mild.is
+pub returns-in_default : goal.returns-in_default
+returns-in_default c = severe_no c.in_default.not-Severe

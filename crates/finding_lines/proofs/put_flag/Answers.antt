@@ -1,8 +1,9 @@
 use Rattle.finding_lines.proofs.Texts.{flag_yes, flag_no}
 use Rattle.finding_lines.proofs.put_flag.Goals as goal
-
-pub returns-then-implicit : goal.returns-then-implicit
-returns-then-implicit c = flag_yes c.if-implicit.true c.put_field.ensures
+use Rattle.finding_lines.proofs.put_flag.Goals.{then-implicit, else-implicit}
 
 pub returns : goal.returns
-returns c = flag_no c.if-implicit.false c.put_field-2.ensures
+returns c = elim c.if-implicit.branch [
+  | then-implicit w ↦ flag_yes w.if-implicit.true (rw w.put_field-is at c.put_field.ensures)
+  | else-implicit w ↦ flag_no w.if-implicit.false (rw w.put_field-is at c.put_field.ensures)
+]

@@ -1,8 +1,9 @@
 use Rattle.finding_lines.proofs.Texts.{severity_yes, severity_no}
 use Rattle.finding_lines.proofs.put_severity.Goals as goal
-
-pub returns-then-error : goal.returns-then-error
-returns-then-error c = severity_yes c.if-error.true c.put_field.ensures
+use Rattle.finding_lines.proofs.put_severity.Goals.{then-error, else-error}
 
 pub returns : goal.returns
-returns c = severity_no c.if-error.false c.put_field-2.ensures
+returns c = elim c.if-error.branch [
+  | then-error w ↦ severity_yes w.if-error.true (rw w.put_field-is at c.put_field.ensures)
+  | else-error w ↦ severity_no w.if-error.false (rw w.put_field-is at c.put_field.ensures)
+]

@@ -1,5 +1,6 @@
 use native.Mathlib.Omega.{arith}
-use Prim.Native.Nat.{◌-◌}
+use Prim.Native.Nat.{◌+◌, ◌-◌}
+use mathlib.Core.Path.{◌≡◌}
 use Rattle.inline.proofs.Items.{counting_start, counting_end, counting_fits, counting_less, counting_more, items_few}
 use Rattle.inline.proofs.count_items.Goals as goal
 
@@ -22,7 +23,9 @@ pub loop-q-smaller : goal.loop-q-smaller
 loop-q-smaller c = omega (arith, counting_less c.loop-q.invariant c.in-Some.ensures, c.in-Some.ensures.end)
 
 pub loop-q-preserved : goal.loop-q-preserved
-loop-q-preserved c = counting_more c.loop-q.invariant c.in-Some.ensures c.text_items.ensures
+loop-q-preserved c =
+    let e : c.loop-q.items + (c.text_items.result + 1) ≡ c.loop-q.items + c.text_items.result + 1 = omega arith in
+    rw e (counting_more c.loop-q.invariant c.in-Some.ensures c.text_items.ensures)
 
 pub overflow_add-result : goal.overflow_add-result
 overflow_add-result c = omega (arith, c.loop-q.invariant.few, c.loop-q.invariant.to, c.text_items-2.ensures, items_few _ _ c.loop-q.invariant.to)

@@ -1,4 +1,6 @@
+use mathlib.Core.Path.{◌∙◌}
 use native.Mathlib.Omega.{arith}
+use borrow.Author.Tests.{not-false}
 use Rattle.letters.proofs.Ascii.{digit}
 use Rattle.rules.specs.Unicode.{is_numeric}
 use Rattle.rules.specs.Numeric.{numeric}
@@ -10,18 +12,18 @@ use Rattle.letters.proofs.is_numeric.Goals as goal
 pub returns-then-c-lt128 : goal.returns-then-c-lt128
 returns-then-c-lt128 c = digit _ c.if-c-lt128.true c.is_within.ensures
 
-pub returns-then-is_mark : goal.returns-then-is_mark
-returns-then-is_mark c = (c.is_mark.ensures c.if-is_mark.true).1
+pub returns-else-not-is_mark : goal.returns-else-not-is_mark
+returns-else-not-is_mark c = c.if-not-is_mark.false-raw ∙ (c.is_mark.ensures (not-false _ c.if-not-is_mark.false-raw)).1
 
 pub slice_bounds-in_ranges-end : goal.slice_bounds-in_ranges-end
 slice_bounds-in_ranges-end c = omega (arith, (columns c.requires).long)
 
-pub slice_bounds-in_ranges-end-2 : goal.slice_bounds-in_ranges-end-2
-slice_bounds-in_ranges-end-2 c = omega (arith, (columns c.requires).long)
+pub slice_bounds-in_ranges-end-then-not-is_mark : goal.slice_bounds-in_ranges-end-then-not-is_mark
+slice_bounds-in_ranges-end-then-not-is_mark c = omega (arith, (columns c.requires).long)
 
 pub in_ranges-requires : goal.in_ranges-requires
 in_ranges-requires c = lent_ready numeric _ _ (columns c.requires).numeric_starts (columns c.requires).numeric_ends numeric_ascends
 
-pub returns : goal.returns
+pub returns-then-not-is_mark : goal.returns-then-not-is_mark
 unfolding is_numeric
-returns c = lent_member numeric _ _ (columns c.requires).numeric_starts (columns c.requires).numeric_ends _ _ c.in_ranges.ensures
+returns-then-not-is_mark c = lent_member numeric _ _ (columns c.requires).numeric_starts (columns c.requires).numeric_ends _ _ c.in_ranges.ensures

@@ -1,5 +1,6 @@
 use native.Mathlib.Omega.{arith}
 use borrow.Author.Tests.{eq-eqb}
+use mathlib.Core.Logic.{inl, inr}
 use Rattle.letters.proofs.Places.{lent_ready, lent_member}
 use Rattle.letters.proofs.Windows.{columns}
 use Rattle.rules.proofs.Folds.{white_ascends}
@@ -15,11 +16,9 @@ returns-then-c-eq32 c = rw (eq-eqb _ _ c.if-c-eq32.true) (white_blank _ c.if-c-l
 pub returns-else-c-eq32 : goal.returns-else-c-eq32
 returns-else-c-eq32 c = white_other _ c.if-c-lt128.true c.if-c-eq32.false c.is_within.ensures
 
-pub returns-then-c-lt5760 : goal.returns-then-c-lt5760
-returns-then-c-lt5760 c = no_white _ c.if-c-gt160.true c.if-c-lt5760.true
-
 pub returns-then-c-gt12288 : goal.returns-then-c-gt12288
-returns-then-c-gt12288 c = past_white _ c.if-c-gt12288.true (omega (arith, c.ranges.c))
+returns-then-c-gt12288 c =
+    elim c.if-c-gt12288.either [ inl l ↦ no_white _ c.if-c-gt160.true l | inr g ↦ past_white _ g.1 (omega (arith, c.ranges.c)) ]
 
 pub slice_bounds-in_ranges-end : goal.slice_bounds-in_ranges-end
 slice_bounds-in_ranges-end c = omega (arith, (columns c.requires).long)

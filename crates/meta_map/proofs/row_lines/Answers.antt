@@ -1,6 +1,5 @@
 use borrow.Author.Rules.{rules}
 use native.Mathlib.Omega.{arith}
-use Prim.Native.Nat.{◌-◌}
 use Rattle.output.proofs.Puts.{keeps}
 use Rattle.meta_map.proofs.Printed.{print_starts, print_on, print_ends}
 use Rattle.meta_map.proofs.Found.{print_row, key_place, value_place}

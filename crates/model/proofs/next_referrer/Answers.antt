@@ -1,4 +1,3 @@
-use Prim.Native.Nat.{◌-◌}
 use Rattle.model.proofs.Searches.{seek_start, seek_hit, seek_miss, seek_end}
 use Rattle.model.proofs.next_referrer.Goals as goal
 

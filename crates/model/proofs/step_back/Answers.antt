@@ -8,13 +8,13 @@ pub loop-i-init : goal.loop-i-init
 loop-i-init c = back_start _ _ _ c.if-value-eq0.false
 
 pub returns-then-v-eq1 : goal.returns-then-v-eq1
-returns-then-v-eq1 c = back_hit c.loop-i.invariant c.loop-i-test.true c.if-kinds-k-eq1.true c.if-v-eq1.true
+returns-then-v-eq1 c = back_hit c.loop-i.invariant c.loop-i-test.true c.if-kinds-i-eq1.true c.if-v-eq1.true
 
-pub loop-i-preserved-then-kinds-k-eq1 : goal.loop-i-preserved-then-kinds-k-eq1
-loop-i-preserved-then-kinds-k-eq1 c = back_step c.loop-i.invariant c.loop-i-test.true c.if-kinds-k-eq1.true c.if-v-eq1.false
+pub loop-i-preserved-then-kinds-i-eq1 : goal.loop-i-preserved-then-kinds-i-eq1
+loop-i-preserved-then-kinds-i-eq1 c = back_step c.loop-i.invariant c.loop-i-test.true c.if-kinds-i-eq1.true c.if-v-eq1.false
 
 pub loop-i-preserved : goal.loop-i-preserved
-loop-i-preserved c = back_text c.loop-i.invariant c.loop-i-test.true c.if-kinds-k-eq1.false
+loop-i-preserved c = back_text c.loop-i.invariant c.loop-i-test.true c.if-kinds-i-eq1.false
 
 pub returns : goal.returns
 returns c = back_end c.loop-i.invariant c.loop-i-test.false

@@ -1,9 +1,8 @@
-use Prim.Native.Nat.{◌-◌}
-use Rattle.output.proofs.Runs.{run_join, run_byte}
+use Rattle.output.proofs.Runs.{run_join, run_byte, run_whole}
 use Rattle.output.proofs.plain_end.Goals as goal
 
 pub loop-i-init : goal.loop-i-init
-loop-i-init c = run_join c.plain_pieces-a.ensures c.plain_pieces-i.ensures
+loop-i-init c = run_join c.plain_pieces-a.ensures c.plain_pieces-b.ensures
 
 pub returns-then-not-is_plain : goal.returns-then-not-is_plain
 returns-then-not-is_plain c = c.loop-i.invariant
@@ -12,4 +11,4 @@ pub loop-i-preserved : goal.loop-i-preserved
 loop-i-preserved c = run_byte c.loop-i.invariant c.loop-i-test.true c.is_plain.ensures c.if-not-is_plain.false-raw
 
 pub returns : goal.returns
-returns c = c.loop-i.invariant
+returns c = run_whole c.loop-i.invariant c.loop-i-test.false

@@ -1,23 +1,13 @@
 use Rattle.components.specs.Views.{modifiers_in}
-use Rattle.page_fields.proofs.Letters.{some_recipe, some_ref, some_hidden, some_opt, some_new}
+use Rattle.page_fields.proofs.Letters.{or_then, or_else, none_set}
 use Rattle.page_fields.proofs.has_none.Goals as goal
-
-pub returns-then-m : goal.returns-then-m
-unfolding modifiers_in
-returns-then-m c = some_recipe _ c.if-m.true
-
-pub returns-then-m-2 : goal.returns-then-m-2
-unfolding modifiers_in
-returns-then-m-2 c = some_ref _ c.if-m.false c.if-m-2.true
-
-pub returns-then-m-3 : goal.returns-then-m-3
-unfolding modifiers_in
-returns-then-m-3 c = some_hidden _ c.if-m.false c.if-m-2.false c.if-m-3.true
-
-pub returns-then-m-4 : goal.returns-then-m-4
-unfolding modifiers_in
-returns-then-m-4 c = some_opt _ c.if-m.false c.if-m-2.false c.if-m-3.false c.if-m-4.true
+use Rattle.page_fields.proofs.has_none.Goals.{then-m, else-m, then-m-2, else-m-2, then-m-3, else-m-3, then-m-4, else-m-4}
 
 pub returns : goal.returns
 unfolding modifiers_in
-returns c = some_new _ c.if-m.false c.if-m-2.false c.if-m-3.false c.if-m-4.false
+returns c =
+    none_set _ c.if-m.value c.if-m-2.value c.if-m-3.value c.if-m-4.result
+    (elim c.if-m.branch [ then-m w ↦ or_then _ w.if-m.true w.value-is | else-m w ↦ or_else _ w.if-m.false w.value-is ])
+    (elim c.if-m-2.branch [ then-m-2 w ↦ or_then _ w.if-m-2.true w.value-is | else-m-2 w ↦ or_else _ w.if-m-2.false w.value-is ])
+    (elim c.if-m-3.branch [ then-m-3 w ↦ or_then _ w.if-m-3.true w.value-is | else-m-3 w ↦ or_else _ w.if-m-3.false w.value-is ])
+    (elim c.if-m-4.branch [ then-m-4 w ↦ or_then _ w.if-m-4.true w.result-is | else-m-4 w ↦ or_else _ w.if-m-4.false w.result-is ])

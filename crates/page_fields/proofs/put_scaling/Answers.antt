@@ -1,8 +1,9 @@
 use Rattle.page_fields.proofs.Amounts.{scaling_yes, scaling_no}
 use Rattle.page_fields.proofs.put_scaling.Goals as goal
-
-pub returns-then-scalable : goal.returns-then-scalable
-returns-then-scalable c = scaling_yes c.if-scalable.true c.put_field.ensures
+use Rattle.page_fields.proofs.put_scaling.Goals.{then-scalable, else-scalable}
 
 pub returns : goal.returns
-returns c = scaling_no c.if-scalable.false c.put_field-2.ensures
+returns c = elim c.if-scalable.branch [
+  | then-scalable w ↦ scaling_yes w.if-scalable.true (rw w.put_field-is at c.put_field.ensures)
+  | else-scalable w ↦ scaling_no w.if-scalable.false (rw w.put_field-is at c.put_field.ensures)
+]

@@ -1,8 +1,9 @@
 use Rattle.plain_lines.proofs.Fields.{lock_set, lock_none}
 use Rattle.plain_lines.proofs.put_lock.Goals as goal
-
-pub returns-then-lock : goal.returns-then-lock
-returns-then-lock c = lock_set c.if-lock.true c.put_field.ensures
+use Rattle.plain_lines.proofs.put_lock.Goals.{then-lock, else-lock}
 
 pub returns : goal.returns
-returns c = lock_none c.if-lock.false c.put_field-2.ensures
+returns c = elim c.if-lock.branch [
+  | then-lock w ↦ lock_set w.if-lock.true (rw w.put_field-is at c.put_field.ensures)
+  | else-lock w ↦ lock_none w.if-lock.false (rw w.put_field-is at c.put_field.ensures)
+]

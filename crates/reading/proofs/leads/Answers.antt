@@ -1,5 +1,6 @@
 use native.Mathlib.Omega.{arith}
-use mathlib.Core.Path.{refl}
+use mathlib.Core.Path.{◌≡◌, refl}
+use lib.ListN.{length}
 use Rattle.reading.proofs.Leading.{leads_short, leads_on, leads_off, leads_end}
 use Rattle.reading.proofs.leads.Goals as goal
 
@@ -16,4 +17,4 @@ pub loop-i-preserved : goal.loop-i-preserved
 loop-i-preserved c = (omega arith, leads_on _ _ _ c.loop-i.invariant.1 (omega arith) c.loop-i-test.true c.if-line-i.false)
 
 pub returns : goal.returns
-returns c = leads_end _ _ _ c.loop-i.invariant.1 (omega arith) c.loop-i-test.false
+returns c = let e : length c.args.word.now ≡ c.loop-i.i = omega arith in rw e (leads_end _ _ _ c.loop-i.invariant.1 (omega arith) c.loop-i-test.false)

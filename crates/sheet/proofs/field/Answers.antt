@@ -1,5 +1,4 @@
 use native.Mathlib.Omega.{arith}
-use Prim.Native.Nat.{◌-◌}
 use Rattle.sheet.proofs.Scans.{scan_starts, scan_more, field_past, field_hit, field_end}
 use Rattle.sheet.proofs.field.Goals as goal
 
@@ -20,12 +19,6 @@ returns-then-line-i-eq9 c = field_hit c.loop-i.invariant.1 c.if-line-at.false c.
 
 pub loop-i-preserved : goal.loop-i-preserved
 loop-i-preserved c = (omega arith, scan_more c.loop-i.invariant.1 c.loop-i-test.true c.if-line-i-eq9.false)
-
-pub slice_bounds-result-count-2 : goal.slice_bounds-result-count-2
-slice_bounds-result-count-2 c = c.loop-i.invariant.1.from
-
-pub slice_bounds-result-start-2 : goal.slice_bounds-result-start-2
-slice_bounds-result-start-2 c = c.loop-i.invariant.1.from
 
 pub returns : goal.returns
 returns c = field_end c.loop-i.invariant.1 c.if-line-at.false c.loop-i-test.false

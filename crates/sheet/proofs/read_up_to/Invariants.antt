@@ -1,11 +1,8 @@
-use Prim.Native.Nat.{◌-◌, ◌≤◌}
+use Prim.Native.Nat.{◌≤◌}
 use mathlib.Core.Path.{◌≡◌}
 use lib.ListN.{length, drop}
 use Rattle.rules.specs.Sheet.{digits_from, at_most, number_up_to}
 use Rattle.sheet.proofs.read_up_to.Given as goal
 
-abbrev pub invariant-loop-i : goal.invariant-loop-i
-invariant-loop-i l = (l.n ≤ l.most) × (at_most l.most (digits_from l.n (drop l.i l.f)) ≡ number_up_to l.most l.f)
-
-abbrev pub decreases-loop-i : goal.decreases-loop-i
-decreases-loop-i l = length l.f - l.i
+abbrev pub invariant-loop-c : goal.invariant-loop-c
+invariant-loop-c l = (l.n ≤ l.most) × (at_most l.most (digits_from l.n (drop l.c-index l.f)) ≡ number_up_to l.most l.f)

@@ -1,5 +1,6 @@
 use native.Mathlib.Omega.{arith}
-use Prim.Native.Nat.{◌-◌}
+use mathlib.Core.Path.{◌≡◌}
+use lib.ListN.{length}
 use Rattle.sheet.proofs.Runs.{lacking_more}
 use Rattle.text.proofs.next_blank.Goals as goal
 
@@ -13,4 +14,6 @@ pub loop-i-preserved : goal.loop-i-preserved
 loop-i-preserved c = (omega (arith, c.loop-i-test.true), lacking_more c.loop-i.invariant.1 c.loop-i-test.true c.if-w-i-eq32.false)
 
 pub returns : goal.returns
-returns c = record { before = c.loop-i.invariant.1; inside = c.loop-i.invariant.0; here = λ l. absurd (omega (arith, c.loop-i-test.false)) }
+returns c =
+    let e : length c.args.w.now ≡ c.loop-i.i = omega (arith, c.loop-i-test.false, c.loop-i.invariant.0) in
+    rw e (record { before = c.loop-i.invariant.1; inside = c.loop-i.invariant.0; here = λ l. absurd (omega (arith, c.loop-i-test.false)) })

@@ -1,4 +1,5 @@
-use mathlib.Core.Path.{sym}
+use mathlib.Core.Path.{sym, ◌∙◌}
+use borrow.Author.Tests.{not-false}
 use Rattle.text.proofs.Seams.{parted_first}
 use Rattle.text.proofs.same_name.Goals as goal
 
@@ -8,8 +9,8 @@ returns-then-is_parted c = parted_first _ _ (c.is_parted.ensures c.if-is_parted.
 pub returns-then-a-lt2 : goal.returns-then-a-lt2
 returns-then-a-lt2 c = c.same_whole.ensures
 
-pub returns-then-is_parted_last : goal.returns-then-is_parted_last
-returns-then-is_parted_last c = sym (c.is_parted_last.ensures c.if-is_parted_last.true)
+pub returns-else-not-is_parted_last : goal.returns-else-not-is_parted_last
+returns-else-not-is_parted_last c = c.if-not-is_parted_last.false-raw ∙ sym (c.is_parted_last.ensures (not-false _ c.if-not-is_parted_last.false-raw))
 
-pub returns : goal.returns
-returns c = c.same_whole-2.ensures
+pub returns-then-not-is_parted_last : goal.returns-then-not-is_parted_last
+returns-then-not-is_parted_last c = c.same_whole-then-not-is_parted_last.ensures

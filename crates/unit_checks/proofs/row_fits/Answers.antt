@@ -1,4 +1,5 @@
 use native.Mathlib.Omega.{arith}
+use mathlib.Core.Path.{◌∙◌}
 use Rattle.rules.specs.Model.{ingredient}
 use Rattle.unit_checks.proofs.Rows.{line_kind}
 use Rattle.unit_checks.proofs.Codes.{up_to_five, fits_kept}
@@ -12,10 +13,10 @@ pub known_fits-requires : goal.known_fits-requires
 known_fits-requires c = (omega (arith, c.if-n-i.false, c.requires.3.room.ingredients), c.requires.2.long, up_to_five _ _ c.requires.6)
 
 pub returns-then-known_fits : goal.returns-then-known_fits
-returns-then-known_fits c = (fits_there c.args.i c.requires.4 c.if-n-i.false c.row_at-r.ensures _ _ (fits_kept c.requires.2 c.args.i (omega (arith, c.if-n-i.false, c.requires.3.room.ingredients)) c.requires.5 c.requires.6 _ _ _ c.known_fits.ensures c.if-known_fits.true), c.requires.2)
+returns-then-known_fits c = (c.if-known_fits.true ∙ fits_there c.args.i c.requires.4 c.if-n-i.false c.row_at-r.ensures _ _ (fits_kept c.requires.2 c.args.i (omega (arith, c.if-n-i.false, c.requires.3.room.ingredients)) c.requires.5 c.requires.6 _ _ _ c.known_fits.ensures c.if-known_fits.true), c.requires.2)
 
 pub line_fits-requires : goal.line_fits-requires
 line_fits-requires c = let f = window_fits _ c.args.i c.requires.4 c.if-n-i.false c.row_at-r.ensures in (c.requires.0, c.requires.1, c.requires.2, f.line.order, f.line.most, line_kind ingredient f, omega (arith, c.if-n-i.false, c.requires.3.room.ingredients), c.requires.5, c.requires.6)
 
-pub returns : goal.returns
-returns c = (fits_there c.args.i c.requires.4 c.if-n-i.false c.row_at-r.ensures _ _ c.line_fits.ensures.0, c.line_fits.ensures.1)
+pub returns-else-known_fits : goal.returns-else-known_fits
+returns-else-known_fits c = (fits_there c.args.i c.requires.4 c.if-n-i.false c.row_at-r.ensures _ _ c.line_fits.ensures.0, c.line_fits.ensures.1)

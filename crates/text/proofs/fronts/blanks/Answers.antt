@@ -1,11 +1,13 @@
 use native.Mathlib.Omega.{arith}
-use Prim.Native.Nat.{◌-◌}
 use mathlib.Core.Path.{sym, ◌∙◌}
-use Rattle.text.proofs.Seams.{common_none, common_one}
+use Rattle.text.proofs.Seams.{common_none, common_one, common_less}
 use Rattle.text.proofs.fronts.blanks.Goals as goal
 
 pub loop-i-init : goal.loop-i-init
 loop-i-init c = (c.shorter-n.ensures.0, c.shorter-n.ensures.1, common_none)
 
 pub loop-i-preserved : goal.loop-i-preserved
-loop-i-preserved c = (c.loop-i.invariant.0, c.loop-i.invariant.1, common_one c.loop-i.invariant.2 (omega (arith, c.loop-i.invariant.0, c.loop-i-test.true)) (omega (arith, c.loop-i.invariant.1, c.loop-i-test.true)) (c.if-a-i-ne32.false ∙ sym c.if-b-i-ne32.false))
+loop-i-preserved c = (c.loop-i.invariant.0, c.loop-i.invariant.1, common_one c.loop-i.invariant.2 (omega arith) (omega arith) (c.if-a-i-ne32.false ∙ sym c.if-b-i-ne32.false))
+
+pub returns : goal.returns
+returns c = common_less (omega arith) c.loop-i.invariant.2

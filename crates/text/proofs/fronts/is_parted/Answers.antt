@@ -1,16 +1,9 @@
-use Rattle.rules.proofs.Basics.{no_truth}
+use borrow.Author.Tests.{eqb-false, not-true}
 use mathlib.Core.Path.{sym, ◌∙◌}
 use Rattle.text.proofs.Plain.{parted}
+use Rattle.text.proofs.fronts.is_parted.Goals.{then-x-y, else-x-y}
 use Rattle.text.proofs.fronts.is_parted.Goals as goal
 
-pub returns-then-a-i : goal.returns-then-a-i
-returns-then-a-i c = λ e. no_truth e
-
-pub returns-then-b-j : goal.returns-then-b-j
-returns-then-b-j c = λ e. no_truth e
-
-pub returns-then-x-y : goal.returns-then-x-y
-returns-then-x-y c = λ e. no_truth e
-
 pub returns-then-is_plain : goal.returns-then-is_plain
-returns-then-is_plain c = λ e. parted _ _ _ _ c.if-a-i.false c.if-b-j.false c.if-x-y.false (sym c.is_plain.ensures ∙ c.if-is_plain.true) (sym c.is_plain-then-is_plain.ensures ∙ e)
+returns-then-is_plain c = λ e.
+    elim c.if-x-y.branch [ then-x-y w ↦ parted _ _ _ _ c.if-a-i.false c.if-b-j.false w.if-x-y.true (sym w.is_plain.ensures ∙ sym w.value-is ∙ c.if-is_plain.true) (sym c.is_plain-then-is_plain.ensures ∙ e) | else-x-y w ↦ absurd (eqb-false _ _ (not-true _ (sym w.value-is ∙ c.if-is_plain.true)) w.if-x-y.false) ]

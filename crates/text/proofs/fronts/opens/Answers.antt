@@ -1,4 +1,3 @@
-use Rattle.rules.proofs.Basics.{no_truth}
 use borrow.Author.Tests.{ltb-true}
 use Rattle.text.proofs.Seams.{opens_end, opens_low, opens_high}
 use Rattle.text.proofs.fronts.opens.Goals as goal
@@ -6,11 +5,8 @@ use Rattle.text.proofs.fronts.opens.Goals as goal
 pub returns-then-s-i : goal.returns-then-s-i
 returns-then-s-i c = λ e. opens_end c.args.s.now c.args.i c.if-s-i.true
 
-pub returns-then-c-eq32 : goal.returns-then-c-eq32
-returns-then-c-eq32 c = λ e. no_truth e
-
 pub returns-then-c-lt128 : goal.returns-then-c-lt128
-returns-then-c-lt128 c = λ e. opens_low c.args.s.now c.args.i c.if-c-lt128.true c.if-c-eq32.false
+returns-then-c-lt128 c = λ e. opens_low c.args.s.now c.args.i c.if-c-lt128.true c.if-c-ne32.true
 
-pub returns : goal.returns
-returns c = λ e. opens_high c.args.s.now c.args.i (ltb-true _ _ e)
+pub returns-else-c-lt128 : goal.returns-else-c-lt128
+returns-else-c-lt128 c = λ e. opens_high c.args.s.now c.args.i (ltb-true _ _ e)

@@ -9,8 +9,5 @@ returns-then-s-lt2 c = λ e. no_truth e
 pub returns-then-s : goal.returns-then-s
 returns-then-s c = λ e. no_truth e
 
-pub returns-then-c-ne223 : goal.returns-then-c-ne223
-returns-then-c-ne223 c = λ e. no_truth e
-
-pub returns : goal.returns
-returns c = λ e. starts_sharp _ c.if-s-lt2.false c.kept_char-c.ensures c.if-c-ne223.false (eqb-true _ _ e)
+pub returns-then-c-eq223 : goal.returns-then-c-eq223
+returns-then-c-eq223 c = λ e. starts_sharp _ c.if-s-lt2.false c.kept_char-c.ensures c.if-c-eq223.true (eqb-true _ _ e)

@@ -2,20 +2,14 @@ use Rattle.text.proofs.Pairs.{wide_seam}
 use Rattle.text.proofs.Seams.{seam_none}
 use Rattle.text.proofs.meets.wide_pair.Goals as goal
 
-pub returns-then-a-lt1 : goal.returns-then-a-lt1
-returns-then-a-lt1 c = seam_none _ _
-
-pub returns-then-b-lt1 : goal.returns-then-b-lt1
-returns-then-b-lt1 c = seam_none _ _
+pub returns-then-is_empty : goal.returns-then-is_empty
+returns-then-is_empty c = seam_none _ _
 
 pub returns-then-a-b : goal.returns-then-a-b
 returns-then-a-b c = seam_none _ _
 
 pub returns-then-x-y : goal.returns-then-x-y
 returns-then-x-y c = seam_none _ _
-
-pub returns-then-x-y-2 : goal.returns-then-x-y-2
-returns-then-x-y-2 c = seam_none _ _
 
 pub returns-then-u-v : goal.returns-then-u-v
 returns-then-u-v c = wide_seam _ _ c.kept_char-x.ensures c.kept_char-y.ensures c.if-x-y.false _ _ c.fold.ensures c.fold-in-One.ensures _ _ c.in-One.is c.in-One-fold.is c.if-u-v.true

@@ -1,7 +1,7 @@
 use Rattle.components.specs.Views.{modifiers_in}
 use Rattle.model.specs.Rows as rows
 use mathlib.Core.Path.{refl}
-use Rattle.component_lines.proofs.modifiers_of.Goals as goal
+use Rattle.new_rows.proofs.modifiers_of.Goals as goal
 
 pub returns : goal.returns
 unfolding modifiers_in rows.modifiers_in
