@@ -161,13 +161,17 @@ went_none {w} {h} z = record { is = λ sheet. sym (state_blank sheet w h); sound
 pub found_one : {w₀ w : List ℕ} {h₀ h : Held} {x : Noted} {d : Finding} → Sound w₀ h₀ → FindingPushed w₀ h₀ x w h → finding_of x ≡ d → Went (report (d ∷ [])) w₀ h₀ w h
 found_one z p e = went_found (went_none z) p e
 
-pub found_severe : (x : Noted) (n : ℕ) {s : Severity} → s ≡ severity.Severe → finding_of x ≡ parsed words.severe n → finding_of x ≡ parsed (severity_in s) n
+pub severe_is : {b : Bool} (s : Severity) → s ≡ severity.Severe → b ≡ true → pick b words.severe words.mild ≡ severity_in s
 unfolding severity_in
-found_severe x n e q = rw e q
+severe_is s e q = rw (e, q)
 
-pub found_mild : (x : Noted) (n : ℕ) {s : Severity} → s ≡ severity.Mild → finding_of x ≡ parsed words.mild n → finding_of x ≡ parsed (severity_in s) n
+pub mild_is : {b : Bool} (s : Severity) → (s ≡ severity.Severe → ⊥) → b ≡ false → pick b words.severe words.mild ≡ severity_in s
 unfolding severity_in
-found_mild x n e q = rw e q
+mild_is severity.Severe n q = absurd (n refl)
+mild_is severity.Mild n q = rw q
+
+pub found_parsed : {x y : words.Severity} (f : Finding) (n : ℕ) → x ≡ y → f ≡ parsed x n → f ≡ parsed y n
+found_parsed f n e q = q ∙ ap (λ (z : words.Severity). parsed z n) e
 
 -- ---- items
 

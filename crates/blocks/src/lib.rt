@@ -78,16 +78,8 @@ pub fn on_finding(words: &mut [u32], h: Held, severity: Severity, number: u32) -
     requires { Sound words.old h × (h.counts.findings < 1544) }
     ensures { Went (report (parsed (severity_in severity) number ∷ [])) words.old h words.new result }
 {
-    match severity {
-        Severity::Severe => {
-            let x = model::of_parser(true, number);
-            memory::push_finding(words, h, x)
-        }
-        Severity::Mild => {
-            let x = model::of_parser(false, number);
-            memory::push_finding(words, h, x)
-        }
-    }
+    let x = model::of_parser(matches!(severity, Severity::Severe), number);
+    memory::push_finding(words, h, x)
 }
 
 // The number of items, of which `more` are there with a step's new ones; those of components mode do not count.

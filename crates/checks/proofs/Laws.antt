@@ -16,16 +16,28 @@ use Rattle.parts.specs.declared.Span.{Span}
 use Rattle.parts.specs.declared.TextView.{TextView}
 use Rattle.parts.specs.declared.QuantityView.{QuantityView}
 use Rattle.parts.specs.Views.{span_in, SpanWithin, text_in, opt_text_in, OptTextWithin, quantity_in, opt_quantity_in, QuantityWithin, OptQuantityWithin}
+use Rattle.model.specs.Rows.{finding_of, if_found}
+use Rattle.model.specs.declared.Noted.{Noted}
 use Rattle.model.specs.declared.Held.{Held}
 use Rattle.compatible.specs.Fitting.{told, unit_in}
 use Rattle.compatible.proofs.Laws.{not_told, is_told, told_not}
-use Rattle.checks.specs.Reports.{Reported, nothing, NoteWithin, NoteChecked, QuantityChecked, place_with, place_of, UnitsChecked}
-use Rattle.checks.proofs.Reports.{reported_seq, reported_count}
+use Rattle.checks.specs.Reports.{NoteWithin, NoteChecked, QuantityChecked, place_with, place_of, UnitsChecked}
+use Rattle.memory.specs.Reports.{Reported, nothing}
+use Rattle.memory.proofs.Reports.{reported_seq, reported_count}
 use Rattle.sheet.specs.Words.{kind_in}
 use Rattle.sheet.specs.declared.ValueKind.{ValueKind}
 use Rattle.sheet.specs.declared.ValueKind.TheVariants.{Number, Range, Textual}
 
--- nothing was found, or what was found is said otherwise
+-- what a check found: nothing, or one finding
+pub nothing_found : {fs : List Finding} → fs ≡ [] → if_found None ≡ fs
+unfolding if_found
+nothing_found e = rw e
+
+pub one_found : {f : Finding} {fs : List Finding} (x : Noted) → finding_of x ≡ f → fs ≡ f ∷ [] → if_found (Some x) ≡ fs
+unfolding if_found
+one_found x k e = rw (e, k)
+
+-- nothing was stored, or what was stored is said otherwise
 pub none_found : {fs : List Finding} {w : List ℕ} {h : Held} → fs ≡ [] → Reported fs w h w h
 none_found e = rw e nothing
 
@@ -52,21 +64,21 @@ module _ (s : Span) where
   unfolding span_in widened
   widened_other h e = rw (h, e)
 
-module _ {implicit : Bool} {note : Option TextView} {s : Span} {old : Option TextView} {w₀ : List ℕ} {h₀ : Held} where
-  pub note_none : note ≡ None → NoteChecked implicit note s old w₀ h₀ w₀ h₀
+module _ {implicit : Bool} {note : Option TextView} {s : Span} {old : Option TextView} where
+  pub note_none : note ≡ None → NoteChecked implicit note s old None
   unfolding note_check opt_text_in
-  note_none e = record { is = λ line other d p q. none_found (rw e) }
+  note_none e = record { is = λ line other d p q. nothing_found (rw e) }
 
-  module _ {w : List ℕ} {h : Held} (v : TextView) (r : Span) (e : note ≡ Some v) (x : span_in r ≡ widened (span_in v.span)) where
-    pub note_end : old ≡ None → Reported (found_two 18 (span_in r) (span_in (record { start = s.end; end = s.end })) implicit ∷ []) w₀ h₀ w h → NoteChecked implicit note s old w₀ h₀ w h
-    note_end o k = record { is = λ line other d p q. said (same line other d p q) k }
+  module _ {n : Noted} (v : TextView) (r : Span) (e : note ≡ Some v) (x : span_in r ≡ widened (span_in v.span)) where
+    pub note_end : old ≡ None → finding_of n ≡ found_two 18 (span_in r) (span_in (record { start = s.end; end = s.end })) implicit → NoteChecked implicit note s old (Some n)
+    note_end o k = record { is = λ line other d p q. one_found _ k (same line other d p q) }
       where
         same : (line other : List ℕ) (d : Source) → d.span ≡ span_in s → d.note ≡ opt_text_in other old
             → note_check implicit (opt_text_in line note) d ≡ found_two 18 (span_in r) (span_in (record { start = s.end; end = s.end })) implicit ∷ []
         same line other d p q = unfold note_check note_place opt_text_in text_in in rw (e, p, q, o, x) (unfold span_in in refl)
 
-    pub note_note : (u : TextView) → old ≡ Some u → Reported (found_two 18 (span_in r) (span_in u.span) implicit ∷ []) w₀ h₀ w h → NoteChecked implicit note s old w₀ h₀ w h
-    note_note u o k = record { is = λ line other d p q. said (same line other d p q) k }
+    pub note_note : (u : TextView) → old ≡ Some u → finding_of n ≡ found_two 18 (span_in r) (span_in u.span) implicit → NoteChecked implicit note s old (Some n)
+    note_note u o k = record { is = λ line other d p q. one_found _ k (same line other d p q) }
       where
         same : (line other : List ℕ) (d : Source) → d.span ≡ span_in s → d.note ≡ opt_text_in other old
             → note_check implicit (opt_text_in line note) d ≡ found_two 18 (span_in r) (span_in u.span) implicit ∷ []
@@ -168,22 +180,22 @@ pair_is us f g x y e o k i j new old p q = rw (p, q, e, o, k)
 places : (f g : List ℕ) (x y : QuantityView) → quantity_place (Some (quantity_in f x)) ++ quantity_place (Some (quantity_in g y)) ≡ span_in (place_of x) ∷ span_in (place_of y) ∷ []
 places f g x y = rw (place_is f x, place_is g y)
 
-module _ (us : List NamedUnit) (f g : List ℕ) {a b : Option QuantityView} {w₀ : List ℕ} {h₀ : Held} where
-  pub units_none : a ≡ None → UnitsChecked us f a g b w₀ h₀ w₀ h₀
+module _ (us : List NamedUnit) (f g : List ℕ) {a b : Option QuantityView} where
+  pub units_none : a ≡ None → UnitsChecked us f a g b None
   unfolding unit_pair opt_quantity_in on_some
-  units_none e = record { is = λ i j new old p q. none_found (rw e) }
+  units_none e = record { is = λ i j new old p q. nothing_found (rw e) }
 
-  pub units_alone : (x : QuantityView) → a ≡ Some x → b ≡ None → UnitsChecked us f a g b w₀ h₀ w₀ h₀
+  pub units_alone : (x : QuantityView) → a ≡ Some x → b ≡ None → UnitsChecked us f a g b None
   unfolding unit_pair opt_quantity_in on_some
-  units_alone x e o = record { is = λ i j new old p q. none_found (rw (e, o)) }
+  units_alone x e o = record { is = λ i j new old p q. nothing_found (rw (e, o)) }
 
   module _ (x y : QuantityView) {r : Option ℕ} (e : a ≡ Some x) (o : b ≡ Some y) (k : r ≡ told (compatible_unit us (unit_in g y.unit) (unit_in f x.unit))) where
-    pub units_fit : r ≡ None → UnitsChecked us f a g b w₀ h₀ w₀ h₀
-    units_fit z = record { is = λ i j new old p q. none_found (pair_is us f g x y e o refl i j new old p q ∙ finding_none _ _ (not_told (sym z ∙ k))) }
+    pub units_fit : r ≡ None → UnitsChecked us f a g b None
+    units_fit z = record { is = λ i j new old p q. nothing_found (pair_is us f g x y e o refl i j new old p q ∙ finding_none _ _ (not_told (sym z ∙ k))) }
 
-    pub units_differ : (n : ℕ) {w : List ℕ} {h : Held} {s t : Span} → r ≡ Some n → s ≡ place_of x → t ≡ place_of y
-        → Reported (found_two n (span_in s) (span_in t) false ∷ []) w₀ h₀ w h → UnitsChecked us f a g b w₀ h₀ w h
-    units_differ n z u v m = record { is = λ i j new old p q. said (pair_is us f g x y e o (is_told (sym z ∙ k)) i j new old p q ∙ finding_some n _ (told_not _ (sym z ∙ k)) ∙ rw (places f g x y, u, v)) m }
+    pub units_differ : (n : ℕ) {m : Noted} {s t : Span} → r ≡ Some n → s ≡ place_of x → t ≡ place_of y
+        → finding_of m ≡ found_two n (span_in s) (span_in t) false → UnitsChecked us f a g b (Some m)
+    units_differ n z u v l = record { is = λ i j new old p q. one_found _ l (pair_is us f g x y e o (is_told (sym z ∙ k)) i j new old p q ∙ finding_some n _ (told_not _ (sym z ∙ k)) ∙ rw (places f g x y, u, v)) }
 
 pub place_own : (q : QuantityView) → q.unit ≡ None → q.span ≡ place_of q
 unfolding place_of place_with

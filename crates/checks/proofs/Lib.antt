@@ -1,4 +1,2 @@
-pub mod Reports
 pub mod Laws
 pub mod Both
-pub mod Frames

@@ -1,23 +1,17 @@
--- What the checks after a reference leave in work memory.
-use Rattle.std.specs.Prelude.{ℕ, ◌≡◌, Bool, List, [], ◌∷◌, None, Option, Some}
+-- What the checks after a reference find, and what they leave in work memory.
+use Rattle.std.specs.Prelude.{ℕ, ◌≡◌, Bool, List, None, Option, Some}
 use Rattle.rules.specs.Basic.{on_some}
 use Rattle.rules.specs.Units.{NamedUnit}
-use Rattle.rules.specs.Finding.{Finding}
 use Rattle.rules.specs.Model.{Source, Entry, amount_of}
 use Rattle.rules.specs.Checks.{note_check, quantity_check, reference_checks, is_defined_in_step, unit_pair}
 use Rattle.parts.specs.declared.Span.{Span}
 use Rattle.parts.specs.declared.QuantityView.{QuantityView}
 use Rattle.parts.specs.Views.{span_in, SpanWithin, opt_text_in, opt_quantity_in}
-use Rattle.model.specs.Rows.{finding_of}
+use Rattle.model.specs.Rows.{if_found}
 use Rattle.model.specs.declared.Noted.{Noted}
 use Rattle.model.specs.declared.Held.{Held}
-use Rattle.memory.specs.Pushes.{FindingPushed}
+use Rattle.memory.specs.Reports.{Reported}
 use Rattle.parts.specs.declared.TextView.{TextView}
-
--- the findings were pushed one after another: w and h before, w' and h' after
-pub data Reported : List Finding → List ℕ → Held → List ℕ → Held → Type 0 where
-  nothing : {w : List ℕ} {h : Held} → Reported [] w h w h
-  more : {f : Finding} {fs : List Finding} {w w₁ w₂ : List ℕ} {h h₁ h₂ : Held} (x : Noted) → finding_of x ≡ f → FindingPushed w h x w₁ h₁ → Reported fs w₁ h₁ w₂ h₂ → Reported (f ∷ fs) w h w₂ h₂
 
 -- a note that was read has numbers that are small
 unfoldable pub NoteWithin : Option TextView → Type 0
@@ -25,8 +19,8 @@ NoteWithin None = Unit
 NoteWithin (Some v) = SpanWithin v.span
 
 -- 18: whatever the lines and the definition are that the views stand for
-pub record NoteChecked (implicit : Bool) (note : Option TextView) (s : Span) (old : Option TextView) (w₀ : List ℕ) (h₀ : Held) (w : List ℕ) (h : Held) : Type 0 where
-  pub is : (line other : List ℕ) (d : Source) → d.span ≡ span_in s → d.note ≡ opt_text_in other old → Reported (note_check implicit (opt_text_in line note) d) w₀ h₀ w h
+pub record NoteChecked (implicit : Bool) (note : Option TextView) (s : Span) (old : Option TextView) (r : Option Noted) : Type 0 where
+  pub is : (line other : List ℕ) (d : Source) → d.span ≡ span_in s → d.note ≡ opt_text_in other old → if_found r ≡ note_check implicit (opt_text_in line note) d
 
 -- 19 and 20
 pub record QuantityChecked (implicit in_step : Bool) (a : Option QuantityView) (s : Span) (b : Option QuantityView) (w₀ : List ℕ) (h₀ : Held) (w : List ℕ) (h : Held) : Type 0 where
@@ -46,9 +40,9 @@ unfoldable pub place_of : QuantityView → Span
 place_of q = place_with q.span q.unit
 
 -- 15 to 17, of the new quantity and the old one
-pub record UnitsChecked (us : List NamedUnit) (f : List ℕ) (a : Option QuantityView) (g : List ℕ) (b : Option QuantityView) (w₀ : List ℕ) (h₀ : Held) (w : List ℕ) (h : Held) : Type 0 where
+pub record UnitsChecked (us : List NamedUnit) (f : List ℕ) (a : Option QuantityView) (g : List ℕ) (b : Option QuantityView) (r : Option Noted) : Type 0 where
   pub is : (i j : Bool) (new old : Entry) → new.source.quantity ≡ opt_quantity_in f a → old.source.quantity ≡ opt_quantity_in g b
-      → Reported (unit_pair us new (on_some (amount_of i) (opt_quantity_in f a)) (on_some (amount_of j) (opt_quantity_in g b)) old) w₀ h₀ w h
+      → if_found r ≡ unit_pair us new (on_some (amount_of i) (opt_quantity_in f a)) (on_some (amount_of j) (opt_quantity_in g b)) old
 
 -- 18 to 20, of the new entry and its definition
 pub record ReferenceChecked (implicit in_step : Bool) (note : Option TextView) (a : Option QuantityView) (s : Span) (old : Option TextView) (b : Option QuantityView) (w₀ : List ℕ) (h₀ : Held) (w : List ℕ) (h : Held) : Type 0 where

@@ -1,32 +1,30 @@
 // The checks after a reference that two components make: their notes (18), quantities (19, 20) and units (15 to 17).
-// Each pushes its findings in the order in which they come.
+// A check that may find one thing answers it; the others store what is found, in the order in which it comes.
 #![tactic(auto)]
 
-ghost use Rattle.std.specs.Prelude.{◌≡◌, true, not, [], ◌∷◌, ◌+◌, ◌<◌};
+ghost use Rattle.std.specs.Prelude.{◌≡◌, not, ◌+◌, ◌<◌};
 ghost use Rattle.rules.specs.Basic.{when};
 ghost use Rattle.rules.specs.Units.{read_units};
 ghost use Rattle.rules.specs.Answer.{units_or};
-ghost use Rattle.unit_index.specs.Index.{Indexed};
 ghost use Rattle.rules.specs.Finding.{found_two};
 ghost use Rattle.rules.specs.Model.{is_textual};
 ghost use Rattle.rules.specs.Checks.{text_check, widened};
-ghost use Rattle.letters.specs.Tables.{unicode_tables};
 ghost use Rattle.parts.specs.Views.{span_in, SpanWithin, OptQuantityWithin};
 ghost use Rattle.model.specs.Memory.{Sound};
-ghost use Rattle.checks.specs.Reports.{Reported, place_of, NoteWithin, NoteChecked, PairChecked, QuantityChecked, UnitsChecked, ReferenceChecked};
+ghost use Rattle.model.specs.Rows.{finding_of, if_found};
+ghost use Rattle.checks.specs.Reports.{place_of, NoteWithin, NoteChecked, PairChecked, QuantityChecked, UnitsChecked, ReferenceChecked};
 ghost use Rattle.sheet.specs.Words.{kind_in};
 
-use model::Held;
+use model::{Held, Noted};
 use parts::{QuantityView, Span, TextView};
 use sheet::ValueKind;
+use unit_index::UnitList;
 
 // A finding with two spans.
-fn push_two(words: &mut [u32], h: Held, code: u32, s: Span, t: Span, implicit: bool) -> Held
-    requires { Sound words.old h × (h.counts.findings < 1544) }
-    ensures { Reported (found_two code (span_in s) (span_in t) implicit ∷ []) words.old h words.new result }
+fn two_spans(code: u32, s: Span, t: Span, implicit: bool) -> Noted
+    ensures { finding_of result ≡ found_two code (span_in s) (span_in t) implicit }
 {
-    let x = model::two_spans(code, s.start, s.end, t.start, t.end, implicit);
-    memory::push_finding(words, h, x)
+    model::two_spans(code, s.start, s.end, t.start, t.end, implicit)
 }
 
 fn widened_span(s: Span) -> Span
@@ -43,28 +41,22 @@ fn widened_span(s: Span) -> Span
 
 // A note of a component that refers to one of the span and the note `old`.
 fn note_check(
-    words: &mut [u32],
-    h: Held,
     implicit: bool,
     note: Option<TextView>,
     span: Span,
     old: Option<TextView>,
-) -> Held
-    requires { Sound words.old h × (h.counts.findings < 1544) × NoteWithin note }
-    ensures { NoteChecked implicit note span old words.old h words.new result }
+) -> Option<Noted>
+    requires { NoteWithin note }
+    ensures { NoteChecked implicit note span old result }
 {
-    match note {
-        None => h,
-        Some(v) => {
-            let s = widened_span(v.span);
-            match old {
-                None => {
-                    let e = span.end;
-                    push_two(words, h, 18, s, Span { start: e, end: e }, implicit)
-                }
-                Some(d) => push_two(words, h, 18, s, d.span, implicit),
-            }
+    let v = note?;
+    let s = widened_span(v.span);
+    match old {
+        None => {
+            let e = span.end;
+            Some(two_spans(18, s, Span { start: e, end: e }, implicit))
         }
+        Some(d) => Some(two_spans(18, s, d.span, implicit)),
     }
 }
 
@@ -74,46 +66,29 @@ fn is_textual(k: ValueKind) -> bool
     matches!(k, ValueKind::Textual)
 }
 
-fn conflict_check(
-    words: &mut [u32],
-    h: Held,
-    implicit: bool,
-    in_step: bool,
-    s: Span,
-    d: Span,
-) -> Held
-    requires { Sound words.old h × (h.counts.findings < 1544) }
-    ensures { Reported (when (not in_step) (found_two 19 (span_in s) (span_in d) implicit)) words.old h words.new result }
+fn conflict_check(implicit: bool, in_step: bool, s: Span, d: Span) -> Option<Noted>
+    ensures { if_found result ≡ when (not in_step) (found_two 19 (span_in s) (span_in d) implicit) }
 {
     if in_step {
-        return h;
+        return None;
     }
-    push_two(words, h, 19, s, d, implicit)
+    Some(two_spans(19, s, d, implicit))
 }
 
 // The text's span stands first.
-fn text_check(
-    words: &mut [u32],
-    h: Held,
-    implicit: bool,
-    a: bool,
-    b: bool,
-    s: Span,
-    t: Span,
-) -> Held
-    requires { Sound words.old h × (h.counts.findings < 1544) }
-    ensures { Reported (text_check implicit a b (span_in s) (span_in t)) words.old h words.new result }
+fn text_check(implicit: bool, a: bool, b: bool, s: Span, t: Span) -> Option<Noted>
+    ensures { if_found result ≡ text_check implicit a b (span_in s) (span_in t) }
 {
     if a {
         if b {
-            return h;
+            return None;
         }
-        return push_two(words, h, 20, s, t, implicit);
+        return Some(two_spans(20, s, t, implicit));
     }
     if b {
-        return push_two(words, h, 20, t, s, implicit);
+        return Some(two_spans(20, t, s, implicit));
     }
-    h
+    None
 }
 
 fn pair_check(
@@ -132,8 +107,10 @@ fn pair_check(
     let n = b.kind;
     let x = is_textual(m);
     let y = is_textual(n);
-    let k = conflict_check(words, h, implicit, in_step, a.span, span);
-    text_check(words, k, implicit, x, y, a.span, b.span)
+    let conflict = conflict_check(implicit, in_step, a.span, span);
+    let k = memory::push_found(words, h, conflict);
+    let text = text_check(implicit, x, y, a.span, b.span);
+    memory::push_found(words, k, text)
 }
 
 // A quantity of a component that refers to one of the span and the quantity `b`, which is defined in a step or not.
@@ -172,35 +149,21 @@ fn unit_place(q: QuantityView) -> Span
 
 // The units of a new quantity and of an old one, each of its line.
 pub fn unit_pair(
-    t: &[u32],
-    units: &[u8],
-    index: &[u32],
-    words: &mut [u32],
-    h: Held,
+    units: &UnitList,
     f: &[u8],
     a: Option<QuantityView>,
     g: &[u8],
     b: Option<QuantityView>,
-) -> Held
-    requires { (t.now ≡ unicode_tables) × Indexed units.now index.now × OptQuantityWithin f.now a × OptQuantityWithin g.now b × Sound words.old h × (h.counts.findings < 1544) }
-    ensures { UnitsChecked (units_or (read_units units.now)) f.now a g.now b words.old h words.new result }
+) -> Option<Noted>
+    requires { OptQuantityWithin f.now a × OptQuantityWithin g.now b }
+    ensures { UnitsChecked (units_or (read_units units.now.lines.now)) f.now a g.now b result }
 {
-    match a {
-        None => h,
-        Some(x) => match b {
-            None => h,
-            Some(y) => {
-                match compatible::compatible_unit(t, units, index, g, y.unit, f, x.unit) {
-                    None => h,
-                    Some(code) => {
-                        let p = unit_place(x);
-                        let q = unit_place(y);
-                        push_two(words, h, code, p, q, false)
-                    }
-                }
-            }
-        },
-    }
+    let x = a?;
+    let y = b?;
+    let code = compatible::compatible_unit(units, g, y.unit, f, x.unit)?;
+    let p = unit_place(x);
+    let q = unit_place(y);
+    Some(two_spans(code, p, q, false))
 }
 
 // The checks of notes and quantities, in this order.
@@ -218,6 +181,7 @@ pub fn reference_checks(
     requires { Sound words.old h × (h.counts.findings + 2 < 1544) × NoteWithin note }
     ensures { ReferenceChecked implicit in_step note a span old b words.old h words.new result }
 {
-    let k = note_check(words, h, implicit, note, span, old);
+    let found = note_check(implicit, note, span, old);
+    let k = memory::push_found(words, h, found);
     quantity_check(words, k, implicit, in_step, a, span, b)
 }

@@ -1,8 +1,7 @@
 // Walks all code points and writes, for each class and for the folding, how many there are and a checksum.
 #![tactic(auto)]
 
-ghost use Rattle.std.specs.Prelude.{◌≡◌, ◌≤◌, ◌*◌};
-ghost use Rattle.letters.specs.Tables.{unicode_tables};
+ghost use Rattle.std.specs.Prelude.{◌≤◌, ◌*◌};
 
 use letters::Folded;
 use std::io;
@@ -39,47 +38,23 @@ fn and_all(s: Sum, f: Folded) -> Sum {
     }
 }
 
-#[derive(Clone, Copy)]
-enum Class {
-    White,
-    Alphabetic,
-    Numeric,
-    Alphanumeric,
-}
-
-fn is_in(t: &[u32], class: Class, c: u32) -> bool
-    requires { t.now ≡ unicode_tables }
-{
-    match class {
-        Class::White => letters::is_white_space(t, c),
-        Class::Alphabetic => letters::is_alphabetic(t, c),
-        Class::Numeric => letters::is_numeric(t, c),
-        Class::Alphanumeric => letters::is_alphanumeric(t, c),
-    }
-}
-
-fn members(t: &[u32], class: Class) -> Sum
-    requires { t.now ≡ unicode_tables }
+// The code points of a class.
+fn members<F: Fn(u32) -> bool>(is_in: F) -> Sum
+    requires { F.IsAlwaysCallable is_in }
 {
     let mut s = Sum { count: 0, total: 0 };
-    let mut c: u32 = 0;
-    while c < POINTS {
-        if is_in(t, class, c) {
+    for c in 0..POINTS {
+        if is_in(c) {
             s = and(s, c);
         }
-        c += 1;
     }
     s
 }
 
-fn foldings(t: &[u32]) -> Sum
-    requires { t.now ≡ unicode_tables }
-{
+fn foldings() -> Sum {
     let mut s = Sum { count: 0, total: 0 };
-    let mut c: u32 = 0;
-    while c < POINTS {
-        s = and_all(s, letters::fold(t, c));
-        c += 1;
+    for c in 0..POINTS {
+        s = and_all(s, letters::fold(c));
     }
     s
 }
@@ -91,16 +66,12 @@ fn is_changed(f: Folded, c: u32) -> bool {
     }
 }
 
-fn changed(t: &[u32]) -> u32
-    requires { t.now ≡ unicode_tables }
-{
+fn changed() -> u32 {
     let mut n: u32 = 0;
-    let mut c: u32 = 0;
-    while c < POINTS {
-        if is_changed(letters::fold(t, c), c) {
+    for c in 0..POINTS {
+        if is_changed(letters::fold(c), c) {
             n += 1;
         }
-        c += 1;
     }
     n
 }
@@ -113,29 +84,24 @@ fn show(rt: &impl Print, s: Sum) -> io::Result<()> {
     rt.write_all(b"\n")
 }
 
-fn show_classes(rt: &impl Print, t: &[u32]) -> io::Result<()>
-    requires { t.now ≡ unicode_tables }
-{
+fn show_classes(rt: &impl Print) -> io::Result<()> {
     rt.write_all(b"white")?;
-    show(rt, members(t, Class::White))?;
+    show(rt, members(letters::is_white_space))?;
     rt.write_all(b"alphabetic")?;
-    show(rt, members(t, Class::Alphabetic))?;
+    show(rt, members(letters::is_alphabetic))?;
     rt.write_all(b"numeric")?;
-    show(rt, members(t, Class::Numeric))?;
+    show(rt, members(letters::is_numeric))?;
     rt.write_all(b"alphanumeric")?;
-    show(rt, members(t, Class::Alphanumeric))
+    show(rt, members(letters::is_alphanumeric))
 }
 
-fn show_folding(rt: &impl Print, t: &[u32]) -> io::Result<()>
-    requires { t.now ≡ unicode_tables }
-{
+fn show_folding(rt: &impl Print) -> io::Result<()> {
     rt.write_all(b"folding\t")?;
-    rt.print(changed(t))?;
-    show(rt, foldings(t))
+    rt.print(changed())?;
+    show(rt, foldings())
 }
 
 fn main(rt: HostRuntime) -> io::Result<()> {
-    let tables = letters::unicode_tables();
-    show_classes(&rt, &tables)?;
-    show_folding(&rt, &tables)
+    show_classes(&rt)?;
+    show_folding(&rt)
 }

@@ -24,7 +24,7 @@ use Rattle.unit_checks.specs.Checked.{SameBelow}
 use Rattle.unit_checks.proofs.Rows.{row_room, framed_earlier}
 use Rattle.lookup.specs.Names.{rows_in, earlier_in, earlier_at, SameFound}
 use Rattle.lookup.proofs.Names.{part_slice}
-use Rattle.checks.proofs.Frames.{Framed, framed_count}
+use Rattle.memory.proofs.Frames.{Framed, framed_count}
 use Rattle.reference_findings.specs.Reports.{hands_down, SameAs}
 use Rattle.component_lines.specs.Steps.{SameSmall, OldRead, ReferredBelow}
 use Rattle.model.specs.Kinds.{room_of}

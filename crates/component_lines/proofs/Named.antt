@@ -18,18 +18,19 @@ use Rattle.rules.specs.Components.{Made, lock_findings, new_entry, found_same, c
 use Rattle.parts.specs.Views.{opt_quantity_in}
 use Rattle.components.specs.Views.{modifiers_in, component_in, ComponentWithin}
 use Rattle.components.specs.declared.ComponentView.{ComponentView}
-use Rattle.model.specs.Rows.{entry_as}
+use Rattle.model.specs.Rows.{entry_as, if_found}
 use Rattle.model.specs.Memory.{state_of, state_in, Sound}
 use Rattle.model.specs.Fits.{AllFit}
 use Rattle.model.specs.declared.Row.{Row}
+use Rattle.model.specs.declared.Noted.{Noted}
 use Rattle.model.specs.declared.Held.{Held}
 use Rattle.lookup.specs.declared.NamePart.{NamePart}
 use Rattle.lookup.specs.Names.{earlier_at, SameFound}
 use Rattle.lookup.specs.References.{modes_of, Marked, Refers}
 use Rattle.lookup.proofs.Names.{part_slice}
-use Rattle.checks.specs.Reports.{Reported}
-use Rattle.checks.proofs.Reports.{reported_seq, reported_sound, reported_fit}
-use Rattle.checks.proofs.Frames.{Framed, reported_framed, framed_pairs, reported_table}
+use Rattle.memory.specs.Reports.{Reported}
+use Rattle.memory.proofs.Reports.{reported_seq, reported_sound, reported_fit, found_count}
+use Rattle.memory.proofs.Frames.{Framed, reported_framed, framed_pairs, reported_table}
 use Rattle.unit_checks.specs.Checked.{SameBelow, ChecksDone}
 use Rattle.timers.specs.Timed.{LockChecked}
 use Rattle.reference_findings.specs.Reports.{hands_down, SameAs, NewAs, ReferenceReported}
@@ -39,7 +40,7 @@ use Rattle.component_lines.proofs.Rows.{entry_named}
 use Rattle.component_lines.proofs.Earlier.{old_referred, to_below, small_same, found_below, earliers_kept, below_kept, earlier_index}
 use Rattle.component_lines.proofs.Asked.{same_below, made_unasked}
 use Rattle.component_lines.proofs.Rooms.{reference_short, short_count}
-use Rattle.component_lines.proofs.Whole.{locked, lock_count, reported_roomy, new_entry_lem, pushed_done}
+use Rattle.component_lines.proofs.Whole.{locked, reported_roomy, new_entry_lem, pushed_done}
 use Rattle.components.specs.declared.Modifiers.{Modifiers}
 use Rattle.sheet.specs.Words.{define_of}
 
@@ -82,10 +83,10 @@ sample_as e None = record { is = refl }
 
 -- ---- what is found: 6, then 10 to 14, then 15 to 20
 
-module _ {k : Kind} (line : List ℕ) (v : ComponentView) {o : Option Modifiers} {w₀ w₁ w₂ : List ℕ} {h₀ h₁ h₂ : Held} (l : LockChecked v.quantity w₀ h₀ w₁ h₁)
-    (r : ReferenceReported k v.modifiers v.span v.modifiers_span o w₁ h₁ w₂ h₂) where
+module _ {k : Kind} (line : List ℕ) (v : ComponentView) {o : Option Modifiers} {x : Option Noted} {w₀ w₁ w₂ : List ℕ} {h₀ h₁ h₂ : Held} (l : LockChecked v.quantity x)
+    (p : Reported (if_found x) w₀ h₀ w₁ h₁) (r : ReferenceReported k v.modifiers v.span v.modifiers_span o w₁ h₁ w₂ h₂) where
   modes_kept : modes_of h₁.define h₁.duplicate ≡ modes_of h₀.define h₀.duplicate
-  modes_kept = ap (λ (z : Held). modes_of z.define z.duplicate) (reported_framed (locked line v l)).held
+  modes_kept = ap (λ (z : Held). modes_of z.define z.duplicate) (reported_framed p).held
 
   referred : (in_step : Bool) (same : Option Earlier) → SameAs same o
       → Reported (reference_findings (modes_of h₀.define h₀.duplicate) (entry_of k in_step (component_in line v)) (inherits k) same) w₁ h₁ w₂ h₂
@@ -95,7 +96,7 @@ module _ {k : Kind} (line : List ℕ) (v : ComponentView) {o : Option Modifiers}
 
   both : (in_step : Bool) (same : Option Earlier) → SameAs same o
       → Reported (lock_findings (component_in line v).quantity ++ reference_findings (modes_of h₀.define h₀.duplicate) (entry_of k in_step (component_in line v)) (inherits k) same) w₀ h₀ w₂ h₂
-  both in_step same s = reported_seq (locked line v l) (referred in_step same s)
+  both in_step same s = reported_seq (locked line v l p) (referred in_step same s)
 
   abbrev any : Option Earlier
   any = sample (entry_of k true (component_in line v)) o
@@ -107,13 +108,13 @@ module _ {k : Kind} (line : List ℕ) (v : ComponentView) {o : Option Modifiers}
   both_framed = reported_framed (both true any any_as)
 
   both_count : h₂.counts.findings ≤ h₀.counts.findings + 3
-  both_count = omega (arith, lock_count l, short_count (reference_short (modes_of h₀.define h₀.duplicate) (entry_of k true (component_in line v)) (inherits k) any) (referred true any any_as))
+  both_count = omega (arith, found_count _ p, short_count (reference_short (modes_of h₀.define h₀.duplicate) (entry_of k true (component_in line v)) (inherits k) any) (referred true any any_as))
 
   checks_ready : {sheet : List ℕ} {to : Option ℕ} → Sound w₀ h₀ → AllFit sheet w₀ h₀ → Roomy h₀ → h₀.counts.findings ≤ 1024 → SameBelow k h₀ to
       → Sound w₂ h₂ × AllFit sheet w₂ h₂ × SameBelow k h₂ to × (h₂.counts.findings + h₂.counts.ingredient_pairs + 3 < 1544)
   checks_ready {sheet} z a y n s =
       let q = both true any any_as in
-      let p : h₂.counts.ingredient_pairs ≡ h₀.counts.ingredient_pairs = framed_pairs both_framed ingredient in
+      let m : h₂.counts.ingredient_pairs ≡ h₀.counts.ingredient_pairs = framed_pairs both_framed ingredient in
       (reported_sound q z, reported_fit q sheet a, below_kept both_framed k s, omega (arith, both_count, z.room.ingredient_pairs, y.ingredients))
 
   module _ {us : List NamedUnit} {flags : ℕ} {sheet : List ℕ} {to : Option ℕ} {w : List ℕ} {h : Held} (d : ChecksDone us flags k sheet line v to w₂ h₂ w h) where
@@ -138,15 +139,15 @@ module _ {k : Kind} {sheet : List ℕ} {at end : ℕ} {v : ComponentView} (x : C
   pub lent_within : ComponentWithin (take (end - at) (drop at sheet)) v
   lent_within = rw (part_slice at end sheet x.whole.order) x.within
 
-pub checks_ready_at : {k : Kind} {sheet : List ℕ} {at end : ℕ} {v : ComponentView} {o : Option Modifiers} {to : Option ℕ} {w₀ w₁ w₂ : List ℕ} {h₀ h₁ h₂ : Held} → ComponentHere k sheet at end v → LockChecked v.quantity w₀ h₀ w₁ h₁
+pub checks_ready_at : {k : Kind} {sheet : List ℕ} {at end : ℕ} {v : ComponentView} {o : Option Modifiers} {to : Option ℕ} {y : Option Noted} {w₀ w₁ w₂ : List ℕ} {h₀ h₁ h₂ : Held} → ComponentHere k sheet at end v → LockChecked v.quantity y → Reported (if_found y) w₀ h₀ w₁ h₁
     → ReferenceReported k v.modifiers v.span v.modifiers_span o w₁ h₁ w₂ h₂ → Sound w₀ h₀ → AllFit sheet w₀ h₀ → Roomy h₀ → h₀.counts.findings ≤ 1024 → SameBelow k h₀ to
     → Sound w₂ h₂ × AllFit sheet w₂ h₂ × SameBelow k h₂ to × (h₂.counts.findings + h₂.counts.ingredient_pairs + 3 < 1544)
-checks_ready_at {sheet = sheet} {at} {end} {v} x l r z a y n s = checks_ready (slice at end sheet) v l r z a y n s
+checks_ready_at {sheet = sheet} {at} {end} {v} x l p r z a y n s = checks_ready (slice at end sheet) v l p r z a y n s
 
-pub named_found : {k : Kind} {sheet : List ℕ} {at end : ℕ} {v : ComponentView} {o : Option Modifiers} {us : List NamedUnit} {flags : ℕ} {to : Option ℕ} {w₀ w₁ w₂ w : List ℕ} {h₀ h₁ h₂ h : Held} → ComponentHere k sheet at end v
-    → LockChecked v.quantity w₀ h₀ w₁ h₁ → ReferenceReported k v.modifiers v.span v.modifiers_span o w₁ h₁ w₂ h₂ → ChecksDone us flags k sheet (take (end - at) (drop at sheet)) v to w₂ h₂ w h
+pub named_found : {k : Kind} {sheet : List ℕ} {at end : ℕ} {v : ComponentView} {o : Option Modifiers} {us : List NamedUnit} {flags : ℕ} {to : Option ℕ} {y : Option Noted} {w₀ w₁ w₂ w : List ℕ} {h₀ h₁ h₂ h : Held} → ComponentHere k sheet at end v
+    → LockChecked v.quantity y → Reported (if_found y) w₀ h₀ w₁ h₁ → ReferenceReported k v.modifiers v.span v.modifiers_span o w₁ h₁ w₂ h₂ → ChecksDone us flags k sheet (take (end - at) (drop at sheet)) v to w₂ h₂ w h
     → NamedReported us flags k sheet (slice at end sheet) v o to w₀ h₀ w h
-named_found {sheet = sheet} {at} {end} {v} x l r d = named_reported (slice at end sheet) v l r (rw (part_slice at end sheet x.whole.order) at d)
+named_found {sheet = sheet} {at} {end} {v} x l p r d = named_reported (slice at end sheet) v l p r (rw (part_slice at end sheet x.whole.order) at d)
 
 -- ---- the whole line
 

@@ -14,16 +14,14 @@ use Rattle.rules.specs.Finding.{Finding}
 use Rattle.rules.specs.Model.{Entry}
 use Rattle.rules.specs.Modes.{Modes}
 use Rattle.rules.specs.Reference.{Earlier, is_explicit, treat_as_reference, redundant_new, redundant_ref, conflict_or_missing, reference_findings}
-use Rattle.rules.specs.Checks.{intermediate_modifiers}
 use Rattle.rules.specs.State.{over_limits}
-use Rattle.rules.specs.Components.{lock_findings}
 use Rattle.rules.proofs.Basics.{pick_either, no_truth}
 use Rattle.model.specs.Memory.{state_in, state_of}
 use Rattle.model.specs.declared.Held.{Held}
 use Rattle.model.proofs.Tables.{entries_length, findings_length}
-use Rattle.checks.specs.Reports.{Reported}
-use Rattle.checks.proofs.Reports.{reported_count}
-use Rattle.checks.proofs.Frames.{Framed}
+use Rattle.memory.specs.Reports.{Reported}
+use Rattle.memory.proofs.Reports.{reported_count}
+use Rattle.memory.proofs.Frames.{Framed}
 use Rattle.component_lines.specs.Steps.{Roomy}
 
 -- ---- the counts before a line
@@ -107,15 +105,6 @@ short_more s = record { is = omega (arith, s.is) }
 
 short_both : {fs gs : List Finding} → Short 1 fs → Short 1 gs → Short 2 (fs ++ gs)
 short_both s t = record { is = rw length-append (omega (arith, s.is, t.is)) }
-
-pub lock_short : (o : Option rules.Quantity) → Short 1 (lock_findings o)
-unfolding lock_findings
-lock_short None = short_none 1
-lock_short (Some q) = when_short _ _
-
-pub modifiers_short : (c : rules.Component) → Short 1 (intermediate_modifiers c)
-unfolding intermediate_modifiers
-modifiers_short c = when_short _ _
 
 module _ (modes : Modes) (new : Entry) (inherit : rules.Modifiers) where
   conflict_short : (same : Option Earlier) → Short 1 (conflict_or_missing modes new inherit same)

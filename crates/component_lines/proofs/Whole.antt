@@ -14,26 +14,25 @@ use Rattle.rules.specs.Finding.{Finding}
 use Rattle.rules.specs.Model.{Kind, ingredient, cookware, Relation, definition, Entry, entry_of, entry_with, set_relation}
 use Rattle.rules.specs.Modes.{is_components}
 use Rattle.rules.specs.Reference.{Earlier}
-use Rattle.rules.specs.Checks.{resolve_intermediate_ref, intermediate_modifiers, intermediate_findings, intermediate_relation}
+use Rattle.rules.specs.Checks.{resolve_intermediate_ref, intermediate_findings, intermediate_relation}
 use Rattle.rules.specs.State.{State}
 use Rattle.rules.specs.Components.{Made, new_entry, lock_findings, made_intermediate, make_ingredient}
-use Rattle.parts.specs.Views.{span_in, opt_quantity_in}
-use Rattle.parts.specs.declared.Span.{Span}
+use Rattle.parts.specs.Views.{span_in}
 use Rattle.components.specs.Views.{modifiers_in, component_in, intermediate_in}
 use Rattle.components.specs.declared.ComponentView.{ComponentView}
-use Rattle.components.specs.declared.Modifiers.{Modifiers}
 use Rattle.components.specs.declared.Intermediate.{Intermediate}
-use Rattle.model.specs.Rows.{entry_as}
+use Rattle.model.specs.Rows.{entry_as, if_found}
 use Rattle.model.specs.Memory.{state_of, state_in, Sound}
 use Rattle.model.specs.Fits.{Fits, AllFit}
 use Rattle.model.specs.declared.RelationRecord.{RelationRecord}
 use Rattle.model.specs.declared.Row.{Row}
+use Rattle.model.specs.declared.Noted.{Noted}
 use Rattle.model.specs.declared.Held.{Held}
 use Rattle.memory.specs.Pushes.{count_of, held_with, FoundBelow, ComponentAdded}
 use Rattle.lookup.specs.declared.NamePart.{NamePart}
-use Rattle.checks.specs.Reports.{Reported}
-use Rattle.checks.proofs.Reports.{reported_fit, reported_sound}
-use Rattle.checks.proofs.Frames.{reported_framed}
+use Rattle.memory.specs.Reports.{Reported}
+use Rattle.memory.proofs.Reports.{reported_as, reported_fit, reported_sound}
+use Rattle.memory.proofs.Frames.{reported_framed}
 use Rattle.timers.specs.Timed.{LockChecked}
 use Rattle.intermediate.specs.Intermediates.{ModifiersReported, Resolved, Related}
 use Rattle.intermediate.proofs.Laws.{intermediate_reported}
@@ -43,8 +42,7 @@ use Rattle.new_rows.proofs.Laws.{row_related}
 use Rattle.new_rows.proofs.Pushed.{component_pushed, component_sound}
 use Rattle.component_lines.specs.Steps.{ComponentHere, NamePlaced, Roomy, ReferredBelow, RowPut, MadePushed, IntermediateReported, IntermediateDone}
 use Rattle.component_lines.proofs.Places.{row_fits}
-use Rattle.component_lines.proofs.Rooms.{lock_short, modifiers_short, short_count, roomy_kept}
-use Rattle.parts.specs.declared.QuantityView.{QuantityView}
+use Rattle.component_lines.proofs.Rooms.{roomy_kept}
 use Rattle.sheet.specs.Words.{define_of}
 use Rattle.model.specs.Kinds.{room_of}
 
@@ -105,36 +103,16 @@ component_place : (line : List ℕ) (v : ComponentView) → (component_in line v
 unfolding component_in
 component_place line v = refl
 
-pub locked : (line : List ℕ) (v : ComponentView) {w w₁ : List ℕ} {h h₁ : Held} → LockChecked v.quantity w h w₁ h₁ → Reported (lock_findings (component_in line v).quantity) w h w₁ h₁
+-- 6
+pub locked : (line : List ℕ) (v : ComponentView) {x : Option Noted} {w w₁ : List ℕ} {h h₁ : Held} → LockChecked v.quantity x → Reported (if_found x) w h w₁ h₁ → Reported (lock_findings (component_in line v).quantity) w h w₁ h₁
 unfolding component_in
-locked line v l = l.is line
+locked line v l p = reported_as p (l.is line)
 
--- 6 and 7
-module _ {q : Option QuantityView} {w₀ w₁ : List ℕ} {h₀ h₁ : Held} (l : LockChecked q w₀ h₀ w₁ h₁) where
-  pub lock_count : h₁.counts.findings ≤ h₀.counts.findings + 1
-  lock_count = short_count (lock_short (opt_quantity_in [] q)) (l.is [])
-
-  pub lock_ready : Sound w₀ h₀ → h₀.counts.findings ≤ 1024 → Sound w₁ h₁ × (h₁.counts.findings < 1544)
-  lock_ready z n = (reported_sound (l.is []) z, omega (arith, lock_count))
-
-  pub lock_ready_two : Sound w₀ h₀ → h₀.counts.findings ≤ 1024 → Sound w₁ h₁ × (h₁.counts.findings + 1 < 1544)
-  lock_ready_two z n = (reported_sound (l.is []) z, omega (arith, lock_count))
-
-  module _ {m : Modifiers} {at : Span} {w₂ : List ℕ} {h₂ : Held} (y : ModifiersReported m at w₁ h₁ w₂ h₂) where
-    unfoldable plain : rules.Component
-    plain = record { span = span_in at; name = record { span = span_in at; content = [] }; alias = None; quantity = None; note = None; modifiers = modifiers_in m; modifiers_span = span_in at }
-
-    modified : Reported (intermediate_modifiers plain) w₁ h₁ w₂ h₂
-    unfolding plain
-    modified = y.is plain refl refl
-
-    pub modified_ready : Sound w₀ h₀ → h₀.counts.findings ≤ 1024 → Sound w₂ h₂ × (h₂.counts.findings < 1544)
-    modified_ready z n = (reported_sound modified (lock_ready z n).0, omega (arith, lock_count, short_count (modifiers_short plain) modified))
-
-pub intermediate_found : {v : ComponentView} {i : Intermediate} {target : Option ℕ} {w₀ w₁ w₂ w : List ℕ} {h₀ h₁ h₂ h : Held} → LockChecked v.quantity w₀ h₀ w₁ h₁ → ModifiersReported v.modifiers v.modifiers_span w₁ h₁ w₂ h₂
-    → Reported (intermediate_findings (intermediate_in i) target) w₂ h₂ w h → IntermediateReported v i target w₀ h₀ w h
-intermediate_found {v} {i} {target} l m f =
-    record { is = λ us flags line new. intermediate_reported us flags (component_in line v) new i target (component_modifiers line v) (component_place line v) (locked line v l) m f }
+-- 6, then 7, then 8 or 9
+pub intermediate_found : {v : ComponentView} {i : Intermediate} {target : Option ℕ} {x y : Option Noted} {w₀ w₁ w₂ w : List ℕ} {h₀ h₁ h₂ h : Held} → LockChecked v.quantity x → Reported (if_found x) w₀ h₀ w₁ h₁
+    → ModifiersReported v.modifiers v.modifiers_span y → Reported (if_found y) w₁ h₁ w₂ h₂ → Reported (intermediate_findings (intermediate_in i) target) w₂ h₂ w h → IntermediateReported v i target w₀ h₀ w h
+intermediate_found {v} {i} {target} l p m q r =
+    record { is = λ us flags line new. intermediate_reported us flags (component_in line v) new i target (component_modifiers line v) (component_place line v) (locked line v l p) m q r }
 
 -- the bounds for a row and its place
 pub row_ready : {k : Kind} {sheet : List ℕ} {at end : ℕ} {v : ComponentView} {p : NamePart} → ComponentHere k sheet at end v → NamePlaced k sheet at v p → (end ≤ 65536) × (at ≤ end) × (p.at ≤ p.end) × (p.end ≤ 65536)

@@ -27,7 +27,7 @@ use Rattle.memory.specs.Pushes.{count_of, FoundBelow, ComponentAdded}
 use Rattle.lookup.specs.declared.NamePart.{NamePart}
 use Rattle.lookup.specs.Names.{earlier_at, SameFound, NewName}
 use Rattle.lookup.specs.References.{modes_of}
-use Rattle.checks.specs.Reports.{Reported}
+use Rattle.memory.specs.Reports.{Reported}
 use Rattle.reference_findings.specs.Reports.{SameAs}
 use Rattle.blocks.specs.Lined.{ItemsPushed}
 use Rattle.new_rows.specs.Rows.{RowMade}

@@ -1,15 +1,13 @@
 // `ingredient` and `cookware` lines in a step: what a component refers to, what is found at it, and its row in work memory.
 #![tactic(auto)]
 
-ghost use Rattle.std.specs.Prelude.{◌≡◌, true, ◌+◌, ◌≤◌, length};
+ghost use Rattle.std.specs.Prelude.{◌≡◌, ◌+◌, ◌≤◌, length};
 ghost use Rattle.std.proofs.Math.Seq.{slice};
 ghost use Rattle.rules.specs.Basic.{on_some};
 ghost use Rattle.rules.specs.Event.{inside, component_event};
 ghost use Rattle.rules.specs.Units.{read_units};
 ghost use Rattle.rules.specs.Answer.{units_or};
-ghost use Rattle.unit_index.specs.Index.{Indexed};
 ghost use Rattle.rules.specs.Model.{ingredient};
-ghost use Rattle.letters.specs.Tables.{unicode_tables};
 ghost use Rattle.components.specs.Views.{modifiers_in};
 ghost use Rattle.events.specs.Views.{component_event_in, ComponentEventWithin};
 ghost use Rattle.events.specs.declared.ComponentEvent.TheVariants as event;
@@ -30,17 +28,18 @@ use lookup::NamePart;
 use model::{Held, Kind, Relation, RelationRecord, Row};
 use refusals::Reason;
 use sheet::{Define, Duplicate};
+use unit_index::UnitList;
 
 // ---- names
 
 // Where the sheet has the name of the component whose line begins at `at`.
-fn name_of(t: &[u32], sheet: &[u8], at: usize, v: ComponentView, kind: Kind) -> NamePart
-    requires { (t.now ≡ unicode_tables) × (length sheet.now ≤ 65536) × (v.name.content.from ≤ v.name.content.to) × (at + v.name.content.to ≤ length sheet.now) }
+fn name_of(sheet: &[u8], at: usize, v: ComponentView, kind: Kind) -> NamePart
+    requires { (length sheet.now ≤ 65536) × (v.name.content.from ≤ v.name.content.to) × (at + v.name.content.to ≤ length sheet.now) }
     ensures { NamePlaced (kind_of kind) sheet.now at v result }
 {
     let from = at + v.name.content.from;
     let to = at + v.name.content.to;
-    lookup::new_name(t, sheet, from, to, kind)
+    lookup::new_name(sheet, from, to, kind)
 }
 
 // Whether the search is needed at all: elsewhere nothing that is made of a component depends on it.
@@ -52,7 +51,6 @@ fn asks_same(define: Define, duplicate: Duplicate, reference: bool) -> bool
 
 // The earlier component of the name; an explicit REF does not ask for OPT.
 fn found_before(
-    t: &[u32],
     sheet: &[u8],
     words: &[u32],
     h: Held,
@@ -60,19 +58,18 @@ fn found_before(
     m: Modifiers,
     kind: Kind,
 ) -> Option<usize>
-    requires { (t.now ≡ unicode_tables) × (p.at ≤ p.end) × (p.end ≤ length sheet.now) × Sound words.now h × AllFit sheet.now words.now h }
+    requires { (p.at ≤ p.end) × (p.end ≤ length sheet.now) × Sound words.now h × AllFit sheet.now words.now h }
     ensures { SameFound (kind_of kind) sheet.now words.now h (slice p.at p.end sheet.now) m.reference m.opt result }
 {
     let from = p.at;
     let to = p.end;
     let any_opt = m.reference;
     let opt = m.opt;
-    lookup::same_component(t, sheet, words, h, kind, &sheet[from..to], any_opt, opt)
+    lookup::same_component(sheet, words, h, kind, &sheet[from..to], any_opt, opt)
 }
 
 // The same, where it is needed.
 fn same_of(
-    t: &[u32],
     sheet: &[u8],
     words: &[u32],
     h: Held,
@@ -80,13 +77,13 @@ fn same_of(
     m: Modifiers,
     kind: Kind,
 ) -> Option<usize>
-    requires { (t.now ≡ unicode_tables) × (p.at ≤ p.end) × (p.end ≤ length sheet.now) × Sound words.now h × AllFit sheet.now words.now h }
+    requires { (p.at ≤ p.end) × (p.end ≤ length sheet.now) × Sound words.now h × AllFit sheet.now words.now h }
     ensures { SameAsked (kind_of kind) sheet.now words.now h (slice p.at p.end sheet.now) m.reference m.opt result }
 {
     let define = h.define;
     let duplicate = h.duplicate;
     if asks_same(define, duplicate, m.reference) {
-        return found_before(t, sheet, words, h, p, m, kind);
+        return found_before(sheet, words, h, p, m, kind);
     }
     None
 }
@@ -206,14 +203,14 @@ fn intermediate_reports(
 {
     let m = v.modifiers;
     let quantity = v.quantity;
-    let k1 = timers::lock_finding(words, h, quantity);
-    let k2 = intermediate::intermediate_modifiers(words, k1, m, v.modifiers_span);
-    intermediate::intermediate_findings(words, k2, i, target)
+    let k1 = memory::push_found(words, h, timers::lock_finding(quantity));
+    let marks = intermediate::intermediate_modifiers(m, v.modifiers_span);
+    let k2 = memory::push_found(words, k1, marks);
+    memory::push_found(words, k2, intermediate::intermediate_findings(i, target))
 }
 
 // An ingredient with an intermediate reference.
 fn intermediate_line(
-    t: &[u32],
     sheet: &[u8],
     at: usize,
     end: usize,
@@ -222,12 +219,12 @@ fn intermediate_line(
     words: &mut [u32],
     h: Held,
 ) -> Held
-    requires { (t.now ≡ unicode_tables) × ComponentHere ingredient sheet.now at end v × Sound words.old h × AllFit sheet.now words.old h × Roomy h × (h.counts.findings ≤ 1024) }
+    requires { ComponentHere ingredient sheet.now at end v × Sound words.old h × AllFit sheet.now words.old h × Roomy h × (h.counts.findings ≤ 1024) }
     ensures { IntermediateDone sheet.now (slice at end sheet.now) v i words.old h words.new result }
 {
     let m = v.modifiers;
     let define = h.define;
-    let p = name_of(t, sheet, at, v, Kind::Ingredient);
+    let p = name_of(sheet, at, v, Kind::Ingredient);
     let target = intermediate::intermediate_target(words, h, i);
     let in_step = !blocks::is_components(define);
     let relation = intermediate::intermediate_relation(i, in_step, target);
@@ -240,9 +237,7 @@ fn intermediate_line(
 
 // All that is found at a component that refers to `to`, where the search found one with the modifiers `old`.
 fn named_reports(
-    t: &[u32],
-    units: &[u8],
-    index: &[u32],
+    units: &UnitList,
     flags: u32,
     sheet: &[u8],
     at: usize,
@@ -255,12 +250,12 @@ fn named_reports(
     words: &mut [u32],
     h: Held,
 ) -> Held
-    requires { (t.now ≡ unicode_tables) × Indexed units.now index.now × ComponentHere (kind_of kind) sheet.now at end v × SameBelow (kind_of kind) h to × Sound words.old h × AllFit sheet.now words.old h × Roomy h × (h.counts.findings ≤ 1024) × CodesKept units.now sheet.now codes.old }
-    ensures { NamedReported (units_or (read_units units.now)) flags (kind_of kind) sheet.now (slice at end sheet.now) v old to words.old h words.new result × CodesKept units.now sheet.now codes.new }
+    requires { ComponentHere (kind_of kind) sheet.now at end v × SameBelow (kind_of kind) h to × Sound words.old h × AllFit sheet.now words.old h × Roomy h × (h.counts.findings ≤ 1024) × CodesKept units.now.lines.now sheet.now codes.old }
+    ensures { NamedReported (units_or (read_units units.now.lines.now)) flags (kind_of kind) sheet.now (slice at end sheet.now) v old to words.old h words.new result × CodesKept units.now.lines.now sheet.now codes.new }
 {
     let m = v.modifiers;
     let quantity = v.quantity;
-    let k1 = timers::lock_finding(words, h, quantity);
+    let k1 = memory::push_found(words, h, timers::lock_finding(quantity));
     let k2 = reference_findings::reference_findings(
         words,
         k1,
@@ -271,9 +266,7 @@ fn named_reports(
         old,
     );
     unit_checks::checks_after(
-        t,
         units,
-        index,
         flags,
         codes,
         words,
@@ -288,9 +281,7 @@ fn named_reports(
 
 // A component that is looked up by its name.
 fn named_line(
-    t: &[u32],
-    units: &[u8],
-    index: &[u32],
+    units: &UnitList,
     flags: u32,
     sheet: &[u8],
     at: usize,
@@ -301,21 +292,21 @@ fn named_line(
     words: &mut [u32],
     h: Held,
 ) -> Held
-    requires { (t.now ≡ unicode_tables) × Indexed units.now index.now × ComponentHere (kind_of kind) sheet.now at end v × Sound words.old h × AllFit sheet.now words.old h × Roomy h × (h.counts.findings ≤ 1024) × CodesKept units.now sheet.now codes.old }
-    ensures { NamedDone (units_or (read_units units.now)) flags (kind_of kind) sheet.now (slice at end sheet.now) v words.old h words.new result × CodesKept units.now sheet.now codes.new }
+    requires { ComponentHere (kind_of kind) sheet.now at end v × Sound words.old h × AllFit sheet.now words.old h × Roomy h × (h.counts.findings ≤ 1024) × CodesKept units.now.lines.now sheet.now codes.old }
+    ensures { NamedDone (units_or (read_units units.now.lines.now)) flags (kind_of kind) sheet.now (slice at end sheet.now) v words.old h words.new result × CodesKept units.now.lines.now sheet.now codes.new }
 {
     let m = v.modifiers;
     let define = h.define;
     let duplicate = h.duplicate;
-    let p = name_of(t, sheet, at, v, kind);
-    let same = same_of(t, sheet, words, h, p, m, kind);
+    let p = name_of(sheet, at, v, kind);
+    let same = same_of(sheet, words, h, p, m, kind);
     let old = old_of(words, h, same, kind);
     let to = lookup::refers_to(define, duplicate, m.reference, m.new, same);
     let in_step = !blocks::is_components(define);
     let row = row_named(at, end, p, in_step, m, to, old, kind);
     let found = found_of(to);
     let k = named_reports(
-        t, units, index, flags, sheet, at, end, v, old, to, kind, codes, words, h,
+        units, flags, sheet, at, end, v, old, to, kind, codes, words, h,
     );
     put_row(words, k, row, found, kind)
 }
@@ -323,9 +314,7 @@ fn named_line(
 // ---- the lines
 
 pub fn on_ingredient(
-    t: &[u32],
-    units: &[u8],
-    index: &[u32],
+    units: &UnitList,
     flags: u32,
     sheet: &[u8],
     at: usize,
@@ -336,17 +325,15 @@ pub fn on_ingredient(
     words: &mut [u32],
     h: Held,
 ) -> Result<Held, Reason>
-    requires { (t.now ≡ unicode_tables) × Indexed units.now index.now × LineHere sheet.now at end (inside (component_event (component_event_in (slice at end sheet.now) (event.Ingredient v i)))) × ComponentEventWithin (slice at end sheet.now) (event.Ingredient v i) × ComponentEventFields (slice at end sheet.now) (event.Ingredient v i) × Kept sheet.now words.old h × CodesKept units.now sheet.now codes.old }
-    ensures { ComponentDone (units_or (read_units units.now)) flags sheet.now (slice at end sheet.now) (event.Ingredient v i) words.old h words.new result × CodesKept units.now sheet.now codes.new }
+    requires { LineHere sheet.now at end (inside (component_event (component_event_in (slice at end sheet.now) (event.Ingredient v i)))) × ComponentEventWithin (slice at end sheet.now) (event.Ingredient v i) × ComponentEventFields (slice at end sheet.now) (event.Ingredient v i) × Kept sheet.now words.old h × CodesKept units.now.lines.now sheet.now codes.old }
+    ensures { ComponentDone (units_or (read_units units.now.lines.now)) flags sheet.now (slice at end sheet.now) (event.Ingredient v i) words.old h words.new result × CodesKept units.now.lines.now sheet.now codes.new }
 {
     let m = v.modifiers;
     intermediate::check_intermediate(m.reference, i)?;
     match i {
         None => {
             let k = named_line(
-                t,
                 units,
-                index,
                 flags,
                 sheet,
                 at,
@@ -360,16 +347,14 @@ pub fn on_ingredient(
             Ok(k)
         }
         Some(x) => {
-            let k = intermediate_line(t, sheet, at, end, v, x, words, h);
+            let k = intermediate_line(sheet, at, end, v, x, words, h);
             Ok(k)
         }
     }
 }
 
 pub fn on_cookware(
-    t: &[u32],
-    units: &[u8],
-    index: &[u32],
+    units: &UnitList,
     flags: u32,
     sheet: &[u8],
     at: usize,
@@ -379,13 +364,11 @@ pub fn on_cookware(
     words: &mut [u32],
     h: Held,
 ) -> Result<Held, Reason>
-    requires { (t.now ≡ unicode_tables) × Indexed units.now index.now × LineHere sheet.now at end (inside (component_event (component_event_in (slice at end sheet.now) (event.Cookware v)))) × ComponentEventWithin (slice at end sheet.now) (event.Cookware v) × ComponentEventFields (slice at end sheet.now) (event.Cookware v) × Kept sheet.now words.old h × CodesKept units.now sheet.now codes.old }
-    ensures { ComponentDone (units_or (read_units units.now)) flags sheet.now (slice at end sheet.now) (event.Cookware v) words.old h words.new result × CodesKept units.now sheet.now codes.new }
+    requires { LineHere sheet.now at end (inside (component_event (component_event_in (slice at end sheet.now) (event.Cookware v)))) × ComponentEventWithin (slice at end sheet.now) (event.Cookware v) × ComponentEventFields (slice at end sheet.now) (event.Cookware v) × Kept sheet.now words.old h × CodesKept units.now.lines.now sheet.now codes.old }
+    ensures { ComponentDone (units_or (read_units units.now.lines.now)) flags sheet.now (slice at end sheet.now) (event.Cookware v) words.old h words.new result × CodesKept units.now.lines.now sheet.now codes.new }
 {
     let k = named_line(
-        t,
         units,
-        index,
         flags,
         sheet,
         at,

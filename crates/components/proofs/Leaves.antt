@@ -12,16 +12,11 @@ use lib.ListN.{length, get_or, drop, drop_of_length-le}
 use lib.Seq.{drop-cons}
 use Rattle.rules.specs.Basic.{pick, on_some, eq_list, is_empty, minus}
 use Rattle.rules.specs.Sheet.{Signed, signed_as, signed_of, number_up_to}
-use Rattle.rules.specs.Read.{leads, past, no_modifiers, modifier_letters, modifiers_of, read_signed}
+use Rattle.rules.specs.Read.{leads, past, no_modifiers, modifier_letters, modifiers_of}
 use Rattle.rules.proofs.Basics.{pick_either, no_some, some_inj}
-use Rattle.sheet.specs.declared.Signed.{Signed as Told}
-use Rattle.sheet.specs.declared.Signed.TheVariants.{Plus, Minus}
-use Rattle.sheet.specs.Numbers.{signed_in as signed_number}
-use Rattle.sheet.specs.Lines.{field_at}
-use Rattle.parts.proofs.Leaves.{leaf_got, number_most}
+use Rattle.parts.proofs.Leaves.{number_most}
 use Rattle.components.specs.declared.Modifiers.{Modifiers}
-use Rattle.components.specs.Views.{Skips, modifiers_in, signed_in}
-use Rattle.components.specs.Got.{SignedRead}
+use Rattle.components.specs.Views.{Skips, modifiers_in}
 
 -- ---- one letter
 module _ (s : List ℕ) (i c : ℕ) where
@@ -102,18 +97,9 @@ sign_most false m f (Some n) {v} e q = let k : n ≡ v.size = ap (λ (s : Signed
 sign_most true m f (Some n) {v} e q =
     pick_either (λ (o : Option Signed). o ≡ Some v → v.size ≤ m) (eqb n 0) None (Some (record { negative = true; size = n })) (λ b l. no_some l) (λ b l. let k : n ≡ v.size = ap (λ (s : Signed). s.size) (some_inj l) in let z = number_most m f e in omega arith) q
 
-signed_most : (f : List ℕ) {v : Signed} → signed_of f ≡ Some v → v.size ≤ 32768
+pub signed_most : (f : List ℕ) {v : Signed} → signed_of f ≡ Some v → v.size ≤ 32768
 unfolding signed_of
 signed_most [] q = no_some q
 signed_most (c ∷ s) {v} q =
     pick_either (λ (o : Option Signed). o ≡ Some v → v.size ≤ 32768) (eqb c minus) (signed_as true (number_up_to 32768 s)) (signed_as false (number_up_to 32767 (c ∷ s)))
     (λ b l. sign_most true 32768 s _ refl l) (λ b l. let z = sign_most false 32767 (c ∷ s) _ refl l in omega arith) q
-
-module _ {line : List ℕ} {at : ℕ} {f : List ℕ} (h : at ≤ length line) (e : f ≡ field_at line at) {s : Told} (w : on_some signed_number (Some s) ≡ signed_of f) where
-  pub signed_plus : {n : ℕ} → s ≡ Plus n → SignedRead line at (Some ((record { negative = false; size = n }), (at + length f + 1)))
-  unfolding read_signed on_some signed_number signed_in
-  signed_plus q = let k = rw q at (sym w) in leaf_got signed_of h e k (record { size = signed_most f k })
-
-  pub signed_minus : {n : ℕ} → s ≡ Minus n → SignedRead line at (Some ((record { negative = true; size = n }), (at + length f + 1)))
-  unfolding read_signed on_some signed_number signed_in
-  signed_minus q = let k = rw q at (sym w) in leaf_got signed_of h e k (record { size = signed_most f k })

@@ -3,8 +3,10 @@
 
 ghost use Rattle.std.specs.Prelude.{◌≡◌, drop};
 ghost use Rattle.rules.specs.Read.{leads, modifier_letters, modifiers_of};
-ghost use Rattle.rules.specs.Basic.{on_some};
-ghost use Rattle.components.specs.Views.{Skips, modifiers_in};
+ghost use Rattle.rules.specs.Basic.{on_some, word_in};
+ghost use Rattle.rules.specs.Words.{references, targets};
+ghost use Rattle.rules.specs.Sheet.{signed_of};
+ghost use Rattle.components.specs.Views.{Skips, modifiers_in, signed_in, target_in};
 ghost use Rattle.components.specs.Got.{ModifiersRead, ComponentRead, SignedRead, ReferenceRead, TargetRead, IntermediateRead, OptIntermediateRead};
 
 #[derive(Clone, Copy)]
@@ -114,12 +116,7 @@ fn modifiers_of(f: &[u8]) -> Option<Modifiers>
 fn read_modifiers(line: &[u8], at: usize) -> Option<(Modifiers, usize)>
     ensures { ModifiersRead line.now at result }
 {
-    if line.len() < at {
-        return None;
-    }
-    let f = sheet::field(line, at);
-    let m = modifiers_of(f)?;
-    Some((m, at + f.len() + 1))
+    parts::read_word(line, at, modifiers_of)
 }
 
 pub fn read_component(line: &[u8], at: usize) -> Option<(ComponentView, usize)>
@@ -146,46 +143,55 @@ pub fn read_component(line: &[u8], at: usize) -> Option<(ComponentView, usize)>
     ))
 }
 
-fn read_value(line: &[u8], at: usize) -> Option<(SignedView, usize)>
-    ensures { SignedRead line.now at result }
+fn value_of(f: &[u8]) -> Option<SignedView>
+    ensures { on_some signed_in result ≡ signed_of f.now }
 {
-    if line.len() < at {
-        return None;
-    }
-    let f = sheet::field(line, at);
-    let n = at + f.len() + 1;
     let signed = sheet::read_signed(f)?;
     match signed {
-        sheet::Signed::Plus(k) => Some((
-            SignedView {
-                negative: false,
-                size: k,
-            },
-            n,
-        )),
-        sheet::Signed::Minus(k) => Some((
-            SignedView {
-                negative: true,
-                size: k,
-            },
-            n,
-        )),
+        sheet::Signed::Plus(k) => Some(SignedView {
+            negative: false,
+            size: k,
+        }),
+        sheet::Signed::Minus(k) => Some(SignedView {
+            negative: true,
+            size: k,
+        }),
     }
 }
 
+fn read_value(line: &[u8], at: usize) -> Option<(SignedView, usize)>
+    ensures { SignedRead line.now at result }
+{
+    parts::read_word(line, at, value_of)
+}
+
 // How an intermediate is counted: `n`, from the start, or `r`, relative.
+fn reference_of(f: &[u8]) -> Option<bool>
+    ensures { result ≡ word_in f.now references }
+{
+    if sheet::same_bytes(f, b"n") {
+        return Some(false);
+    }
+    if sheet::same_bytes(f, b"r") {
+        return Some(true);
+    }
+    None
+}
+
 fn read_reference(line: &[u8], at: usize) -> Option<(bool, usize)>
     ensures { ReferenceRead line.now at result }
 {
-    if line.len() < at {
-        return None;
+    parts::read_word(line, at, reference_of)
+}
+
+fn target_of(f: &[u8]) -> Option<Target>
+    ensures { on_some target_in result ≡ word_in f.now targets }
+{
+    if sheet::same_bytes(f, b"step") {
+        return Some(Target::Step);
     }
-    let f = sheet::field(line, at);
-    if sheet::same_bytes(f, b"n") {
-        return Some((false, at + f.len() + 1));
-    }
-    if sheet::same_bytes(f, b"r") {
-        return Some((true, at + f.len() + 1));
+    if sheet::same_bytes(f, b"section") {
+        return Some(Target::Section);
     }
     None
 }
@@ -193,17 +199,7 @@ fn read_reference(line: &[u8], at: usize) -> Option<(bool, usize)>
 fn read_target(line: &[u8], at: usize) -> Option<(Target, usize)>
     ensures { TargetRead line.now at result }
 {
-    if line.len() < at {
-        return None;
-    }
-    let f = sheet::field(line, at);
-    if sheet::same_bytes(f, b"step") {
-        return Some((Target::Step, at + f.len() + 1));
-    }
-    if sheet::same_bytes(f, b"section") {
-        return Some((Target::Section, at + f.len() + 1));
-    }
-    None
+    parts::read_word(line, at, target_of)
 }
 
 fn read_intermediate(line: &[u8], at: usize) -> Option<(Intermediate, usize)>
@@ -227,12 +223,5 @@ fn read_intermediate(line: &[u8], at: usize) -> Option<(Intermediate, usize)>
 pub fn read_opt_intermediate(line: &[u8], at: usize) -> Option<(Option<Intermediate>, usize)>
     ensures { OptIntermediateRead line.now at result }
 {
-    match parts::opt_dash(line, at) {
-        parts::Dash::Absent(n) => Some((None, n)),
-        parts::Dash::Ill => None,
-        parts::Dash::Present => {
-            let (v, m) = read_intermediate(line, at)?;
-            Some((Some(v), m))
-        }
-    }
+    parts::read_opt(line, at, read_intermediate)
 }

@@ -8,7 +8,6 @@ ghost use Rattle.rules.specs.Text.{text_trimmed, text_outer_trimmed};
 ghost use Rattle.rules.specs.Modes.{key_of, is_bracketed, ends_with_bracket};
 ghost use Rattle.sheet.specs.Words.{define_of, duplicate_of};
 ghost use Rattle.content.specs.Contents.{content_in};
-ghost use Rattle.letters.specs.Tables.{unicode_tables};
 ghost use Rattle.config_keys.specs.Keys.{key_in, HeededKey};
 
 use sheet::{ConfigKey, Define, Duplicate};
@@ -49,11 +48,10 @@ fn is_bracketed(f: &[u8]) -> bool
 }
 
 // What a key is where flag 1 is set.
-pub fn key_of(t: &[u32], f: &[u8]) -> Key
-    requires { t.now ≡ unicode_tables }
+pub fn key_of(f: &[u8]) -> Key
     ensures { key_in result ≡ key_of (text_trimmed (content_in f.now)) }
 {
-    let w = text::text_outer_trimmed(t, f);
+    let w = text::text_outer_trimmed(f);
     match sheet::config_key(w) {
         Some(ConfigKey::Define) => Key::Define,
         Some(ConfigKey::Duplicate) => Key::Duplicate,
@@ -66,30 +64,27 @@ pub fn key_of(t: &[u32], f: &[u8]) -> Key
     }
 }
 
-pub fn define_value(t: &[u32], f: &[u8]) -> Option<Define>
-    requires { t.now ≡ unicode_tables }
+pub fn define_value(f: &[u8]) -> Option<Define>
     ensures { on_some define_of result ≡ word_in (text_outer_trimmed (content_in f.now)) define_words }
 {
-    let w = text::text_outer_trimmed(t, f);
+    let w = text::text_outer_trimmed(f);
     sheet::define_mode(w)
 }
 
-pub fn duplicate_value(t: &[u32], f: &[u8]) -> Option<Duplicate>
-    requires { t.now ≡ unicode_tables }
+pub fn duplicate_value(f: &[u8]) -> Option<Duplicate>
     ensures { on_some duplicate_of result ≡ word_in (text_outer_trimmed (content_in f.now)) duplicate_words }
 {
-    let w = text::text_outer_trimmed(t, f);
+    let w = text::text_outer_trimmed(f);
     sheet::duplicate_mode(w)
 }
 
 // Whether a key sets a mode: the flags heed it if 1 is set.
-pub fn is_heeded(t: &[u32], flags: u32, f: &[u8]) -> bool
-    requires { t.now ≡ unicode_tables }
+pub fn is_heeded(flags: u32, f: &[u8]) -> bool
     ensures { HeededKey flags f.now result }
 {
     let odd = flags % 2;
     if odd == 1 {
-        match key_of(t, f) {
+        match key_of(f) {
             Key::Define => {
                 return true;
             }

@@ -137,11 +137,11 @@ module _ {sheet w : List ℕ} {h : Held} (z : Sound w h) (f : AllFit sheet w h) 
 
 module _ (sheet w : List ℕ) (h : Held) {o₀ o : List ℕ} {at r : ℕ} where
   pub ingredients_lined : Put (table_lines (entry_line ingredient) (entries_in ingredient sheet (take 6156 (drop 0 w)) (take 1026 (drop 9240 w)) h.counts.ingredient_pairs h.counts.ingredients)) o₀ at o r
-      → Put (table_lines ingredient_line (table_of ingredient (state_in sheet w h))) o₀ at o r
-  unfolding entry_line table_of state_in state_of windows_of
+      → Put (table_lines (entry_line ingredient) (table_of ingredient (state_in sheet w h))) o₀ at o r
+  unfolding table_of state_in state_of windows_of
   ingredients_lined x = x
 
   pub cookware_lined : Put (table_lines (entry_line cookware) (entries_in cookware sheet (take 3084 (drop 6156 w)) (take 514 (drop 10266 w)) h.counts.cookware_pairs h.counts.cookware)) o₀ at o r
-      → Put (table_lines cookware_line (table_of cookware (state_in sheet w h))) o₀ at o r
-  unfolding entry_line table_of state_in state_of windows_of
+      → Put (table_lines (entry_line cookware) (table_of cookware (state_in sheet w h))) o₀ at o r
+  unfolding table_of state_in state_of windows_of
   cookware_lined x = x

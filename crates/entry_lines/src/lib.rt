@@ -6,10 +6,9 @@ ghost use Rattle.rules.specs.Basic.{pick, codes, comma, lf, decimal, join_by, ea
 ghost use Rattle.rules.specs.Utf8.{encode};
 ghost use Rattle.rules.specs.Read.{parse_line};
 ghost use Rattle.rules.specs.Model.{ingredient, cookware, is_ingredient, name_of, path_of, reference_in, definition, reference};
-ghost use Rattle.rules.specs.Page.{or_minus, target_word, relation_fields, ingredient_line, cookware_line, table_lines};
+ghost use Rattle.rules.specs.Page.{or_minus, target_word, relation_fields, table_lines};
 ghost use Rattle.rules.specs.State.{table_of};
 ghost use Rattle.rules.proofs.Fields.{Without};
-ghost use Rattle.letters.specs.Tables.{unicode_tables};
 ghost use Rattle.output.specs.Put.{Put, tabbed};
 ghost use Rattle.content.specs.Contents.{kept_in};
 ghost use Rattle.content.specs.Parts.{Field};
@@ -201,7 +200,6 @@ fn is_ingredient(kind: Kind) -> bool
 
 // The fields of a component between its index and its relation.
 fn put_own(
-    t: &[u32],
     out: &mut [u8],
     at: usize,
     line: &[u8],
@@ -209,7 +207,7 @@ fn put_own(
     marks: Modifiers,
     kind: Kind,
 ) -> usize
-    requires { (t.now ≡ unicode_tables) × ComponentFields line.now v }
+    requires { ComponentFields line.now v }
     ensures { Put (tabbed (own_fields (kind_of kind) (marked_entry (kind_of kind) (modifiers_in marks) (component_in line.now v)))) out.old at out.new result }
 {
     let name = v.name;
@@ -217,36 +215,28 @@ fn put_own(
     let quantity = v.quantity;
     let note = v.note;
     let f = parts::part_of(line, name.content);
-    let w = text::text_outer_trimmed(t, f);
+    let w = text::text_outer_trimmed(f);
     let p = place_in(w, kind);
     let a = put_name(out, at, w, p, kind);
-    let b = page_fields::put_optional(t, out, a, line, alias);
-    let c = page_fields::put_amount(t, out, b, line, quantity, is_ingredient(kind));
-    let d = page_fields::put_optional(t, out, c, line, note);
+    let b = page_fields::put_optional(out, a, line, alias);
+    let c = page_fields::put_amount(out, b, line, quantity, is_ingredient(kind));
+    let d = page_fields::put_optional(out, c, line, note);
     let e = put_path(out, d, w, p, kind);
     page_fields::put_modifiers(out, e, marks)
 }
 
 // The same of the component of a line.
-fn put_component(
-    t: &[u32],
-    out: &mut [u8],
-    at: usize,
-    line: &[u8],
-    marks: Modifiers,
-    kind: Kind,
-) -> usize
-    requires { (t.now ≡ unicode_tables) × (is_of_kind (kind_of kind) (parse_line line.now) ≡ true) × Without lf line.now }
+fn put_component(out: &mut [u8], at: usize, line: &[u8], marks: Modifiers, kind: Kind) -> usize
+    requires { (is_of_kind (kind_of kind) (parse_line line.now) ≡ true) × Without lf line.now }
     ensures { Put (tabbed (own_fields (kind_of kind) (marked_entry (kind_of kind) (modifiers_in marks) (component_of_line (kind_of kind) line.now)))) out.old at out.new result }
 {
     let v = recall::component_in(line);
-    put_own(t, out, at, line, v, marks, kind)
+    put_own(out, at, line, v, marks, kind)
 }
 
 // The line of the i-th row at the front of the unwritten rest of the output: how many bytes it took, or one more than the
 // rest has where it does not fit.
 fn entry_line(
-    t: &[u32],
     sheet: &[u8],
     rows: &[u32],
     pairs: &[u32],
@@ -255,7 +245,7 @@ fn entry_line(
     kind: Kind,
     rest: &mut [u8],
 ) -> usize
-    requires { (t.now ≡ unicode_tables) × RowReady (kind_of kind) sheet.now rows.now pairs.now m i }
+    requires { RowReady (kind_of kind) sheet.now rows.now pairs.now m i }
     ensures { Put (entry_line (kind_of kind) i (entry_in (kind_of kind) sheet.now rows.now pairs.now m i)) rest.old 0 rest.new result }
 {
     let row = model::row_at(rows, i);
@@ -266,14 +256,13 @@ fn entry_line(
     let index = i as u32;
     let a = put_word(rest, 0, kind);
     let b = output::put_number(rest, a, index);
-    let c = put_component(t, rest, b, &sheet[from..to], marks, kind);
+    let c = put_component(rest, b, &sheet[from..to], marks, kind);
     let d = put_relation(rest, c, pairs, m, relation, index, kind);
     output::put_byte(rest, d, b'\n')
 }
 
 // The same at a position of the output: the rest from there on is lent.
 fn put_entry(
-    t: &[u32],
     sheet: &[u8],
     rows: &[u32],
     pairs: &[u32],
@@ -283,18 +272,18 @@ fn put_entry(
     out: &mut [u8],
     at: usize,
 ) -> usize
-    requires { (t.now ≡ unicode_tables) × RowReady (kind_of kind) sheet.now rows.now pairs.now m i }
+    requires { RowReady (kind_of kind) sheet.now rows.now pairs.now m i }
     ensures { Put (entry_line (kind_of kind) i (entry_in (kind_of kind) sheet.now rows.now pairs.now m i)) out.old at out.new result }
 {
-    if out.len() < at {
-        return out.len() + 1;
-    }
-    at + entry_line(t, sheet, rows, pairs, m, i, kind, &mut out[at..])
+    output::put_line(
+        out,
+        at,
+        |rest: &mut [u8]| entry_line(sheet, rows, pairs, m, i, kind, rest),
+    )
 }
 
 // The lines of the first n rows.
 fn put_entries(
-    t: &[u32],
     sheet: &[u8],
     rows: &[u32],
     n: usize,
@@ -304,7 +293,7 @@ fn put_entries(
     out: &mut [u8],
     at: usize,
 ) -> usize
-    requires { (t.now ≡ unicode_tables) × TableReady (kind_of kind) sheet.now rows.now pairs.now m n }
+    requires { TableReady (kind_of kind) sheet.now rows.now pairs.now m n }
     ensures { Put (table_lines (entry_line (kind_of kind)) (entries_in (kind_of kind) sheet.now rows.now pairs.now m n)) out.old at out.new result }
 {
     if out.len() < at {
@@ -312,59 +301,49 @@ fn put_entries(
     }
     let mut next = at;
     for i in 0..n {
-        next = put_entry(t, sheet, rows, pairs, m, i, kind, out, next);
+        next = put_entry(sheet, rows, pairs, m, i, kind, out, next);
     }
     next
 }
 
-pub fn ingredient_lines(
-    t: &[u32],
+// The lines of the ingredients or of the cookware.
+pub fn component_lines(
     sheet: &[u8],
     words: &[u32],
     h: Held,
+    kind: Kind,
     out: &mut [u8],
     at: usize,
 ) -> usize
-    requires { (t.now ≡ unicode_tables) × Sound words.now h × AllFit sheet.now words.now h }
-    ensures { Put (table_lines ingredient_line (table_of ingredient (state_in sheet.now words.now h))) out.old at out.new result }
+    requires { Sound words.now h × AllFit sheet.now words.now h }
+    ensures { Put (table_lines (entry_line (kind_of kind)) (table_of (kind_of kind) (state_in sheet.now words.now h))) out.old at out.new result }
 {
-    let n = h.counts.ingredients;
-    let m = h.counts.ingredient_pairs;
-    put_entries(
-        t,
-        sheet,
-        &words[0..6156],
-        n,
-        &words[9240..10266],
-        m,
-        Kind::Ingredient,
-        out,
-        at,
-    )
-}
-
-pub fn cookware_lines(
-    t: &[u32],
-    sheet: &[u8],
-    words: &[u32],
-    h: Held,
-    out: &mut [u8],
-    at: usize,
-) -> usize
-    requires { (t.now ≡ unicode_tables) × Sound words.now h × AllFit sheet.now words.now h }
-    ensures { Put (table_lines cookware_line (table_of cookware (state_in sheet.now words.now h))) out.old at out.new result }
-{
-    let n = h.counts.cookware;
-    let m = h.counts.cookware_pairs;
-    put_entries(
-        t,
-        sheet,
-        &words[6156..9240],
-        n,
-        &words[10266..10780],
-        m,
-        Kind::Cookware,
-        out,
-        at,
-    )
+    match kind {
+        Kind::Ingredient => {
+            let (n, m) = (h.counts.ingredients, h.counts.ingredient_pairs);
+            put_entries(
+                sheet,
+                &words[0..6156],
+                n,
+                &words[9240..10266],
+                m,
+                kind,
+                out,
+                at,
+            )
+        }
+        Kind::Cookware => {
+            let (n, m) = (h.counts.cookware, h.counts.cookware_pairs);
+            put_entries(
+                sheet,
+                &words[6156..9240],
+                n,
+                &words[10266..10780],
+                m,
+                kind,
+                out,
+                at,
+            )
+        }
+    }
 }

@@ -46,13 +46,7 @@ pub enum EventView {
 fn read_block(line: &[u8], at: usize) -> Option<(BlockKind, usize)>
     ensures { BlockRead line.now at result }
 {
-    if line.len() < at {
-        return None;
-    }
-    let f = sheet::field(line, at);
-    let n = at + f.len() + 1;
-    let kind = sheet::block_kind(f)?;
-    Some((kind, n))
+    parts::read_word(line, at, sheet::block_kind)
 }
 
 pub fn read_meta(line: &[u8], at: usize) -> Option<(EventView, usize)>

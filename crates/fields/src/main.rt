@@ -1,67 +1,46 @@
 // Reads lines of fields from standard input, and writes what the readers and writers of the sheet say of each.
 #![tactic(auto)]
 
+ghost use Rattle.std.specs.Prelude.{◌≤◌, length};
+
 use sheet::{BlockKind, ConfigKey, Define, Duplicate, EventWord, NotUnescaped, Signed, ValueKind};
 use std::io;
 
-fn event_number(w: Option<EventWord>) -> u32 {
-    match w {
+// What a field is as a word of a table: its place there, from 1, or 0 where it is none.
+fn place_in<T: Copy + PartialEq>(words: &[T], w: Option<T>) -> u32
+    requires { length words.now ≤ 10 }
+{
+    let Some(word) = w else {
+        return 0;
+    };
+    match words.iter().position(|x| *x == word) {
         None => 0,
-        Some(EventWord::Meta) => 1,
-        Some(EventWord::Section) => 2,
-        Some(EventWord::Start) => 3,
-        Some(EventWord::End) => 4,
-        Some(EventWord::Text) => 5,
-        Some(EventWord::Ingredient) => 6,
-        Some(EventWord::Cookware) => 7,
-        Some(EventWord::Timer) => 8,
-        Some(EventWord::Error) => 9,
-        Some(EventWord::Warning) => 10,
+        Some(i) => i as u32 + 1,
     }
 }
 
-fn block_number(w: Option<BlockKind>) -> u32 {
-    match w {
-        None => 0,
-        Some(BlockKind::Step) => 1,
-        Some(BlockKind::Text) => 2,
-    }
-}
+const EVENTS: [EventWord; 10] = [
+    EventWord::Meta,
+    EventWord::Section,
+    EventWord::Start,
+    EventWord::End,
+    EventWord::Text,
+    EventWord::Ingredient,
+    EventWord::Cookware,
+    EventWord::Timer,
+    EventWord::Error,
+    EventWord::Warning,
+];
 
-fn value_number(w: Option<ValueKind>) -> u32 {
-    match w {
-        None => 0,
-        Some(ValueKind::Number) => 1,
-        Some(ValueKind::Range) => 2,
-        Some(ValueKind::Textual) => 3,
-    }
-}
+const BLOCKS: [BlockKind; 2] = [BlockKind::Step, BlockKind::Text];
 
-fn key_number(w: Option<ConfigKey>) -> u32 {
-    match w {
-        None => 0,
-        Some(ConfigKey::Define) => 1,
-        Some(ConfigKey::Duplicate) => 2,
-    }
-}
+const VALUES: [ValueKind; 3] = [ValueKind::Number, ValueKind::Range, ValueKind::Textual];
 
-fn define_number(w: Option<Define>) -> u32 {
-    match w {
-        None => 0,
-        Some(Define::All) => 1,
-        Some(Define::Components) => 2,
-        Some(Define::Steps) => 3,
-        Some(Define::Text) => 4,
-    }
-}
+const KEYS: [ConfigKey; 2] = [ConfigKey::Define, ConfigKey::Duplicate];
 
-fn duplicate_number(w: Option<Duplicate>) -> u32 {
-    match w {
-        None => 0,
-        Some(Duplicate::New) => 1,
-        Some(Duplicate::Reference) => 2,
-    }
-}
+const DEFINES: [Define; 4] = [Define::All, Define::Components, Define::Steps, Define::Text];
+
+const DUPLICATES: [Duplicate; 2] = [Duplicate::New, Duplicate::Reference];
 
 // A tab and a word.
 fn put_told(out: &mut [u8], at: usize, w: &[u8]) -> usize {
@@ -71,15 +50,15 @@ fn put_told(out: &mut [u8], at: usize, w: &[u8]) -> usize {
 
 // What the field is as a word of each table.
 fn put_words(out: &mut [u8], at: usize, f: &[u8]) -> usize {
-    let a = output::put_number(out, at, event_number(sheet::event_word(f)));
-    let b = output::put_number(out, a, block_number(sheet::block_kind(f)));
-    output::put_number(out, b, value_number(sheet::value_kind(f)))
+    let a = output::put_number(out, at, place_in(&EVENTS, sheet::event_word(f)));
+    let b = output::put_number(out, a, place_in(&BLOCKS, sheet::block_kind(f)));
+    output::put_number(out, b, place_in(&VALUES, sheet::value_kind(f)))
 }
 
 fn put_config_words(out: &mut [u8], at: usize, f: &[u8]) -> usize {
-    let a = output::put_number(out, at, key_number(sheet::config_key(f)));
-    let b = output::put_number(out, a, define_number(sheet::define_mode(f)));
-    output::put_number(out, b, duplicate_number(sheet::duplicate_mode(f)))
+    let a = output::put_number(out, at, place_in(&KEYS, sheet::config_key(f)));
+    let b = output::put_number(out, a, place_in(&DEFINES, sheet::define_mode(f)));
+    output::put_number(out, b, place_in(&DUPLICATES, sheet::duplicate_mode(f)))
 }
 
 // What it is as a number.

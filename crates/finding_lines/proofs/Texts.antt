@@ -1,10 +1,10 @@
 -- The lines of findings, piece by piece.
-use Prim.Native.Nat.{ℕ, ◌+◌, ◌-◌, ◌^◌, ◌≤◌, ◌<◌}
+use Prim.Native.Nat.{ℕ, ◌+◌, ◌≤◌, ◌<◌}
 use mathlib.Core.Path.{◌≡◌, refl, ap, sym, ◌∙◌}
 use mathlib.Core.Bool.{Bool, true, false}
 use mathlib.Core.List.{List, [], ◌∷◌, ◌++◌, append_assoc}
 use borrow.Author.Tests.{eq-eqb, ne_eqb}
-use lib.ListN.{length, take, drop}
+use lib.ListN.{length}
 use Rattle.rules.specs.Basic.{pick, codes, tab, lf, comma, minus, is_empty, join_by, each, decimal, digits}
 use Rattle.rules.specs.Sheet.{escape, escape_char, line_of}
 use Rattle.rules.specs.Words as words
@@ -14,7 +14,7 @@ use Rattle.rules.specs.Page.{span_word, severity_word, finding_line}
 use Rattle.rules.proofs.Numbers.{escape_decimal}
 use Rattle.rules.proofs.TakenLine.{escape_both}
 use Rattle.output.specs.Put.{Put, tabbed}
-use Rattle.output.proofs.Puts.{Leads, starts, ends_in, ends_out, put_seq, put_past, put_rest, rest_fits}
+use Rattle.output.proofs.Puts.{Leads, starts, ends_in, ends_out, put_seq}
 use Rattle.output.proofs.Texts.{text_is, tabbed_one, put_fields, put_line, line_tabbed}
 use Rattle.parts.specs.Views.{span_in}
 use Rattle.parts.specs.declared.Span.{Span}
@@ -173,28 +173,6 @@ module _ {o₀ o₁ o₂ o₃ o₄ o₅ o₆ : List ℕ} {at a b c d e r : ℕ} 
 pub parser_put : {x : Noted} {o₀ o : List ℕ} {at r : ℕ} → x.parse ≡ true → ParsePut (pick x.flag words.severe words.mild) x.code o₀ at o r → FindingPut x o₀ at o r
 unfolding finding_of
 parser_put h p = record { is = λ k. rw h (p.is k) }
-
--- ---- a line at a position: the rest of the output is lent
-
-module _ {x : Noted} (o : List ℕ) (at : ℕ) where
-  pub finding_past : length o < at → FindingPut x o at o (length o + 1)
-  finding_past h = record { is = λ k. put_past _ o at h }
-
-  pub finding_rest : {o' : List ℕ} {n : ℕ} → at ≤ length o → FindingPut x (take (length o - at) (drop at o)) 0 o' n → FindingPut x o at (take at o ++ (o' ++ drop (length o - at) (drop at o))) (at + n)
-  finding_rest h p = record { is = λ k. put_rest o at h (p.is k) }
-
-  pub finding_fits : {o' : List ℕ} {n : ℕ} → length o + 1 < 2 ^ 64 → at ≤ length o → FindingPut x (take (length o - at) (drop at o)) 0 o' n → at + n < 2 ^ 64
-  finding_fits b h p = rest_fits o at b h (p.is 0)
-
-module _ {s : words.Severity} {number : ℕ} (o : List ℕ) (at : ℕ) where
-  pub parse_past : length o < at → ParsePut s number o at o (length o + 1)
-  parse_past h = record { is = λ k. put_past _ o at h }
-
-  pub parse_rest : {o' : List ℕ} {n : ℕ} → at ≤ length o → ParsePut s number (take (length o - at) (drop at o)) 0 o' n → ParsePut s number o at (take at o ++ (o' ++ drop (length o - at) (drop at o))) (at + n)
-  parse_rest h p = record { is = λ k. put_rest o at h (p.is k) }
-
-  pub parse_fits : {o' : List ℕ} {n : ℕ} → length o + 1 < 2 ^ 64 → at ≤ length o → ParsePut s number (take (length o - at) (drop at o)) 0 o' n → at + n < 2 ^ 64
-  parse_fits b h p = rest_fits o at b h (p.is 0)
 
 -- ---- 3, old metadata
 

@@ -7,7 +7,7 @@ ghost use Rattle.rules.specs.Basic.{pick};
 ghost use Rattle.rules.specs.Words.{severe, mild};
 ghost use Rattle.rules.specs.Finding.{is_error};
 ghost use Rattle.rules.specs.Page.{severity_word, span_word};
-ghost use Rattle.rules.specs.Answer.{events, events_or, read_sheet};
+ghost use Rattle.rules.specs.Answer.{events};
 ghost use Rattle.output.specs.Put.{Put, tabbed};
 ghost use Rattle.parts.specs.Views.{span_in};
 ghost use Rattle.events.specs.Views.{severity_in};
@@ -17,6 +17,7 @@ ghost use Rattle.finding_lines.specs.Lines.{spans_field, noted_spans, flag_field
 use events::{EventView, Severity};
 use model::{Held, Noted};
 use parts::Span;
+use reading::ReadSheet;
 
 // A place to write at: one past the room for any that lies behind it.
 pub fn begin(out: &[u8], at: usize) -> usize
@@ -122,10 +123,7 @@ fn finding_line(rest: &mut [u8], x: Noted) -> usize
 fn put_finding(out: &mut [u8], at: usize, x: Noted) -> usize
     ensures { FindingPut x out.old at out.new result }
 {
-    if out.len() < at {
-        return out.len() + 1;
-    }
-    at + finding_line(&mut out[at..], x)
+    output::put_line(out, at, |rest: &mut [u8]| finding_line(rest, x))
 }
 
 pub fn finding_lines(words: &[u32], h: Held, out: &mut [u8], at: usize) -> usize
@@ -174,10 +172,7 @@ fn is_severe(s: Severity) -> bool
 fn put_parsed(out: &mut [u8], at: usize, error: bool, number: u32) -> usize
     ensures { ParsePut (pick error severe mild) number out.old at out.new result }
 {
-    if out.len() < at {
-        return out.len() + 1;
-    }
-    at + parse_line(&mut out[at..], error, number)
+    output::put_line(out, at, |rest: &mut [u8]| parse_line(rest, error, number))
 }
 
 // The line of an event: only those of the parser have one.
@@ -192,17 +187,16 @@ fn put_event(out: &mut [u8], at: usize, v: EventView) -> usize
 }
 
 // The lines of all events of a sheet.
-pub fn parsed_lines(sheet: &[u8], text: &[u8], out: &mut [u8], at: usize) -> usize
-    requires { read_sheet text.now sheet.now ≡ events (events_or (read_sheet text.now sheet.now)) }
-    ensures { ParsedPut text.now sheet.now out.old at out.new result }
+pub fn parsed_lines(sheet: &ReadSheet, out: &mut [u8], at: usize) -> usize
+    ensures { ParsedPut sheet.now.text.now sheet.now.bytes.now out.old at out.new result }
 {
     let mut from = 0;
     let mut m = at;
-    while from < sheet.len() {
-        let Some(end) = sheet::line_end(sheet, from) else {
+    while from < sheet.bytes.len() {
+        let Some(end) = sheet::line_end(sheet.bytes, from) else {
             return m;
         };
-        let Some(v) = reading::event_in(&sheet[from..end]) else {
+        let Some(v) = reading::event_in(&sheet.bytes[from..end]) else {
             return m;
         };
         m = put_event(out, m, v);

@@ -3,7 +3,6 @@
 #![tactic(auto)]
 
 ghost use Rattle.std.specs.Prelude.{◌≡◌, ◌+◌, ◌≤◌};
-ghost use Rattle.letters.specs.Tables.{unicode_tables};
 ghost use Rattle.parts.specs.Views.{TextWithin};
 ghost use Rattle.events.specs.Views.{BetweenWithin, EventWithin};
 ghost use Rattle.following.specs.Drawn.{keeps, opens_as, first_follow};
@@ -74,8 +73,8 @@ fn word_meta(m: Option<Define>) -> Meta
     }
 }
 
-pub fn meta_of(t: &[u32], flags: u32, line: &[u8], key: TextView, value: TextView) -> Meta
-    requires { (t.now ≡ unicode_tables) × TextWithin line.now key × TextWithin line.now value }
+pub fn meta_of(flags: u32, line: &[u8], key: TextView, value: TextView) -> Meta
+    requires { TextWithin line.now key × TextWithin line.now value }
     ensures { MetaRead flags line.now key value result }
 {
     let odd = flags % 2;
@@ -83,10 +82,10 @@ pub fn meta_of(t: &[u32], flags: u32, line: &[u8], key: TextView, value: TextVie
         let kp = key.content;
         let vp = value.content;
         let k = parts::part_of(line, kp);
-        match config_keys::key_of(t, k) {
+        match config_keys::key_of(k) {
             config_keys::Key::Define => {
                 let v = parts::part_of(line, vp);
-                let m = config_keys::define_value(t, v);
+                let m = config_keys::define_value(v);
                 return word_meta(m);
             }
             config_keys::Key::Duplicate => {
@@ -276,13 +275,13 @@ fn after_inside(i: Inside, f: Follow) -> Follow
     }
 }
 
-fn after_between(t: &[u32], flags: u32, line: &[u8], b: Between, f: Follow) -> Follow
-    requires { (t.now ≡ unicode_tables) × BetweenWithin line.now b }
+fn after_between(flags: u32, line: &[u8], b: Between, f: Follow) -> Follow
+    requires { BetweenWithin line.now b }
     ensures { BetweenFollowed flags line.now b f result }
 {
     match b {
         Between::Meta(key, value) => {
-            let m = meta_of(t, flags, line, key, value);
+            let m = meta_of(flags, line, key, value);
             after_meta(m, f)
         }
         Between::Section(name) => match name {
@@ -297,12 +296,12 @@ fn after_between(t: &[u32], flags: u32, line: &[u8], b: Between, f: Follow) -> F
     }
 }
 
-fn after_event(t: &[u32], flags: u32, line: &[u8], e: EventView, f: Follow) -> Follow
-    requires { (t.now ≡ unicode_tables) × EventWithin line.now e × Room f }
+fn after_event(flags: u32, line: &[u8], e: EventView, f: Follow) -> Follow
+    requires { EventWithin line.now e × Room f }
     ensures { EventFollowed flags line.now e f result }
 {
     match e {
-        EventView::Between(b) => after_between(t, flags, line, b, f),
+        EventView::Between(b) => after_between(flags, line, b, f),
         EventView::Inside(i) => after_inside(i, f),
         EventView::Finding(s, n) => f,
     }
@@ -316,18 +315,11 @@ fn with_inline(n: u32, mut f: Follow) -> Follow
 }
 
 // The state after a line that adds so many inline quantities.
-pub fn follow_event(
-    t: &[u32],
-    flags: u32,
-    line: &[u8],
-    e: EventView,
-    f: Follow,
-    inline: u32,
-) -> Follow
-    requires { (t.now ≡ unicode_tables) × EventWithin line.now e × Room f × (f.inline + inline ≤ 100000) }
+pub fn follow_event(flags: u32, line: &[u8], e: EventView, f: Follow, inline: u32) -> Follow
+    requires { EventWithin line.now e × Room f × (f.inline + inline ≤ 100000) }
     ensures { Followed flags line.now e inline f result }
 {
     let n = f.inline + inline;
-    let r = after_event(t, flags, line, e, f);
+    let r = after_event(flags, line, e, f);
     with_inline(n, r)
 }

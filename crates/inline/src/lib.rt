@@ -1,5 +1,5 @@
 // Quantities inside a text. A text is the content of a field or of a part of one, which stands escaped; places are those
-// of the field's bytes. The Unicode tables are lent.
+// of the field's bytes.
 #![tactic(auto)]
 
 ghost use Rattle.std.specs.Prelude.{◌≡◌, ◌≤◌, ◌<◌, length, drop};
@@ -11,13 +11,12 @@ ghost use Rattle.content.specs.Contents.{content_in};
 ghost use Rattle.content.specs.Parts.{Field};
 ghost use Rattle.rules.specs.Text.{is_not_alphabetic};
 ghost use Rattle.rules.specs.Inline.{is_no_digit, is_digit_or_point, points as points_in};
-ghost use Rattle.letters.specs.Tables.{unicode_tables};
-ghost use Rattle.unit_index.specs.Index.{Indexed};
 ghost use Rattle.inline.specs.Scans.{is_not_white, lead_size, is_solid, is_solid_e3, part, Front, SignAt, UnitPart};
 ghost use Rattle.inline.specs.Found.{InlineAt};
 ghost use Rattle.inline.specs.Items.{CountsOf, text_items};
 
 use text::Dropped;
+use unit_index::UnitList;
 
 // A part of a text, from a place to a place.
 #[derive(Clone, Copy)]
@@ -121,8 +120,8 @@ fn number_end(s: &[u8], at: usize) -> usize
 }
 
 // The place after the White_Space.
-fn blanks_end(t: &[u32], s: &[u8], at: usize) -> usize
-    requires { (t.now ≡ unicode_tables) × (at ≤ length s.now) × (Field (drop at s.now)) }
+fn blanks_end(s: &[u8], at: usize) -> usize
+    requires { (at ≤ length s.now) × (Field (drop at s.now)) }
     ensures { Front is_white_space s.now at result }
 {
     let mut i = at;
@@ -131,7 +130,7 @@ fn blanks_end(t: &[u32], s: &[u8], at: usize) -> usize
             return i;
         }
         let c = content::char_in(s, i);
-        if !letters::is_white_space(t, c.code) {
+        if !letters::is_white_space(c.code) {
             return i;
         }
         i += c.size;
@@ -140,8 +139,8 @@ fn blanks_end(t: &[u32], s: &[u8], at: usize) -> usize
 }
 
 // The place of the next White_Space, or the end.
-fn word_end(t: &[u32], s: &[u8], at: usize) -> usize
-    requires { (t.now ≡ unicode_tables) × (at ≤ length s.now) × (Field (drop at s.now)) }
+fn word_end(s: &[u8], at: usize) -> usize
+    requires { (at ≤ length s.now) × (Field (drop at s.now)) }
     ensures { Front is_not_white s.now at result }
 {
     let mut i = at;
@@ -153,7 +152,7 @@ fn word_end(t: &[u32], s: &[u8], at: usize) -> usize
             i += 3;
         } else {
             let c = content::char_in(s, i);
-            if letters::is_white_space(t, c.code) {
+            if letters::is_white_space(c.code) {
                 return i;
             }
             i += c.size;
@@ -163,14 +162,14 @@ fn word_end(t: &[u32], s: &[u8], at: usize) -> usize
 }
 
 // The place of the first Alphabetic character, or the end.
-fn letters_start(t: &[u32], s: &[u8]) -> usize
-    requires { (t.now ≡ unicode_tables) × (Field s.now) }
+fn letters_start(s: &[u8]) -> usize
+    requires { Field s.now }
     ensures { Front is_not_alphabetic s.now 0 result }
 {
     let mut i = 0;
     while i < s.len() {
         let c = content::char_in(s, i);
-        if letters::is_alphabetic(t, c.code) {
+        if letters::is_alphabetic(c.code) {
             return i;
         }
         i += c.size;
@@ -210,12 +209,12 @@ fn sign_start(s: &[u8], at: usize, digit: usize) -> usize
 }
 
 // The unit's name in a word: what is not Alphabetic goes from both ends.
-fn unit_part(t: &[u32], s: &[u8], from: usize, to: usize) -> Span
-    requires { (t.now ≡ unicode_tables) × (from ≤ to) × (to ≤ length s.now) × (Field (part from to s.now)) }
+fn unit_part(s: &[u8], from: usize, to: usize) -> Span
+    requires { (from ≤ to) × (to ≤ length s.now) × (Field (part from to s.now)) }
     ensures { UnitPart s.now from to result }
 {
-    let a = from + letters_start(t, &s[from..to]);
-    let size = text::end_of(t, &s[a..to], Dropped::NotAlphabetic);
+    let a = from + letters_start(&s[from..to]);
+    let size = text::end_of(&s[a..to], Dropped::NotAlphabetic);
     Span {
         from: a,
         to: a + size,
@@ -234,15 +233,9 @@ pub struct Inline {
 }
 
 // The first quantity of the text from a place on.
-pub fn find_inline_quantity(
-    t: &[u32],
-    units: &[u8],
-    index: &[u32],
-    s: &[u8],
-    from: usize,
-) -> Option<Inline>
-    requires { (t.now ≡ unicode_tables) × Indexed units.now index.now × (from ≤ length s.now) × (Field (drop from s.now)) }
-    ensures { InlineAt (units_or (read_units units.now)) s.now from result }
+pub fn find_inline_quantity(units: &UnitList, s: &[u8], from: usize) -> Option<Inline>
+    requires { (from ≤ length s.now) × (Field (drop from s.now)) }
+    ensures { InlineAt (units_or (read_units units.now.lines.now)) s.now from result }
 {
     let mut i = from;
     loop {
@@ -252,19 +245,19 @@ pub fn find_inline_quantity(
         }
         let number_from = sign_start(s, i, digit);
         let number_to = number_end(s, digit);
-        let word = blanks_end(t, s, number_to);
+        let word = blanks_end(s, number_to);
         if word == s.len() {
             return None;
         }
-        let after = word_end(t, s, word);
-        let span = unit_part(t, s, word, after);
+        let after = word_end(s, word);
+        let span = unit_part(s, word, after);
         let unit_from = span.from;
         let unit_to = span.to;
         if points(&s[digit..number_to]) <= 1 {
             let name = &s[unit_from..unit_to];
-            let mut p = unit_index::first_of(index, name);
+            let mut p = unit_index::first_of(units.words, name);
             while p != 0 {
-                if unit_index::is_named(units, index, p, name) {
+                if unit_index::is_named(units, p, name) {
                     return Some(Inline {
                         number_from,
                         number_to,
@@ -273,7 +266,7 @@ pub fn find_inline_quantity(
                         after,
                     });
                 }
-                p = unit_index::next_of(index, p);
+                p = unit_index::next_of(units.words, p);
             }
         }
         i = after;
@@ -295,14 +288,14 @@ fn text_items(from: usize, to: usize) -> usize
     usize::from(from < to)
 }
 
-pub fn count_items(t: &[u32], units: &[u8], index: &[u32], s: &[u8]) -> Counts
-    requires { (t.now ≡ unicode_tables) × Indexed units.now index.now × (Field s.now) }
-    ensures { CountsOf (units_or (read_units units.now)) s.now result }
+pub fn count_items(units: &UnitList, s: &[u8]) -> Counts
+    requires { Field s.now }
+    ensures { CountsOf (units_or (read_units units.now.lines.now)) s.now result }
 {
     let mut items = 0;
     let mut quantities = 0;
     let mut at = 0;
-    while let Some(q) = find_inline_quantity(t, units, index, s, at) {
+    while let Some(q) = find_inline_quantity(units, s, at) {
         items += text_items(at, q.number_from) + 1;
         quantities += 1;
         at = q.after;

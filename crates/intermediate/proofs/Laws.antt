@@ -1,12 +1,14 @@
 -- One law for each way through.
-use Rattle.std.specs.Prelude.{None, Option, Some, Ok, Err}
+use Rattle.std.specs.Prelude.{None, Option, Some, Ok, Err, eqb}
+use Rattle.std.specs.Option as option
+use Rattle.std.proofs.Common.{true≢false}
 use Prim.Native.Nat.{ℕ, zero, suc}
-use mathlib.Core.Path.{◌≡◌, refl, ap, ◌∙◌}
+use mathlib.Core.Path.{◌≡◌, refl, ap, sym, ◌∙◌}
 use mathlib.Core.Bool.{Bool, true, false, not, ◌||◌}
-use mathlib.Core.List.{List, [], ◌∷◌}
+use mathlib.Core.List.{List}
 use borrow.Author.Tests.{eq-eqb, ne_eqb}
 use lib.ListN.{length, take, drop, replicate}
-use Rattle.rules.specs.Basic.{when}
+use Rattle.rules.specs.Basic.{pick, when}
 use Rattle.rules.specs.Event as rules
 use Rattle.rules.specs.Finding.{found}
 use Rattle.rules.specs.Model.{Entry}
@@ -22,14 +24,15 @@ use Rattle.components.specs.declared.Target.TheVariants as target
 use Rattle.components.specs.declared.Intermediate.{Intermediate}
 use Rattle.model.specs.Blank.{blank_section}
 use Rattle.model.specs.Searches.{TargetFound}
-use Rattle.model.specs.Rows.{relation_in, relation_as, blocks_in}
+use Rattle.model.specs.Rows.{relation_in, relation_as, blocks_in, finding_of, if_found}
 use Rattle.model.specs.Memory.{state_in, state_of, windows_of}
 use Rattle.model.specs.declared.Target.TheVariants as model
 use Rattle.model.specs.declared.Relation.TheVariants.{Definition, Reference}
+use Rattle.model.specs.declared.Noted.{Noted}
 use Rattle.model.specs.declared.Held.{Held}
-use Rattle.checks.specs.Reports.{Reported}
-use Rattle.checks.proofs.Reports.{reported_seq}
-use Rattle.checks.proofs.Laws.{none_found, said}
+use Rattle.memory.specs.Reports.{Reported}
+use Rattle.memory.proofs.Reports.{reported_seq, reported_as}
+use Rattle.checks.proofs.Laws.{nothing_found, one_found}
 use Rattle.intermediate.specs.Intermediates.{Faulted, ModifiersReported, Resolved, Related}
 
 -- ---- 15 and 16
@@ -54,14 +57,14 @@ module _ {ref : Bool} {i : Option Intermediate} where
 
 -- ---- 7
 
-module _ {m : Modifiers} {at : Span} {w₀ : List ℕ} {h₀ : Held} where
-  pub modifiers_found : {w : List ℕ} {h : Held} → (m.recipe || m.hidden || m.new) ≡ true → Reported (found 7 (span_in at) ∷ []) w₀ h₀ w h → ModifiersReported m at w₀ h₀ w h
+module _ {m : Modifiers} {at : Span} where
+  pub modifiers_found : {x : Noted} → (m.recipe || m.hidden || m.new) ≡ true → finding_of x ≡ found 7 (span_in at) → ModifiersReported m at (Some x)
   unfolding intermediate_modifiers modifiers_in when
-  modifiers_found t r = record { is = λ c em ea. said (rw (em, t, ea)) r }
+  modifiers_found t k = record { is = λ c em ea. one_found _ k (rw (em, t, ea)) }
 
-  pub modifiers_none : (m.recipe || m.hidden || m.new) ≡ false → ModifiersReported m at w₀ h₀ w₀ h₀
+  pub modifiers_none : (m.recipe || m.hidden || m.new) ≡ false → ModifiersReported m at None
   unfolding intermediate_modifiers modifiers_in when
-  modifiers_none t = record { is = λ c em ea. none_found (rw (em, t)) }
+  modifiers_none t = record { is = λ c em ea. nothing_found (rw (em, t)) }
 
 -- ---- the target
 
@@ -80,19 +83,23 @@ module _ (i : Intermediate) {w : List ℕ} {h : Held} {r : Option ℕ} where
 
 -- ---- 8 and 9
 
-module _ (i : Intermediate) {f : Option ℕ} {w₀ : List ℕ} {h₀ : Held} where
-  pub findings_none : (j : ℕ) → f ≡ Some j → Reported (intermediate_findings (intermediate_in i) f) w₀ h₀ w₀ h₀
+module _ (i : Intermediate) where
+  pub findings_none : (f : Option ℕ) {b : Bool} → b ≡ option.is_some f → b ≡ true → if_found None ≡ intermediate_findings (intermediate_in i) f
   unfolding intermediate_findings
-  findings_none j e = none_found (rw e)
+  findings_none None e t = absurd (true≢false (sym t ∙ e))
+  findings_none (Some j) e t = nothing_found refl
 
-  module _ (e : f ≡ None) {w : List ℕ} {h : Held} where
-    pub findings_zero : i.value.size ≡ 0 → Reported (found 8 (span_in i.span) ∷ []) w₀ h₀ w h → Reported (intermediate_findings (intermediate_in i) f) w₀ h₀ w h
-    unfolding intermediate_findings intermediate_in signed_in
-    findings_zero z r = said (rw (e, eq-eqb _ _ z)) r
+  pub findings_one : (f : Option ℕ) (x : Noted) {b : Bool} {n : ℕ} → b ≡ option.is_some f → b ≡ false → n ≡ pick (eqb i.value.size 0) 8 9 → finding_of x ≡ found n (span_in i.span) → if_found (Some x) ≡ intermediate_findings (intermediate_in i) f
+  unfolding intermediate_findings intermediate_in signed_in
+  findings_one None x e t c k = one_found _ k (rw c)
+  findings_one (Some j) x e t c k = absurd (true≢false (sym e ∙ t))
 
-    pub findings_bounds : (i.value.size ≡ 0 → ⊥) → Reported (found 9 (span_in i.span) ∷ []) w₀ h₀ w h → Reported (intermediate_findings (intermediate_in i) f) w₀ h₀ w h
-    unfolding intermediate_findings intermediate_in signed_in
-    findings_bounds z r = said (rw (e, ne_eqb _ _ z)) r
+module _ {n z : ℕ} where
+  pub code_zero : z ≡ 0 → n ≡ 8 → n ≡ pick (eqb z 0) 8 9
+  code_zero l e = rw (eq-eqb _ _ l, e)
+
+  pub code_bounds : (z ≡ 0 → ⊥) → n ≡ 9 → n ≡ pick (eqb z 0) 8 9
+  code_bounds l e = rw (ne_eqb _ _ l, e)
 
 -- ---- the relation
 
@@ -111,8 +118,8 @@ module _ (i : Intermediate) (in_step : Bool) {f : Option ℕ} where
 
 -- ---- 6, then 7, then 8 or 9: all that is found
 
-pub intermediate_reported : (units : List NamedUnit) (flags : ℕ) (c : rules.Component) (new : Entry) (i : Intermediate) (f : Option ℕ) {m : Modifiers} {at : Span} {w₀ w₁ w₂ w : List ℕ} {h₀ h₁ h₂ h : Held}
-    → c.modifiers ≡ modifiers_in m → c.modifiers_span ≡ span_in at → Reported (lock_findings c.quantity) w₀ h₀ w₁ h₁ → ModifiersReported m at w₁ h₁ w₂ h₂
+pub intermediate_reported : (units : List NamedUnit) (flags : ℕ) (c : rules.Component) (new : Entry) (i : Intermediate) (f : Option ℕ) {m : Modifiers} {at : Span} {x : Option Noted} {w₀ w₁ w₂ w : List ℕ} {h₀ h₁ h₂ h : Held}
+    → c.modifiers ≡ modifiers_in m → c.modifiers_span ≡ span_in at → Reported (lock_findings c.quantity) w₀ h₀ w₁ h₁ → ModifiersReported m at x → Reported (if_found x) w₁ h₁ w₂ h₂
     → Reported (intermediate_findings (intermediate_in i) f) w₂ h₂ w h → Reported (made_intermediate units flags c new (intermediate_in i) f).findings w₀ h₀ w h
 unfolding made_intermediate
-intermediate_reported units flags c new i f em ea l k r = reported_seq (reported_seq l (k.is c em ea)) r
+intermediate_reported units flags c new i f em ea l k p r = reported_seq (reported_seq l (reported_as p (k.is c em ea))) r

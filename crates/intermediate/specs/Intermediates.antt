@@ -11,19 +11,19 @@ use Rattle.parts.specs.declared.Span.{Span}
 use Rattle.components.specs.Views.{modifiers_in, intermediate_in, opt_intermediate_in}
 use Rattle.components.specs.declared.Modifiers.{Modifiers}
 use Rattle.components.specs.declared.Intermediate.{Intermediate}
-use Rattle.model.specs.Rows.{relation_in}
+use Rattle.model.specs.Rows.{relation_in, if_found}
+use Rattle.model.specs.declared.Noted.{Noted}
 use Rattle.model.specs.Memory.{state_in}
 use Rattle.model.specs.declared.RelationRecord.{RelationRecord}
 use Rattle.model.specs.declared.Held.{Held}
-use Rattle.checks.specs.Reports.{Reported}
 
 -- 15 and 16
 pub record Faulted (ref : Bool) (i : Option Intermediate) (r : Result (Unit {0}) Reason) : Type 0 where
   pub is : (c : rules.Component) → c.modifiers.ref ≡ ref → intermediate_fault c (opt_intermediate_in i) ≡ number_told r
 
 -- 7
-pub record ModifiersReported (m : Modifiers) (at : Span) (w₀ : List ℕ) (h₀ : Held) (w : List ℕ) (h : Held) : Type 0 where
-  pub is : (c : rules.Component) → c.modifiers ≡ modifiers_in m → c.modifiers_span ≡ span_in at → Reported (intermediate_modifiers c) w₀ h₀ w h
+pub record ModifiersReported (m : Modifiers) (at : Span) (r : Option Noted) : Type 0 where
+  pub is : (c : rules.Component) → c.modifiers ≡ modifiers_in m → c.modifiers_span ≡ span_in at → if_found r ≡ intermediate_modifiers c
 
 -- the target in the state that memory stands for
 pub record Resolved (i : Intermediate) (w : List ℕ) (h : Held) (r : Option ℕ) : Type 0 where

@@ -2,15 +2,15 @@
 // and the relation that it gives.
 #![tactic(auto)]
 
-ghost use Rattle.std.specs.Prelude.{◌<◌};
+ghost use Rattle.std.specs.Prelude.{◌≡◌};
 ghost use Rattle.rules.specs.Checks.{intermediate_findings};
 ghost use Rattle.components.specs.Views.{intermediate_in};
 ghost use Rattle.model.specs.Memory.{Sound};
-ghost use Rattle.checks.specs.Reports.{Reported};
+ghost use Rattle.model.specs.Rows.{if_found};
 ghost use Rattle.intermediate.specs.Intermediates.{Faulted, ModifiersReported, Resolved, Related};
 
 use components::{Intermediate, Modifiers, Target};
-use model::{Held, Relation, RelationRecord};
+use model::{Held, Noted, Relation, RelationRecord};
 use parts::Span;
 use refusals::Reason;
 
@@ -33,14 +33,13 @@ pub fn check_intermediate(reference: bool, i: Option<Intermediate>) -> Result<()
 }
 
 // 7
-pub fn intermediate_modifiers(words: &mut [u32], h: Held, m: Modifiers, at: Span) -> Held
-    requires { Sound words.old h × (h.counts.findings < 1544) }
-    ensures { ModifiersReported m at words.old h words.new result }
+pub fn intermediate_modifiers(m: Modifiers, at: Span) -> Option<Noted>
+    ensures { ModifiersReported m at result }
 {
     if m.recipe || m.hidden || m.new {
-        return reference_findings::push_one(words, h, 7, at, false);
+        return Some(reference_findings::one_span(7, at, false));
     }
-    h
+    None
 }
 
 // The index of the step or section that is referred to.
@@ -64,24 +63,14 @@ pub fn intermediate_target(words: &[u32], h: Held, i: Intermediate) -> Option<u3
 }
 
 // 8 and 9
-pub fn intermediate_findings(
-    words: &mut [u32],
-    h: Held,
-    i: Intermediate,
-    target: Option<u32>,
-) -> Held
-    requires { Sound words.old h × (h.counts.findings < 1544) }
-    ensures { Reported (intermediate_findings (intermediate_in i) target) words.old h words.new result }
+pub fn intermediate_findings(i: Intermediate, target: Option<u32>) -> Option<Noted>
+    ensures { if_found result ≡ intermediate_findings (intermediate_in i) target }
 {
-    match target {
-        Some(_) => h,
-        None => {
-            if i.value.size == 0 {
-                return reference_findings::push_one(words, h, 8, i.span, false);
-            }
-            reference_findings::push_one(words, h, 9, i.span, false)
-        }
+    if target.is_some() {
+        return None;
     }
+    let code = if i.value.size == 0 { 8 } else { 9 };
+    Some(reference_findings::one_span(code, i.span, false))
 }
 
 // The relation of an ingredient with an intermediate reference.

@@ -84,11 +84,11 @@ module _ (t : List ℕ) (e : t ≡ unicode_tables) (i : ℕ) (h : i < 1800) wher
     pub near_few : 0x110000 ≤ x → x - 0x110000 < 1557
     near_few l = ltb-true (x - 0x110000) 1557 (and_left (ltb (x - 0x110000) 1557) (eq_list (row_in (x - 0x110000)) (fold (near_code i))) (several l))
 
-    pub near_row : 0x110000 ≤ x → (r : List ℕ) → r ≡ row_of (get_or t (3379 + (x - 0x110000)) 0) (get_or t (4936 + (x - 0x110000)) 0) (get_or t (6493 + (x - 0x110000)) 0) → r ≡ fold (near_code i)
+    pub near_row : 0x110000 ≤ x → (r : List ℕ) → r ≡ row_of (get_or unicode_tables (3379 + (x - 0x110000)) 0) (get_or unicode_tables (4936 + (x - 0x110000)) 0) (get_or unicode_tables (6493 + (x - 0x110000)) 0) → r ≡ fold (near_code i)
     near_row l r z =
         let k = x - 0x110000 in
         let f = near_few l in
-        z ∙ row_window e k f ∙ (eq_true (row_in k) (fold (near_code i)) (and_right (ltb k 1557) (eq_list (row_in k) (fold (near_code i))) (several l)))
+        z ∙ row_window refl k f ∙ (eq_true (row_in k) (fold (near_code i)) (and_right (ltb k 1557) (eq_list (row_in k) (fold (near_code i))) (several l)))
 
 -- ---- the two blocks
 

@@ -82,10 +82,10 @@ module _ (t : List ℕ) (e : t ≡ unicode_tables) where
     keys_long = rw (columns e).fold_keys at (window_long)
 
     pub row_found : {r : List ℕ} → k < 1557 → get_or t (1822 + k) 0 ≡ c
-        → r ≡ row_of (get_or t (3379 + k) 0) (get_or t (4936 + k) 0) (get_or t (6493 + k) 0) → r ≡ fold c
+        → r ≡ row_of (get_or unicode_tables (3379 + k) 0) (get_or unicode_tables (4936 + k) 0) (get_or unicode_tables (6493 + k) 0) → r ≡ fold c
     unfolding fold
     row_found h q z =
-        z ∙ row_window e k h ∙ (found folding c k mapped_are_shaped (omega (arith, keys_long)) place.below
+        z ∙ row_window refl k h ∙ (found folding c k mapped_are_shaped (omega (arith, keys_long)) place.below
         (ap (λ (l : List ℕ). get_or l k 0) (sym (columns e).fold_keys) ∙ sym (in_window 1557 1822 t k h) ∙ q))
 
     pub row_other : k < 1557 → (get_or t (1822 + k) 0 ≡ c → ⊥) → c ∷ [] ≡ fold c

@@ -41,11 +41,11 @@ pub enum Folded {
     Three(u32, u32, u32),
 }
 
-// The tables, by value: one outermost function asks for them and lends them down, since they are copied here.
-pub fn unicode_tables() -> [u32; 9850]
-    ensures { result ≡ unicode_tables }
+// The tables. They stand in the program's own data, so that nothing is copied here.
+pub fn unicode_tables() -> &'static [u32; 9850]
+    ensures { result.now ≡ unicode_tables }
 {
-    tables::TABLES
+    &tables::TABLES
 }
 
 // The place of the first element of an ascending slice that is at least c.
@@ -53,17 +53,7 @@ fn lower_bound(t: &[u32], c: u32) -> usize
     requires { Ascending t.now }
     ensures { Place t.now c result }
 {
-    let mut lo = 0;
-    let mut hi = t.len();
-    while lo < hi {
-        let mid = lo + ((hi - lo) >> 1);
-        if t[mid] < c {
-            lo = mid + 1;
-        } else {
-            hi = mid;
-        }
-    }
-    lo
+    t.partition_point(|x| *x < c)
 }
 
 // Whether c lies in one of the ranges with these starts and these ends.
@@ -81,8 +71,7 @@ fn is_within(lo: u32, hi: u32, c: u32) -> bool
     lo <= c && c <= hi
 }
 
-pub fn is_white_space(t: &[u32], c: u32) -> bool
-    requires { t.now ≡ unicode_tables }
+pub fn is_white_space(c: u32) -> bool
     ensures { result ≡ is_white_space c }
 {
     if c < 128 {
@@ -91,6 +80,7 @@ pub fn is_white_space(t: &[u32], c: u32) -> bool
     if 0xa0 < c && (c < 0x1680 || 0x3000 < c) {
         return false;
     }
+    let t = unicode_tables();
     in_ranges(&t[WHITE..WHITE_ENDS], &t[WHITE_ENDS..ALPHABETIC], c)
 }
 
@@ -110,8 +100,7 @@ fn is_mark(c: u32) -> bool
     is_within(0xff00, 0xff0f, c)
 }
 
-pub fn is_alphabetic(t: &[u32], c: u32) -> bool
-    requires { t.now ≡ unicode_tables }
+pub fn is_alphabetic(c: u32) -> bool
     ensures { result ≡ is_alphabetic c }
 {
     if c < 128 {
@@ -121,6 +110,7 @@ pub fn is_alphabetic(t: &[u32], c: u32) -> bool
     if is_within(0x4e00, 0xa48c, c) {
         return true;
     }
+    let t = unicode_tables();
     !is_mark(c)
         && in_ranges(
             &t[ALPHABETIC..ALPHABETIC_ENDS],
@@ -129,21 +119,20 @@ pub fn is_alphabetic(t: &[u32], c: u32) -> bool
         )
 }
 
-pub fn is_numeric(t: &[u32], c: u32) -> bool
-    requires { t.now ≡ unicode_tables }
+pub fn is_numeric(c: u32) -> bool
     ensures { result ≡ is_numeric c }
 {
     if c < 128 {
         return is_within(48, 57, c);
     }
+    let t = unicode_tables();
     !is_mark(c) && in_ranges(&t[NUMERIC..NUMERIC_ENDS], &t[NUMERIC_ENDS..KEYS], c)
 }
 
-pub fn is_alphanumeric(t: &[u32], c: u32) -> bool
-    requires { t.now ≡ unicode_tables }
+pub fn is_alphanumeric(c: u32) -> bool
     ensures { result ≡ is_alphanumeric c }
 {
-    is_alphabetic(t, c) || is_numeric(t, c)
+    is_alphabetic(c) || is_numeric(c)
 }
 
 // The code points of a row of the folding table.
@@ -175,40 +164,40 @@ fn is_still(c: u32) -> bool
 }
 
 // The row at a place of the folding table.
-fn row_at(t: &[u32], k: usize) -> Folded
-    requires { (t.now ≡ unicode_tables) × (k < 1557) }
-    ensures { folded_of result ≡ row_of (get_or t.now (3379 + k) 0) (get_or t.now (4936 + k) 0) (get_or t.now (6493 + k) 0) }
+fn row_at(k: usize) -> Folded
+    requires { k < 1557 }
+    ensures { folded_of result ≡ row_of (get_or unicode_tables (3379 + k) 0) (get_or unicode_tables (4936 + k) 0) (get_or unicode_tables (6493 + k) 0) }
 {
+    let t = unicode_tables();
     row(t[FIRST + k], t[SECOND + k], t[THIRD + k])
 }
 
 // The folding of one of the code points that have a word each.
-fn fold_near(t: &[u32], i: usize) -> Folded
-    requires { (t.now ≡ unicode_tables) × (i < 1800) }
+fn fold_near(i: usize) -> Folded
+    requires { i < 1800 }
     ensures { folded_of result ≡ fold_rule (near_code i) }
 {
-    let x = t[NEAR + i];
+    let x = unicode_tables()[NEAR + i];
     if x < 0x110000 {
         return Folded::One(x);
     }
     let k = (x - 0x110000) as usize;
-    row_at(t, k)
+    row_at(k)
 }
 
 // The folding by a search in the table.
-fn fold_in(t: &[u32], c: u32) -> Folded
-    requires { t.now ≡ unicode_tables }
+fn fold_in(c: u32) -> Folded
     ensures { folded_of result ≡ fold_rule c }
 {
+    let t = unicode_tables();
     let k = lower_bound(&t[KEYS..FIRST], c);
     if k < 1557 && t[KEYS + k] == c {
-        return row_at(t, k);
+        return row_at(k);
     }
     Folded::One(c)
 }
 
-pub fn fold(t: &[u32], c: u32) -> Folded
-    requires { t.now ≡ unicode_tables }
+pub fn fold(c: u32) -> Folded
     ensures { folded_of result ≡ fold_rule c }
 {
     if c < 128 {
@@ -219,14 +208,14 @@ pub fn fold(t: &[u32], c: u32) -> Folded
     }
     // Latin, Greek, Cyrillic and Armenian letters
     if c < 0x588 {
-        return fold_near(t, (c - 128) as usize);
+        return fold_near((c - 128) as usize);
     }
     if is_still(c) {
         return Folded::One(c);
     }
     // Latin and Greek letters with more marks
     if is_within(0x1e00, 0x1fff, c) {
-        return fold_near(t, (c - 0x1e00 + 1288) as usize);
+        return fold_near((c - 0x1e00 + 1288) as usize);
     }
-    fold_in(t, c)
+    fold_in(c)
 }

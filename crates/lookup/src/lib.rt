@@ -6,7 +6,6 @@ ghost use Rattle.std.proofs.Math.Seq.{slice};
 ghost use Rattle.rules.specs.Unicode.{fold_name, same_name};
 ghost use Rattle.rules.specs.Modes.{is_steps, is_reference};
 ghost use Rattle.rules.specs.Reference.{eq_bool};
-ghost use Rattle.letters.specs.Tables.{unicode_tables};
 ghost use Rattle.content.specs.Contents.{kept_in};
 ghost use Rattle.model.specs.Rows.{row_at, row_of};
 ghost use Rattle.model.specs.Memory.{Sound};
@@ -30,38 +29,28 @@ fn agrees(any_opt: bool, opt: bool, is_opt: bool) -> bool
 }
 
 // Whether a part of the sheet has the name.
-fn named(t: &[u32], sheet: &[u8], from: u32, to: u32, name: &[u8]) -> bool
-    requires { (t.now ≡ unicode_tables) × (from ≤ to) × (to ≤ length sheet.now) }
+fn named(sheet: &[u8], from: u32, to: u32, name: &[u8]) -> bool
+    requires { (from ≤ to) × (to ≤ length sheet.now) }
     ensures { result ≡ same_name (kept_in (slice from to sheet.now)) (kept_in name.now) }
 {
     let a = from as usize;
     let e = to as usize;
-    text::same_name(t, &sheet[a..e], name)
+    text::same_name(&sheet[a..e], name)
 }
 
 // Whether a row has the name and fits: REF and OPT are asked before the name.
-fn row_fits(
-    t: &[u32],
-    sheet: &[u8],
-    rows: &[u32],
-    i: usize,
-    name: &[u8],
-    any_opt: bool,
-    is_opt: bool,
-) -> bool
-    requires { (t.now ≡ unicode_tables) × (i < 513) × (i * 12 + 12 ≤ length rows.now) × NameInside sheet.now (row_of (row_at 12 rows.now i)) }
+fn row_fits(sheet: &[u8], rows: &[u32], i: usize, name: &[u8], any_opt: bool, is_opt: bool) -> bool
+    requires { (i < 513) × (i * 12 + 12 ≤ length rows.now) × NameInside sheet.now (row_of (row_at 12 rows.now i)) }
     ensures { result ≡ row_fits sheet.now (fold_name (kept_in name.now)) any_opt is_opt (row_of (row_at 12 rows.now i)) }
 {
     let at = i * 12;
-    let opt = rows[at + 7] == 1;
     rows[at + 5] != 1
-        && agrees(any_opt, opt, is_opt)
-        && named(t, sheet, rows[at + 2], rows[at + 3], name)
+        && agrees(any_opt, rows[at + 7] == 1, is_opt)
+        && named(sheet, rows[at + 2], rows[at + 3], name)
 }
 
 // The last of the first rows that has the name, without REF, and with OPT as asked.
 pub fn same_name_before(
-    t: &[u32],
     sheet: &[u8],
     rows: &[u32],
     count: usize,
@@ -69,23 +58,19 @@ pub fn same_name_before(
     any_opt: bool,
     is_opt: bool,
 ) -> Option<usize>
-    requires { (t.now ≡ unicode_tables) × (count ≤ 513) × (count * 12 ≤ length rows.now) × NamesInside sheet.now rows.now count }
+    requires { (count ≤ 513) × (count * 12 ≤ length rows.now) × NamesInside sheet.now rows.now count }
     ensures { result ≡ same_row sheet.now (fold_name (kept_in name.now)) any_opt is_opt rows.now count }
 {
-    let mut i = count;
-    while 0 < i {
-        let k = i - 1;
-        if row_fits(t, sheet, rows, k, name, any_opt, is_opt) {
+    for k in (0..count).rev() {
+        if row_fits(sheet, rows, k, name, any_opt, is_opt) {
             return Some(k);
         }
-        i = k;
     }
     None
 }
 
 // The same among the components of a kind.
 pub fn same_component(
-    t: &[u32],
     sheet: &[u8],
     words: &[u32],
     h: Held,
@@ -94,17 +79,17 @@ pub fn same_component(
     any_opt: bool,
     is_opt: bool,
 ) -> Option<usize>
-    requires { (t.now ≡ unicode_tables) × Sound words.now h × AllFit sheet.now words.now h }
+    requires { Sound words.now h × AllFit sheet.now words.now h }
     ensures { SameFound (kind_of kind) sheet.now words.now h name.now any_opt is_opt result }
 {
     match kind {
         Kind::Ingredient => {
             let n = h.counts.ingredients;
-            same_name_before(t, sheet, &words[0..6156], n, name, any_opt, is_opt)
+            same_name_before(sheet, &words[0..6156], n, name, any_opt, is_opt)
         }
         Kind::Cookware => {
             let n = h.counts.cookware;
-            same_name_before(t, sheet, &words[6156..9240], n, name, any_opt, is_opt)
+            same_name_before(sheet, &words[6156..9240], n, name, any_opt, is_opt)
         }
     }
 }
@@ -118,22 +103,21 @@ pub struct NamePart {
     pub end: usize,
 }
 
-fn trimmed_place(t: &[u32], f: &[u8]) -> NamePart
-    requires { t.now ≡ unicode_tables }
+fn trimmed_place(f: &[u8]) -> NamePart
     ensures { TrimmedAt f.now result }
 {
-    let at = text::start_of(t, f, Dropped::White);
-    let e = text::end_of(t, &f[at..], Dropped::White);
+    let at = text::start_of(f, Dropped::White);
+    let e = text::end_of(&f[at..], Dropped::White);
     let end = at + e;
     NamePart { at, end }
 }
 
 // The name of a new component: trimmed, and for ingredients without its path.
-pub fn new_name(t: &[u32], sheet: &[u8], from: usize, to: usize, kind: Kind) -> NamePart
-    requires { (t.now ≡ unicode_tables) × (from ≤ to) × (to ≤ length sheet.now) }
+pub fn new_name(sheet: &[u8], from: usize, to: usize, kind: Kind) -> NamePart
+    requires { (from ≤ to) × (to ≤ length sheet.now) }
     ensures { NewName (kind_of kind) sheet.now from to result }
 {
-    let p = trimmed_place(t, &sheet[from..to]);
+    let p = trimmed_place(&sheet[from..to]);
     let at = from + p.at;
     let end = from + p.end;
     match kind {

@@ -4,3 +4,5 @@ pub mod Smalls
 pub mod Added
 pub mod Bounds
 pub mod Endings
+pub mod Reports
+pub mod Frames

@@ -6,6 +6,8 @@ ghost use Rattle.std.specs.Prelude.{◌≡◌, ◌+◌, ◌<◌};
 ghost use Rattle.model.specs.Memory.{first_held, Sound};
 ghost use Rattle.model.specs.Kinds.{kind_of, room_of};
 ghost use Rattle.memory.specs.Pushes.{count_of, pairs_of};
+ghost use Rattle.memory.specs.Reports.{Reported};
+ghost use Rattle.model.specs.Rows.{if_found};
 ghost use Rattle.model.specs.Small.{with_counts, with_named, with_block};
 ghost use Rattle.model.specs.declared.Open.TheVariants.{Nothing};
 ghost use Rattle.memory.specs.Pushes.{RowPushed, PairPushed, ComponentAdded, FoundBelow, FindingPushed, BlockKept, SectionBegun, OverLimits, EndChecked, is_open_block};
@@ -112,6 +114,17 @@ pub fn push_finding(words: &mut [u32], mut h: Held, x: Noted) -> Held
     model::put_finding(&mut words[10780..23132], n, x);
     h.counts.findings = n + 1;
     h
+}
+
+// What a check found: nothing or one finding.
+pub fn push_found(words: &mut [u32], h: Held, x: Option<Noted>) -> Held
+    requires { Sound words.old h × (h.counts.findings < 1544) }
+    ensures { Reported (if_found x) words.old h words.new result }
+{
+    match x {
+        None => h,
+        Some(found) => push_finding(words, h, found),
+    }
 }
 
 // The small state with no open block.

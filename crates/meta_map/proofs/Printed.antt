@@ -1,17 +1,17 @@
 -- The lines of the map.
-use Prim.Native.Nat.{ℕ, suc, ◌+◌, ◌-◌, ◌^◌, ◌≤◌, ◌<◌}
+use Prim.Native.Nat.{ℕ, suc, ◌+◌, ◌≤◌, ◌<◌}
 use mathlib.Core.Path.{◌≡◌, refl, ap, sym, ◌∙◌}
 use mathlib.Core.List.{List, [], ◌∷◌, ◌++◌}
 use native.Mathlib.Omega.{arith}
 use native.Mathlib.Numerals.{add-one}
-use lib.ListN.{length, take, drop}
+use lib.ListN.{length}
 use Rattle.rules.specs.Basic.{codes, tab, lf}
 use Rattle.rules.specs.Utf8.{encode}
 use Rattle.rules.specs.Sheet.{escape, escape_char}
 use Rattle.rules.specs.Text.{retain}
 use Rattle.rules.specs.Page.{table_lines, meta_line}
 use Rattle.output.specs.Put.{Put, tabbed}
-use Rattle.output.proofs.Puts.{put_seq, put_past, put_rest, rest_fits}
+use Rattle.output.proofs.Puts.{put_seq}
 use Rattle.output.proofs.Texts.{text_is, tabbed_one, put_fields, put_line}
 use Rattle.content.specs.Contents.{content_in, kept_in}
 use Rattle.content.specs.Parts.{Field}
@@ -32,18 +32,6 @@ pub meta_put : {f g o₀ o₁ o₂ o₃ o₄ o₅ o₆ : List ℕ} {at a b c d e
 unfolding meta_line escape escape_char
 meta_put {f} {g} hf hg p q s t u v =
     record { is = λ k. put_line (codes "meta") (encode (kept_in f) ∷ encode (content_in g) ∷ []) p (put_fields (encode (kept_in f) ∷ []) (encode (content_in g) ∷ []) (kept_field hf q s) (content_field hg t u)) v }
-
--- ---- a line at a position: the rest of the output is lent
-
-module _ {f g : List ℕ} (o : List ℕ) (at : ℕ) where
-  pub meta_past : length o < at → MetaPut f g o at o (length o + 1)
-  meta_past h = record { is = λ k. put_past _ o at h }
-
-  pub meta_rest : {o' : List ℕ} {n : ℕ} → at ≤ length o → MetaPut f g (take (length o - at) (drop at o)) 0 o' n → MetaPut f g o at (take at o ++ (o' ++ drop (length o - at) (drop at o))) (at + n)
-  meta_rest h p = record { is = λ k. put_rest o at h (p.is k) }
-
-  pub meta_fits : {o' : List ℕ} {n : ℕ} → length o + 1 < 2 ^ 64 → at ≤ length o → MetaPut f g (take (length o - at) (drop at o)) 0 o' n → at + n < 2 ^ 64
-  meta_fits b h p = rest_fits o at b h (p.is 0)
 
 -- ---- the rows: the lines of the first i, of n, are written
 

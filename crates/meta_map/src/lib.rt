@@ -5,11 +5,9 @@
 ghost use Rattle.std.specs.Prelude.{◌≡◌, ◌≤◌, ◌<◌, length, true};
 ghost use Rattle.rules.specs.Basic.{lf, is_some};
 ghost use Rattle.rules.specs.Read.{parse_line};
-ghost use Rattle.rules.specs.Answer.{events, events_or, read_sheet};
 ghost use Rattle.rules.proofs.Fields.{Without};
 ghost use Rattle.content.specs.Contents.{kept_in};
 ghost use Rattle.content.specs.Parts.{Field};
-ghost use Rattle.letters.specs.Tables.{unicode_tables};
 ghost use Rattle.parts.specs.Views.{TextWithin};
 ghost use Rattle.known_events.specs.Fields.{TextField};
 ghost use Rattle.known_events.specs.Known.{KnownEvent};
@@ -19,6 +17,7 @@ ghost use Rattle.meta_map.specs.Maps.{TrimmedPart, MetaIndexed, EventIndexed, Li
 
 use events::{Between, EventView};
 use parts::{Part, TextView};
+use reading::ReadSheet;
 use text::Dropped;
 
 // A word of a row, and the head of a chain.
@@ -114,15 +113,15 @@ fn clear_heads(m: &mut [u32])
 // ---- the lines of a sheet
 
 // The part of a field without White_Space at its ends.
-fn trim_part(t: &[u32], line: &[u8], p: Part) -> Part
-    requires { (t.now ≡ unicode_tables) × (p.from ≤ p.to) × (p.to ≤ length line.now) }
+fn trim_part(line: &[u8], p: Part) -> Part
+    requires { (p.from ≤ p.to) × (p.to ≤ length line.now) }
     ensures { TrimmedPart line.now p result }
 {
     let from = p.from;
     let to = p.to;
     let f = &line[from..to];
-    let a = text::start_of(t, f, Dropped::White);
-    let e = text::end_of(t, &f[a..], Dropped::White);
+    let a = text::start_of(f, Dropped::White);
+    let e = text::end_of(&f[a..], Dropped::White);
     let start = from + a;
     let end = start + e;
     Part {
@@ -133,7 +132,6 @@ fn trim_part(t: &[u32], line: &[u8], p: Part) -> Part
 
 // A `meta` line of the sheet, from `from` to `end`.
 fn index_meta(
-    t: &[u32],
     flags: u32,
     sheet: &[u8],
     from: usize,
@@ -143,7 +141,7 @@ fn index_meta(
     m: &mut [u32],
     n: usize,
 ) -> usize
-    requires { (t.now ≡ unicode_tables) × Indexed sheet.now m.old n × (n < 4096) × (length sheet.now ≤ 65536) × (from ≤ end) × (end ≤ length sheet.now) × TextWithin (part_at sheet.now from end) key × TextWithin (part_at sheet.now from end) value × TextField (part_at sheet.now from end) key × TextField (part_at sheet.now from end) value }
+    requires { Indexed sheet.now m.old n × (n < 4096) × (length sheet.now ≤ 65536) × (from ≤ end) × (end ≤ length sheet.now) × TextWithin (part_at sheet.now from end) key × TextWithin (part_at sheet.now from end) value × TextField (part_at sheet.now from end) key × TextField (part_at sheet.now from end) value }
     ensures { MetaIndexed flags sheet.now (part_at sheet.now from end) m.old n key value m.new result }
 {
     let line = &sheet[from..end];
@@ -152,11 +150,11 @@ fn index_meta(
     let kf = kp.from;
     let kt = kp.to;
     // A line that sets a mode stays out of the map.
-    if config_keys::is_heeded(t, flags, &line[kf..kt]) {
+    if config_keys::is_heeded(flags, &line[kf..kt]) {
         return n;
     }
-    let a = trim_part(t, line, kp);
-    let b = trim_part(t, line, vp);
+    let a = trim_part(line, kp);
+    let b = trim_part(line, vp);
     let ka = from + a.from;
     let ke = from + a.to;
     let va = from + b.from;
@@ -166,7 +164,6 @@ fn index_meta(
 
 // A line of the sheet: only `meta` lines count.
 fn index_event(
-    t: &[u32],
     flags: u32,
     sheet: &[u8],
     from: usize,
@@ -175,12 +172,12 @@ fn index_event(
     m: &mut [u32],
     n: usize,
 ) -> usize
-    requires { (t.now ≡ unicode_tables) × Indexed sheet.now m.old n × (n < 4096) × (length sheet.now ≤ 65536) × (from ≤ end) × (end ≤ length sheet.now) × KnownEvent (part_at sheet.now from end) v }
+    requires { Indexed sheet.now m.old n × (n < 4096) × (length sheet.now ≤ 65536) × (from ≤ end) × (end ≤ length sheet.now) × KnownEvent (part_at sheet.now from end) v }
     ensures { EventIndexed flags sheet.now (part_at sheet.now from end) m.old n v m.new result }
 {
     match v {
         EventView::Between(b) => match b {
-            Between::Meta(key, value) => index_meta(t, flags, sheet, from, end, key, value, m, n),
+            Between::Meta(key, value) => index_meta(flags, sheet, from, end, key, value, m, n),
             Between::Section(name) => n,
             Between::Start(kind) => n,
         },
@@ -190,49 +187,41 @@ fn index_event(
 }
 
 // A line of the sheet before it is read: `meta` lines alone begin with an m.
-fn index_line(
-    t: &[u32],
-    flags: u32,
-    sheet: &[u8],
-    from: usize,
-    end: usize,
-    m: &mut [u32],
-    n: usize,
-) -> usize
-    requires { (t.now ≡ unicode_tables) × Indexed sheet.now m.old n × (n < 4096) × (length sheet.now ≤ 65536) × (from ≤ end) × (end < length sheet.now) × (is_some (parse_line (part_at sheet.now from end)) ≡ true) × Without lf (part_at sheet.now from end) }
+fn index_line(flags: u32, sheet: &[u8], from: usize, end: usize, m: &mut [u32], n: usize) -> usize
+    requires { Indexed sheet.now m.old n × (n < 4096) × (length sheet.now ≤ 65536) × (from ≤ end) × (end < length sheet.now) × (is_some (parse_line (part_at sheet.now from end)) ≡ true) × Without lf (part_at sheet.now from end) }
     ensures { LineIndexed flags sheet.now (part_at sheet.now from end) m.old n m.new result }
 {
     if sheet[from] != b'm' {
         return n;
     }
     let v = known_events::event_of(&sheet[from..end]);
-    index_event(t, flags, sheet, from, end, v, m, n)
+    index_event(flags, sheet, from, end, v, m, n)
 }
 
 // The index of a sheet that was read: how many keys it has.
-fn fill_index(t: &[u32], flags: u32, sheet: &[u8], text: &[u8], m: &mut [u32]) -> usize
-    requires { (t.now ≡ unicode_tables) × (length sheet.now ≤ 65536) × (length m.old ≡ 21504) × (read_sheet text.now sheet.now ≡ events (events_or (read_sheet text.now sheet.now))) }
-    ensures { SheetIndexed flags text.now sheet.now m.new result }
+fn fill_index(flags: u32, sheet: &ReadSheet, m: &mut [u32]) -> usize
+    requires { (length sheet.now.bytes.now ≤ 65536) × (length m.old ≡ 21504) }
+    ensures { SheetIndexed flags sheet.now.text.now sheet.now.bytes.now m.new result }
 {
     clear_heads(m);
     let mut n = 0;
     let mut from = 0;
-    while from < sheet.len() {
-        let Some(end) = sheet::line_end(sheet, from) else {
+    while from < sheet.bytes.len() {
+        let Some(end) = sheet::line_end(sheet.bytes, from) else {
             return n;
         };
-        n = index_line(t, flags, sheet, from, end, m, n);
+        n = index_line(flags, sheet.bytes, from, end, m, n);
         from = end + 1;
     }
     n
 }
 
 // The same in the window of work memory.
-pub fn index_metadata(t: &[u32], flags: u32, sheet: &[u8], text: &[u8], words: &mut [u32]) -> usize
-    requires { (t.now ≡ unicode_tables) × (length sheet.now ≤ 65536) × (45661 ≤ length words.old) × (read_sheet text.now sheet.now ≡ events (events_or (read_sheet text.now sheet.now))) }
-    ensures { WordsIndexed flags text.now sheet.now words.old words.new result }
+pub fn index_metadata(flags: u32, sheet: &ReadSheet, words: &mut [u32]) -> usize
+    requires { (length sheet.now.bytes.now ≤ 65536) × (45661 ≤ length words.old) }
+    ensures { WordsIndexed flags sheet.now.text.now sheet.now.bytes.now words.old words.new result }
 {
-    fill_index(t, flags, sheet, text, &mut words[24157..45661])
+    fill_index(flags, sheet, &mut words[24157..45661])
 }
 
 // ---- the page's lines
@@ -254,10 +243,7 @@ fn put_meta(out: &mut [u8], at: usize, key: &[u8], value: &[u8]) -> usize
     requires { Field key.now × Field value.now }
     ensures { MetaPut key.now value.now out.old at out.new result }
 {
-    if out.len() < at {
-        return out.len() + 1;
-    }
-    at + meta_line(&mut out[at..], key, value)
+    output::put_line(out, at, |rest: &mut [u8]| meta_line(rest, key, value))
 }
 
 // The lines of the first n rows of an index.

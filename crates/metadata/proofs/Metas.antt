@@ -66,14 +66,11 @@ module _ {w : List ℕ} {h r : Held} {key value : Span} (z : Sound w h) where
 
 -- ---- findings
 
-abbrev span : Span → rules.Span
-span s = record { start = s.start; end = s.end }
+bad_at : (key value : Span) (k v : rules.Text) → k.span ≡ span_in key → v.span ≡ span_in value → found_two 1 (span_in value) (span_in key) false ≡ bad_value k v
+unfolding bad_value
+bad_at key value k v a b = sym (ap (λ (s : rules.Span). found_two 1 s k.span false) b ∙ ap (λ (s : rules.Span). found_two 1 (span_in value) s false) a)
 
-bad_at : (key value : Span) (k v : rules.Text) → k.span ≡ span_in key → v.span ≡ span_in value → found_two 1 (span value) (span key) false ≡ bad_value k v
-unfolding bad_value span_in
-bad_at key value k v a b = sym (ap (λ (s : rules.Span). found_two 1 s k.span false) b ∙ ap (λ (s : rules.Span). found_two 1 (span value) s false) a)
-
-module _ {w₀ w : List ℕ} {h r : Held} {key value : Span} {x : Noted} (z : Sound w₀ h) (p : FindingPushed w₀ h x w r) (f : finding_of x ≡ found_two 1 (span value) (span key) false) where
+module _ {w₀ w : List ℕ} {h r : Held} {key value : Span} {x : Noted} (z : Sound w₀ h) (p : FindingPushed w₀ h x w r) (f : finding_of x ≡ found_two 1 (span_in value) (span_in key) false) where
   pub define_bad : {m : Option Define} → m ≡ None → DefineSet key value m w₀ h w r
   unfolding on_define on_some
   define_bad q = rw q record { by = λ k v a b. found_one z p (f ∙ bad_at key value k v a b) }
@@ -96,8 +93,8 @@ old_count : (sheet w : List ℕ) (h : Held) → length (state_in sheet w h).meta
 unfolding state_in state_of
 old_count sheet w h = length-replicate h.counts.old blank_span
 
-pub unknown_noted : {w₀ w : List ℕ} {h r : Held} {key : Span} {x : Noted} → Sound w₀ h → FindingPushed w₀ h x w r → finding_of x ≡ found 2 (span key) → UnknownNoted key w₀ h w r
-unfolding on_key span_in
+pub unknown_noted : {w₀ w : List ℕ} {h r : Held} {key : Span} {x : Noted} → Sound w₀ h → FindingPushed w₀ h x w r → finding_of x ≡ found 2 (span_in key) → UnknownNoted key w₀ h w r
+unfolding on_key
 unknown_noted {w₀} {h = h} z p f =
     record {
       by = λ k v a. went_found (record { is = λ sheet. sym (old_same (key_text k) (value_text v) (state_in sheet w₀ h) ∙ state_blank sheet w₀ h); sound = z; fit = λ sheet a. a }) p (f ∙ ap (found 2) (sym a));

@@ -1,15 +1,16 @@
 // `meta` lines: the modes that they set, findings 1 and 2, and the lines that count for 3.
 #![tactic(auto)]
 
-ghost use Rattle.std.specs.Prelude.{◌≡◌, ◌+◌, ◌<◌};
-ghost use Rattle.letters.specs.Tables.{unicode_tables};
-ghost use Rattle.parts.specs.Views.{TextWithin};
+ghost use Rattle.std.specs.Prelude.{◌≡◌, ◌+◌, ◌<◌, false};
+ghost use Rattle.rules.specs.Finding.{found, found_two};
+ghost use Rattle.parts.specs.Views.{span_in, TextWithin};
 ghost use Rattle.model.specs.Memory.{Sound};
+ghost use Rattle.model.specs.Rows.{finding_of};
 ghost use Rattle.model.specs.Small.{with_define, with_duplicate};
-ghost use Rattle.metadata.specs.Metas.{DefineSet, DuplicateSet, UnknownNoted, OrdinaryCounted, MetaDone};
+ghost use Rattle.metadata.specs.Metas.{OrdinaryCounted, MetaDone};
 
-use model::Held;
-use parts::{Part, Span, TextView};
+use model::{Held, Noted};
+use parts::{Span, TextView};
 use sheet::{Define, Duplicate};
 
 fn with_define(h: Held, define: Define) -> Held
@@ -24,41 +25,18 @@ fn with_duplicate(h: Held, duplicate: Duplicate) -> Held
     Held { duplicate, ..h }
 }
 
-// `[mode]` and `[define]`, with what the value chooses; 1, config value.
-fn set_define(words: &mut [u32], h: Held, key: Span, value: Span, m: Option<Define>) -> Held
-    requires { Sound words.old h × (h.counts.findings < 1544) }
-    ensures { DefineSet key value m words.old h words.new result }
+// 1, config value.
+fn wrong_value(key: Span, value: Span) -> Noted
+    ensures { finding_of result ≡ found_two 1 (span_in value) (span_in key) false }
 {
-    match m {
-        Some(define) => with_define(h, define),
-        None => {
-            let x = model::two_spans(1, value.start, value.end, key.start, key.end, false);
-            memory::push_finding(words, h, x)
-        }
-    }
-}
-
-// `[duplicate]`, with what the value chooses; 1, config value.
-fn set_duplicate(words: &mut [u32], h: Held, key: Span, value: Span, m: Option<Duplicate>) -> Held
-    requires { Sound words.old h × (h.counts.findings < 1544) }
-    ensures { DuplicateSet key value m words.old h words.new result }
-{
-    match m {
-        Some(duplicate) => with_duplicate(h, duplicate),
-        None => {
-            let x = model::two_spans(1, value.start, value.end, key.start, key.end, false);
-            memory::push_finding(words, h, x)
-        }
-    }
+    model::two_spans(1, value.start, value.end, key.start, key.end, false)
 }
 
 // 2, config key.
-fn note_unknown(words: &mut [u32], h: Held, key: Span) -> Held
-    requires { Sound words.old h × (h.counts.findings < 1544) }
-    ensures { UnknownNoted key words.old h words.new result }
+fn unknown_key(key: Span) -> Noted
+    ensures { finding_of result ≡ found 2 (span_in key) }
 {
-    let x = model::one_span(2, key.start, key.end, false);
-    memory::push_finding(words, h, x)
+    model::one_span(2, key.start, key.end, false)
 }
 
 // An ordinary line, which counts for 3.
@@ -71,7 +49,6 @@ fn count_ordinary(mut h: Held) -> Held
 }
 
 pub fn on_meta(
-    t: &[u32],
     flags: u32,
     line: &[u8],
     key: TextView,
@@ -79,7 +56,7 @@ pub fn on_meta(
     words: &mut [u32],
     h: Held,
 ) -> Held
-    requires { (t.now ≡ unicode_tables) × TextWithin line.now key × TextWithin line.now value × Sound words.old h × (h.counts.findings < 1544) × (h.counts.old < 100000) }
+    requires { TextWithin line.now key × TextWithin line.now value × Sound words.old h × (h.counts.findings < 1544) × (h.counts.old < 100000) }
     ensures { MetaDone flags line.now key value words.old h words.new result }
 {
     let odd = flags % 2;
@@ -90,17 +67,21 @@ pub fn on_meta(
         let vs = value.span;
         let k = parts::part_of(line, kp);
         let v = parts::part_of(line, vp);
-        match config_keys::key_of(t, k) {
+        match config_keys::key_of(k) {
             config_keys::Key::Define => {
-                let m = config_keys::define_value(t, v);
-                return set_define(words, h, ks, vs, m);
+                return match config_keys::define_value(v) {
+                    Some(define) => with_define(h, define),
+                    None => memory::push_finding(words, h, wrong_value(ks, vs)),
+                };
             }
             config_keys::Key::Duplicate => {
-                let m = config_keys::duplicate_value(t, v);
-                return set_duplicate(words, h, ks, vs, m);
+                return match config_keys::duplicate_value(v) {
+                    Some(duplicate) => with_duplicate(h, duplicate),
+                    None => memory::push_finding(words, h, wrong_value(ks, vs)),
+                };
             }
             config_keys::Key::Unknown => {
-                return note_unknown(words, h, ks);
+                return memory::push_finding(words, h, unknown_key(ks));
             }
             config_keys::Key::Ordinary => {
                 return count_ordinary(h);

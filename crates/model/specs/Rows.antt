@@ -165,6 +165,11 @@ finding_of n =
     pick n.parse (parsed (pick n.flag severe mild) n.code)
     (diag n.code (spans_in n.spans (record { start = n.start; end = n.end }) (record { start = n.start2; end = n.end2 })) n.flag)
 
+-- what a check found: nothing or one finding
+unfoldable pub if_found : Option Noted → List Finding
+if_found None = []
+if_found (Some n) = finding_of n ∷ []
+
 module _ (findings : List ℕ) where
   unfoldable pub finding_in : ℕ → Finding
   finding_in i = finding_of (noted_of (row_at 8 findings i))

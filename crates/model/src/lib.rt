@@ -334,9 +334,7 @@ fn step_back(kinds: &[u32], n: usize, value: u32) -> Option<u32>
         return None;
     }
     let mut v = value;
-    let mut i = n;
-    while 0 < i {
-        i -= 1;
+    for i in (0..n).rev() {
         if kinds[i] == 1 {
             if v == 1 {
                 return Some(i as u32);

@@ -19,8 +19,8 @@ use Rattle.model.specs.Rows.{entry_as}
 use Rattle.model.specs.declared.Row.{Row}
 use Rattle.model.specs.declared.Held.{Held}
 use Rattle.memory.specs.Pushes.{ComponentAdded, referred_to}
-use Rattle.checks.specs.Reports.{Reported}
-use Rattle.checks.proofs.Reports.{reported_is}
+use Rattle.memory.specs.Reports.{Reported}
+use Rattle.memory.proofs.Reports.{reported_is}
 use Rattle.blocks.specs.Lined.{ItemsPushed}
 
 -- what is found leaves the tables, and may come first

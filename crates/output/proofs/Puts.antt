@@ -188,3 +188,7 @@ module _ {w o' : List ℕ} {n : ℕ} (o : List ℕ) (at : ℕ) where
   rest_fits b h p =
       let l : length (take (length o - at) (drop at o)) ≤ length o - at = omega (arith, length-take (length o - at) (drop at o)) in
       omega (arith, put_most p)
+
+-- the rest that is lent from a position on is all of it
+pub whole_rest : (at : ℕ) (o : List ℕ) → take (length o - at) (drop at o) ≡ drop at o
+whole_rest at o = take_all (length o - at) (drop at o) (omega (arith, length-drop at o))

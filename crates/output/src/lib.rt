@@ -2,10 +2,11 @@
 // buffer's length, where nothing is written, so writers follow one another with no test between.
 #![tactic(auto)]
 
-ghost use Rattle.std.specs.Prelude.{◌≡◌, [], ◌∷◌, ◌+◌, ◌≤◌, ◌<◌, leb, length};
+ghost use Rattle.std.specs.Prelude.{drop, ◌≡◌, [], ◌∷◌, ◌+◌, ◌≤◌, ◌<◌, leb, length};
 ghost use Rattle.rules.specs.Basic.{decimal};
 ghost use Rattle.rules.specs.Sheet.{escape_char, escape, refused_line};
 ghost use Rattle.output.specs.Put.{Put, tabbed};
+ghost use Rattle.output.specs.Writes.{Writer, Written};
 ghost use Rattle.output.specs.Runs.{is_plain, all_plain, PlainTo};
 
 pub fn put_byte(out: &mut [u8], at: usize, b: u8) -> usize
@@ -194,12 +195,20 @@ pub fn write_refusal(rest: &mut [u8], number: u32, line: u32) -> usize
     put_byte(rest, c, b'\n')
 }
 
-// The same at a position of the output: the rest from there on is lent.
-pub fn put_refusal(out: &mut [u8], at: usize, number: u32, line: u32) -> usize
-    ensures { Put (refused_line number line) out.old at out.new result }
+// A line's writer at a position of the output: it is lent the rest from there on.
+pub fn put_line<F: FnOnce(&mut [u8]) -> usize>(out: &mut [u8], at: usize, write: F) -> usize
+    requires { Writer F.FnOnce write (drop at out.old) }
+    ensures { Written F.FnOnce write out.old at out.new result }
 {
     if out.len() < at {
         return out.len() + 1;
     }
-    at + write_refusal(&mut out[at..], number, line)
+    at + write(&mut out[at..])
+}
+
+// The same at a position of the output: the rest from there on is lent.
+pub fn put_refusal(out: &mut [u8], at: usize, number: u32, line: u32) -> usize
+    ensures { Put (refused_line number line) out.old at out.new result }
+{
+    put_line(out, at, |rest: &mut [u8]| write_refusal(rest, number, line))
 }

@@ -13,7 +13,6 @@ use Rattle.rules.specs.State.{State, table_of, recipe, going}
 use Rattle.rules.specs.Pass.{is_open, ended}
 use Rattle.rules.specs.Page.{table_lines, ingredient_line, cookware_line, recipe_page, failed_page}
 use Rattle.rules.specs.Answer.{words_needed, events, read_sheet, events_or, units_or}
-use Rattle.letters.specs.Tables.{unicode_tables}
 use Rattle.output.specs.Put.{Put}
 use Rattle.output.proofs.Puts.{put_seq}
 use Rattle.output.proofs.Texts.{text_is}
@@ -58,26 +57,23 @@ recipe_inj e = cc
 going_inj : {a b : State} → going a ≡ going b → a ≡ b
 going_inj e = cc
 
-module _ {t sheet text units index : List ℕ} {flags : ℕ} {w : List ℕ} {h : Held} (g : RecipeGiven t sheet text units index flags w h) where
-  pub index_given : (t ≡ unicode_tables) × (length sheet ≤ 65536) × (45661 ≤ length w) × (read_sheet text sheet ≡ events (events_or (read_sheet text sheet)))
+module _ {sheet text units : List ℕ} {flags : ℕ} {w : List ℕ} {h : Held} (g : RecipeGiven sheet text units flags w h) where
+  pub index_given : (length sheet ≤ 65536) × (45661 ≤ length w)
   unfolding words_needed
-  index_given = (g.tables, g.inputs.sheet_short, omega (arith, g.inputs.words_enough), g.inputs.sheet_read)
+  index_given = (g.inputs.sheet_short, omega (arith, g.inputs.words_enough))
 
-  pub entries_given : (t ≡ unicode_tables) × Sound w h × AllFit sheet w h
-  entries_given = (g.tables, g.ran.kept.sound, g.ran.kept.fit)
+  pub entries_given : Sound w h × AllFit sheet w h
+  entries_given = (g.ran.kept.sound, g.ran.kept.fit)
 
-  pub draw_given : (t ≡ unicode_tables) × PassInputs sheet text units index flags
-  draw_given = (
-    g.tables,
-    record {
-      text_utf8 = g.inputs.text_utf8;
-      indexed = g.indexed;
-      sheet_short = g.inputs.sheet_short;
-      sheet_read = g.inputs.sheet_read;
-      final = g.ran.state;
-      goes = g.ran.walked;
-    },
-  )
+  pub draw_given : PassInputs sheet text units flags
+  draw_given =
+      record {
+        text_utf8 = g.inputs.text_utf8;
+        sheet_short = g.inputs.sheet_short;
+        sheet_read = g.inputs.sheet_read;
+        final = g.ran.state;
+        goes = g.ran.walked;
+      }
 
   -- no block is open at the end
   shut : is_open g.ran.state.place.block ≡ false
@@ -125,9 +121,9 @@ module _ {n : ℕ} {sheet text units : List ℕ} {flags : ℕ} {o₀ o : List �
 
 -- ---- the page
 
-module _ {t sheet text units index : List ℕ} {flags : ℕ} {w₀ w : List ℕ} {h : Held} {n : ℕ} (g : RecipeGiven t sheet text units index flags w₀ h) (x : WordsIndexed flags text sheet w₀ w n) where
+module _ {sheet text units : List ℕ} {flags : ℕ} {w₀ w : List ℕ} {h : Held} {n : ℕ} (g : RecipeGiven sheet text units flags w₀ h) (x : WordsIndexed flags text sheet w₀ w n) where
   pub metas_given : (45661 ≤ length w) × Indexed sheet (index_of w) n
-  metas_given = (let k = (index_given g).2 in omega (arith, x.long), x.index.indexed)
+  metas_given = (let k = (index_given g).1 in omega (arith, x.long), x.index.indexed)
 
   pub page_put : {o₀ o₁ o₂ o₃ o₄ o : List ℕ} {a b c d r : ℕ} → Put (head_line true) o₀ 0 o₁ a → MetasPut sheet (index_of w) n o₁ a o₂ b
       → PartDrawn sheet text units flags Sections o₂ b o₃ c → PartPut tables_of sheet text units flags o₃ c o₄ d → PartPut findings_of sheet text units flags o₄ d o r

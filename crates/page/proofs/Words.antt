@@ -90,11 +90,9 @@ module _ (sheet w₀ w : List ℕ) (h : Held) (l : length w ≡ length w₀) (v 
       }
 
 -- what the writers of the page are given, with the index of metadata there
-pub given_indexed : {t sheet text units index : List ℕ} {flags : ℕ} {w₀ w : List ℕ} {h : Held} {n : ℕ} → RecipeGiven t sheet text units index flags w₀ h → WordsIndexed flags text sheet w₀ w n → RecipeGiven t sheet text units index flags w h
+pub given_indexed : {sheet text units : List ℕ} {flags : ℕ} {w₀ w : List ℕ} {h : Held} {n : ℕ} → RecipeGiven sheet text units flags w₀ h → WordsIndexed flags text sheet w₀ w n → RecipeGiven sheet text units flags w h
 given_indexed {sheet = sheet} {text = text} {units = units} {flags = flags} {w₀ = w₀} {w = w} {h = h} g x =
     record {
-      tables = g.tables;
       inputs = subst (λ (k : ℕ). GoodInputs sheet text units flags k bytes_needed) (sym x.long) g.inputs;
-      indexed = g.indexed;
       ran = ran_same sheet w₀ w h x.long (windows_same w₀ w g.ran.kept.sound.long x.front x.long) g.ran;
     }

@@ -6,18 +6,14 @@ use Rattle.rules.specs.State.{State, recipe, no_recipe}
 use Rattle.rules.specs.Pass.{parse_events}
 use Rattle.rules.specs.Page.{recipe_page, failed_page}
 use Rattle.rules.specs.Answer.{bytes_needed, read_sheet, events_or, units_or}
-use Rattle.letters.specs.Tables.{unicode_tables}
 use Rattle.output.specs.Put.{Put}
-use Rattle.unit_index.specs.Index.{Indexed}
 use Rattle.inputs.specs.Inputs.{GoodInputs}
 use Rattle.model.specs.declared.Held.{Held}
 use Rattle.pass.specs.Walks.{RanRecipe}
 
--- the tables, inputs that nothing refuses, the index of the units, and work memory as the pass over them leaves it where there is a recipe
-pub record RecipeGiven (t sheet text units index : List ℕ) (flags : ℕ) (w : List ℕ) (h : Held) : Type 0 where
-  pub tables : t ≡ unicode_tables
+-- inputs that nothing refuses, and work memory as the pass over them leaves it where there is a recipe
+pub record RecipeGiven (sheet text units : List ℕ) (flags : ℕ) (w : List ℕ) (h : Held) : Type 0 where
   pub inputs : GoodInputs sheet text units flags (length w) bytes_needed
-  pub indexed : Indexed units index
   pub ran : RanRecipe text (units_or (read_units units)) flags sheet (events_or (read_sheet text sheet)) w h
 
 -- the page of the recipe that the inputs make, at the front of the output

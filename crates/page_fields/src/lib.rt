@@ -8,7 +8,6 @@ ghost use Rattle.rules.specs.Utf8.{encode};
 ghost use Rattle.rules.specs.Model.{trimmed_text, amount_of};
 ghost use Rattle.rules.specs.Page.{optional, amount_fields};
 ghost use Rattle.rules.specs.Write.{kind_field, modifiers_field};
-ghost use Rattle.letters.specs.Tables.{unicode_tables};
 ghost use Rattle.output.specs.Put.{Put, tabbed};
 ghost use Rattle.sheet.specs.Words.{kind_in};
 ghost use Rattle.content.specs.Parts.{Field};
@@ -41,8 +40,8 @@ pub fn put_text(out: &mut [u8], at: usize, line: &[u8], v: TextView) -> usize
 }
 
 // `-`, or `=` and the text trimmed.
-pub fn put_optional(t: &[u32], out: &mut [u8], at: usize, line: &[u8], o: Option<TextView>) -> usize
-    requires { (t.now ≡ unicode_tables) × OptTextField line.now o }
+pub fn put_optional(out: &mut [u8], at: usize, line: &[u8], o: Option<TextView>) -> usize
+    requires { OptTextField line.now o }
     ensures { Put (tabbed (optional (on_some trimmed_text (opt_text_in line.now o)) ∷ [])) out.old at out.new result }
 {
     match o {
@@ -50,7 +49,7 @@ pub fn put_optional(t: &[u32], out: &mut [u8], at: usize, line: &[u8], o: Option
         Some(v) => {
             let n = output::put_bytes(out, at, b"\t=");
             let f = parts::part_of(line, v.content);
-            text::put_text_trimmed(t, out, n, f)
+            text::put_text_trimmed(out, n, f)
         }
     }
 }
@@ -89,40 +88,38 @@ fn put_scaling(out: &mut [u8], at: usize, scalable: bool) -> usize
 }
 
 fn put_quantity(
-    t: &[u32],
     out: &mut [u8],
     at: usize,
     line: &[u8],
     v: QuantityView,
     of_ingredient: bool,
 ) -> usize
-    requires { (t.now ≡ unicode_tables) × QuantityFields line.now v }
+    requires { QuantityFields line.now v }
     ensures { Put (tabbed (amount_fields (Some (amount_of of_ingredient (quantity_in line.now v))))) out.old at out.new result }
 {
     let kind = v.kind;
     let unit = v.unit;
     let a = put_kind(out, at, kind);
     let b = put_part(out, a, line, v.value);
-    let c = put_optional(t, out, b, line, unit);
+    let c = put_optional(out, b, line, unit);
     let s = is_scalable(of_ingredient, kind, v.lock);
     put_scaling(out, c, s)
 }
 
 // `-`, or the kind, the value as it is spelled, the unit, and whether the quantity is scalable.
 pub fn put_amount(
-    t: &[u32],
     out: &mut [u8],
     at: usize,
     line: &[u8],
     q: Option<QuantityView>,
     of_ingredient: bool,
 ) -> usize
-    requires { (t.now ≡ unicode_tables) × OptQuantityFields line.now q }
+    requires { OptQuantityFields line.now q }
     ensures { Put (tabbed (amount_fields (on_some (amount_of of_ingredient) (opt_quantity_in line.now q)))) out.old at out.new result }
 {
     match q {
         None => output::put_field(out, at, b"-"),
-        Some(v) => put_quantity(t, out, at, line, v, of_ingredient),
+        Some(v) => put_quantity(out, at, line, v, of_ingredient),
     }
 }
 

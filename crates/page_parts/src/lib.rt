@@ -4,14 +4,11 @@
 
 ghost use Rattle.std.specs.Prelude.{◌≡◌, true, [], ◌+◌, ◌^◌, ◌<◌, length};
 ghost use Rattle.rules.specs.Basic.{pick, all, is_some, on_some};
-ghost use Rattle.rules.specs.Utf8.{is_utf8};
 ghost use Rattle.rules.specs.Event.{component_span, spans_of, inside};
 ghost use Rattle.rules.specs.Units.{read_units};
 ghost use Rattle.rules.specs.Answer.{units_or, is_good_span};
 ghost use Rattle.rules.specs.Model.{trimmed_text};
-ghost use Rattle.letters.specs.Tables.{unicode_tables};
 ghost use Rattle.output.specs.Put.{Put};
-ghost use Rattle.unit_index.specs.Index.{Indexed};
 ghost use Rattle.parts.specs.Views.{opt_text_in};
 ghost use Rattle.events.specs.Views.{component_event_in, inside_in, event_in};
 ghost use Rattle.known_events.specs.Fields.{TextField, OptTextField, BetweenFields, InsideFields, EventFields};
@@ -23,6 +20,8 @@ use following::Follow;
 use model::Open;
 use parts::TextView;
 use step_lines::{ItemKind, TextItems};
+use unit_index::UnitList;
+use utf8::Utf8;
 
 // The first bytes of a block.
 fn lead_line(rest: &mut [u8], counter: u32, b: Open) -> usize
@@ -39,10 +38,7 @@ fn lead_line(rest: &mut [u8], counter: u32, b: Open) -> usize
 fn put_lead(out: &mut [u8], at: usize, counter: u32, b: Open) -> usize
     ensures { Put (lead counter b) out.old at out.new result }
 {
-    if out.len() < at {
-        return out.len() + 1;
-    }
-    at + lead_line(&mut out[at..], counter, b)
+    output::put_line(out, at, |rest: &mut [u8]| lead_line(rest, counter, b))
 }
 
 // A `start` that opens the block b.
@@ -62,13 +58,13 @@ fn start_line(rest: &mut [u8], f: Follow, b: Open) -> usize
 }
 
 // A `section`: one without a name is drawn with its first block.
-fn named_line(t: &[u32], rest: &mut [u8], line: &[u8], name: Option<TextView>) -> usize
-    requires { (t.now ≡ unicode_tables) × OptTextField line.now name }
+fn named_line(rest: &mut [u8], line: &[u8], name: Option<TextView>) -> usize
+    requires { OptTextField line.now name }
     ensures { Put (pick (is_some (opt_text_in line.now name)) (section_line (on_some trimmed_text (opt_text_in line.now name))) []) rest.old 0 rest.new result }
 {
     match name {
         None => 0,
-        Some(v) => step_lines::section_line(t, rest, line, name),
+        Some(v) => step_lines::section_line(rest, line, name),
     }
 }
 
@@ -103,9 +99,9 @@ fn item_line(rest: &mut [u8], c: ComponentEvent, f: Follow) -> usize
 }
 
 // A component: an item in a step, its source in text mode.
-fn component_line(rest: &mut [u8], text: &[u8], c: ComponentEvent, f: Follow) -> usize
-    requires { (is_utf8 text.now ≡ true) × (is_good_span text.now (length text.now) (component_span (component_event_in [] c)) ≡ true) }
-    ensures { ComponentDrawn text.now c f rest.old rest.new result }
+fn component_line(rest: &mut [u8], text: &Utf8, c: ComponentEvent, f: Follow) -> usize
+    requires { is_good_span text.now.bytes.now (length text.now.bytes.now) (component_span (component_event_in [] c)) ≡ true }
+    ensures { ComponentDrawn text.now.bytes.now c f rest.old rest.new result }
 {
     let b = f.block;
     match b {
@@ -127,17 +123,15 @@ fn component_line(rest: &mut [u8], text: &[u8], c: ComponentEvent, f: Follow) ->
 
 // A text: the items of a step, or a piece of a text block.
 fn text_line(
-    t: &[u32],
-    units: &[u8],
-    index: &[u32],
+    units: &UnitList,
     flags: u32,
     rest: &mut [u8],
     line: &[u8],
     body: TextView,
     f: Follow,
 ) -> TextItems
-    requires { (t.now ≡ unicode_tables) × Indexed units.now index.now × TextField line.now body × (f.inline + length line.now < 2 ^ 32) }
-    ensures { TextDrawn (units_or (read_units units.now)) flags line.now body f rest.old rest.new result }
+    requires { TextField line.now body × (f.inline + length line.now < 2 ^ 32) }
+    ensures { TextDrawn (units_or (read_units units.now.lines.now)) flags line.now body f rest.old rest.new result }
 {
     let b = f.block;
     match b {
@@ -154,7 +148,7 @@ fn text_line(
                 };
             }
             let first = f.inline;
-            step_lines::text_items(t, units, index, flags, rest, line, body, first)
+            step_lines::text_items(units, flags, rest, line, body, first)
         }
         Open::Text => {
             let count = step_lines::text_piece(rest, line, body);
@@ -167,13 +161,13 @@ fn text_line(
     }
 }
 
-fn between_line(t: &[u32], rest: &mut [u8], line: &[u8], b: Between, f: Follow) -> usize
-    requires { (t.now ≡ unicode_tables) × BetweenFields line.now b }
+fn between_line(rest: &mut [u8], line: &[u8], b: Between, f: Follow) -> usize
+    requires { BetweenFields line.now b }
     ensures { BetweenDrawn line.now b f rest.old rest.new result }
 {
     match b {
         Between::Meta(key, value) => 0,
-        Between::Section(name) => named_line(t, rest, line, name),
+        Between::Section(name) => named_line(rest, line, name),
         Between::Start(kind) => {
             let define = f.define;
             let o = following::opens_as(define, kind);
@@ -183,18 +177,16 @@ fn between_line(t: &[u32], rest: &mut [u8], line: &[u8], b: Between, f: Follow) 
 }
 
 fn inside_line(
-    t: &[u32],
-    text: &[u8],
-    units: &[u8],
-    index: &[u32],
+    text: &Utf8,
+    units: &UnitList,
     flags: u32,
     rest: &mut [u8],
     line: &[u8],
     i: Inside,
     f: Follow,
 ) -> TextItems
-    requires { (t.now ≡ unicode_tables) × (is_utf8 text.now ≡ true) × Indexed units.now index.now × InsideFields line.now i × (all (is_good_span text.now (length text.now)) (spans_of (inside (inside_in line.now i))) ≡ true) × (f.inline + length line.now < 2 ^ 32) }
-    ensures { InsideDrawn text.now (units_or (read_units units.now)) flags line.now i f rest.old rest.new result }
+    requires { InsideFields line.now i × (all (is_good_span text.now.bytes.now (length text.now.bytes.now)) (spans_of (inside (inside_in line.now i))) ≡ true) × (f.inline + length line.now < 2 ^ 32) }
+    ensures { InsideDrawn text.now.bytes.now (units_or (read_units units.now.lines.now)) flags line.now i f rest.old rest.new result }
 {
     match i {
         Inside::End(kind) => {
@@ -202,7 +194,7 @@ fn inside_line(
             let count = end_line(rest, b);
             TextItems { count, inline: 0 }
         }
-        Inside::Text(body) => text_line(t, units, index, flags, rest, line, body, f),
+        Inside::Text(body) => text_line(units, flags, rest, line, body, f),
         Inside::Component(c) => {
             let count = component_line(rest, text, c, f);
             TextItems { count, inline: 0 }
@@ -212,25 +204,23 @@ fn inside_line(
 
 // What a line adds to the page's sections, and how many inline quantities it adds.
 pub fn sections_line(
-    t: &[u32],
-    text: &[u8],
-    units: &[u8],
-    index: &[u32],
+    text: &Utf8,
+    units: &UnitList,
     flags: u32,
     rest: &mut [u8],
     line: &[u8],
     e: EventView,
     f: Follow,
 ) -> TextItems
-    requires { (t.now ≡ unicode_tables) × (is_utf8 text.now ≡ true) × Indexed units.now index.now × EventFields line.now e × (all (is_good_span text.now (length text.now)) (spans_of (event_in line.now e)) ≡ true) × (f.inline + length line.now < 2 ^ 32) }
-    ensures { SectionsDrawn text.now (units_or (read_units units.now)) flags line.now e f rest.old rest.new result }
+    requires { EventFields line.now e × (all (is_good_span text.now.bytes.now (length text.now.bytes.now)) (spans_of (event_in line.now e)) ≡ true) × (f.inline + length line.now < 2 ^ 32) }
+    ensures { SectionsDrawn text.now.bytes.now (units_or (read_units units.now.lines.now)) flags line.now e f rest.old rest.new result }
 {
     match e {
         EventView::Between(b) => {
-            let count = between_line(t, rest, line, b, f);
+            let count = between_line(rest, line, b, f);
             TextItems { count, inline: 0 }
         }
-        EventView::Inside(i) => inside_line(t, text, units, index, flags, rest, line, i, f),
+        EventView::Inside(i) => inside_line(text, units, flags, rest, line, i, f),
         EventView::Finding(s, n) => TextItems {
             count: 0,
             inline: 0,

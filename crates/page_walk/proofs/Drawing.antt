@@ -164,7 +164,7 @@ pub record Walked (sheet text units : List ℕ) (flags : ℕ) (p : Part) (o₀ :
   pub same : length o ≡ length o₀
   pub by : (final : State) → walk text (units_or (read_units units)) flags 1 (going first_state) (events_or (read_sheet text sheet)) ≡ going final → Drawing text (units_or (read_units units)) flags sheet p final o₀ at₀ at f o n
 
-module _ {sheet text units index : List ℕ} {flags : ℕ} (i : PassInputs sheet text units index flags) where
+module _ {sheet text units : List ℕ} {flags : ℕ} (i : PassInputs sheet text units flags) where
   abbrev us : List NamedUnit
   us = units_or (read_units units)
 

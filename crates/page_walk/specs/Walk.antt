@@ -10,7 +10,6 @@ use Rattle.rules.specs.Pass.{walk}
 use Rattle.rules.specs.Answer.{events, events_or, units_or, is_good_span, read_sheet}
 use Rattle.rules.proofs.Fields.{Without}
 use Rattle.output.specs.Put.{Put}
-use Rattle.unit_index.specs.Index.{Indexed}
 use Rattle.following.specs.Drawn.{quantities_added, added, drawn}
 use Rattle.following.specs.Follow.{next_follow, with_inline, Room}
 use Rattle.following.specs.declared.Follow.{Follow}
@@ -71,10 +70,9 @@ pub record TurnTaken (text : List ℕ) (units : List NamedUnit) (flags : ℕ) (p
 
 -- ---- the whole part
 
--- inputs that are good, with the index of the units, and a pass over them that goes to the end
-pub record PassInputs (sheet text units index : List ℕ) (flags : ℕ) : Type 0 where
+-- inputs that are good, and a pass over them that goes to the end
+pub record PassInputs (sheet text units : List ℕ) (flags : ℕ) : Type 0 where
   pub text_utf8 : is_utf8 text ≡ true
-  pub indexed : Indexed units index
   pub sheet_short : length sheet ≤ 65536
   pub sheet_read : read_sheet text sheet ≡ events (events_or (read_sheet text sheet))
   pub final : State

@@ -1,15 +1,15 @@
 // The parts of the page that work memory does not hold, drawn by a second walk over an accepted sheet.
 #![tactic(auto)]
 
-ghost use Rattle.std.specs.Prelude.{◌≡◌, true, not, eqb};
-ghost use Rattle.rules.specs.Utf8.{is_utf8};
+ghost use Rattle.std.specs.Prelude.{◌≡◌, not, eqb};
 ghost use Rattle.rules.specs.Units.{read_units};
 ghost use Rattle.rules.specs.Answer.{units_or};
-ghost use Rattle.letters.specs.Tables.{unicode_tables};
-ghost use Rattle.unit_index.specs.Index.{Indexed};
 ghost use Rattle.page_walk.specs.Walk.{LineReady, LineTaken, is_aside, is_idle, TurnTaken, PassInputs, PartDrawn};
 
 use following::{Follow, Part};
+use reading::ReadSheet;
+use unit_index::UnitList;
+use utf8::Utf8;
 
 // How many bytes a line's part took, or one more than there is room for; and the state after the line.
 #[derive(Clone, Copy)]
@@ -21,23 +21,21 @@ pub struct Turn {
 // One line of the sheet, read.
 fn part_line(
     p: Part,
-    t: &[u32],
-    text: &[u8],
-    units: &[u8],
-    index: &[u32],
+    text: &Utf8,
+    units: &UnitList,
     flags: u32,
     rest: &mut [u8],
     line: &[u8],
     f: Follow,
 ) -> Turn
-    requires { (t.now ≡ unicode_tables) × (is_utf8 text.now ≡ true) × Indexed units.now index.now × LineReady text.now (units_or (read_units units.now)) flags p line.now f }
-    ensures { LineTaken text.now (units_or (read_units units.now)) flags p line.now f rest.old rest.new result }
+    requires { LineReady text.now.bytes.now (units_or (read_units units.now.lines.now)) flags p line.now f }
+    ensures { LineTaken text.now.bytes.now (units_or (read_units units.now.lines.now)) flags p line.now f rest.old rest.new result }
 {
     let e = known_events::event_of(line);
-    let r = part_lines::draw_line(p, t, text, units, index, flags, rest, line, e, f);
+    let r = part_lines::draw_line(p, text, units, flags, rest, line, e, f);
     let count = r.count;
     let inline = r.inline;
-    let follow = following::follow_event(t, flags, line, e, f, inline);
+    let follow = following::follow_event(flags, line, e, f, inline);
     Turn { count, follow }
 }
 
@@ -76,17 +74,15 @@ fn is_idle(p: Part, line: &[u8]) -> bool
 // One line of the sheet, which is not read where it is idle.
 fn line_turn(
     p: Part,
-    t: &[u32],
-    text: &[u8],
-    units: &[u8],
-    index: &[u32],
+    text: &Utf8,
+    units: &UnitList,
     flags: u32,
     rest: &mut [u8],
     line: &[u8],
     f: Follow,
 ) -> Turn
-    requires { (t.now ≡ unicode_tables) × (is_utf8 text.now ≡ true) × Indexed units.now index.now × LineReady text.now (units_or (read_units units.now)) flags p line.now f }
-    ensures { TurnTaken text.now (units_or (read_units units.now)) flags p line.now f rest.old rest.new result }
+    requires { LineReady text.now.bytes.now (units_or (read_units units.now.lines.now)) flags p line.now f }
+    ensures { TurnTaken text.now.bytes.now (units_or (read_units units.now.lines.now)) flags p line.now f rest.old rest.new result }
 {
     if is_idle(p, line) {
         return Turn {
@@ -94,43 +90,39 @@ fn line_turn(
             follow: f,
         };
     }
-    part_line(p, t, text, units, index, flags, rest, line, f)
+    part_line(p, text, units, flags, rest, line, f)
 }
 
 // The part p of the page, written at a position of the output.
 pub fn draw_part(
     p: Part,
-    t: &[u32],
-    sheet: &[u8],
-    text: &[u8],
-    units: &[u8],
-    index: &[u32],
+    sheet: &ReadSheet,
+    units: &UnitList,
     flags: u32,
     out: &mut [u8],
     at: usize,
 ) -> usize
-    requires { (t.now ≡ unicode_tables) × PassInputs sheet.now text.now units.now index.now flags }
-    ensures { PartDrawn sheet.now text.now units.now flags p out.old at out.new result }
+    requires { PassInputs sheet.now.bytes.now sheet.now.text.now units.now.lines.now flags }
+    ensures { PartDrawn sheet.now.bytes.now sheet.now.text.now units.now.lines.now flags p out.old at out.new result }
 {
+    let text = Utf8 { bytes: sheet.text };
     let mut n = finding_lines::begin(out, at);
     let mut f = following::first_follow();
     let mut from = 0;
-    while from < sheet.len() {
+    while from < sheet.bytes.len() {
         if out.len() < n {
             return n;
         }
-        let Some(end) = sheet::line_end(sheet, from) else {
+        let Some(end) = sheet::line_end(sheet.bytes, from) else {
             return n;
         };
         let r = line_turn(
             p,
-            t,
-            text,
+            &text,
             units,
-            index,
             flags,
             &mut out[n..],
-            &sheet[from..end],
+            &sheet.bytes[from..end],
             f,
         );
         n += r.count;

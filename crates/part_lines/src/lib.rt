@@ -4,12 +4,9 @@
 
 ghost use Rattle.std.specs.Prelude.{◌≡◌, true, ◌+◌, ◌^◌, ◌<◌, length};
 ghost use Rattle.rules.specs.Basic.{all};
-ghost use Rattle.rules.specs.Utf8.{is_utf8};
 ghost use Rattle.rules.specs.Event.{spans_of};
 ghost use Rattle.rules.specs.Units.{read_units};
 ghost use Rattle.rules.specs.Answer.{units_or, is_good_span};
-ghost use Rattle.letters.specs.Tables.{unicode_tables};
-ghost use Rattle.unit_index.specs.Index.{Indexed};
 ghost use Rattle.parts.specs.Views.{TextWithin};
 ghost use Rattle.events.specs.Views.{event_in, EventWithin};
 ghost use Rattle.known_events.specs.Fields.{TextField, ComponentEventFields, EventFields};
@@ -21,9 +18,11 @@ use following::{Follow, Meta, Part};
 use model::Open;
 use parts::{Span, TextView};
 use step_lines::TextItems;
+use unit_index::UnitList;
+use utf8::Utf8;
 
-fn timer_of(t: &[u32], rest: &mut [u8], line: &[u8], c: ComponentEvent, f: Follow) -> usize
-    requires { (t.now ≡ unicode_tables) × ComponentEventFields line.now c }
+fn timer_of(rest: &mut [u8], line: &[u8], c: ComponentEvent, f: Follow) -> usize
+    requires { ComponentEventFields line.now c }
     ensures { TimerDrawn line.now c f rest.old rest.new result }
 {
     match c {
@@ -35,7 +34,7 @@ fn timer_of(t: &[u32], rest: &mut [u8], line: &[u8], c: ComponentEvent, f: Follo
                 Open::Nothing => 0,
                 Open::Step => {
                     let n = f.timers;
-                    step_lines::timer_line(t, rest, line, n, name, quantity)
+                    step_lines::timer_line(rest, line, n, name, quantity)
                 }
                 Open::Text => 0,
                 Open::TextMode => 0,
@@ -45,8 +44,8 @@ fn timer_of(t: &[u32], rest: &mut [u8], line: &[u8], c: ComponentEvent, f: Follo
 }
 
 // What a line adds to the page's timers.
-fn timers_line(t: &[u32], rest: &mut [u8], line: &[u8], e: EventView, f: Follow) -> usize
-    requires { (t.now ≡ unicode_tables) × EventFields line.now e }
+fn timers_line(rest: &mut [u8], line: &[u8], e: EventView, f: Follow) -> usize
+    requires { EventFields line.now e }
     ensures { TimersDrawn line.now e f rest.old rest.new result }
 {
     match e {
@@ -54,24 +53,22 @@ fn timers_line(t: &[u32], rest: &mut [u8], line: &[u8], e: EventView, f: Follow)
         EventView::Inside(i) => match i {
             Inside::End(kind) => 0,
             Inside::Text(body) => 0,
-            Inside::Component(c) => timer_of(t, rest, line, c, f),
+            Inside::Component(c) => timer_of(rest, line, c, f),
         },
         EventView::Finding(s, n) => 0,
     }
 }
 
 fn quantities_of(
-    t: &[u32],
-    units: &[u8],
-    index: &[u32],
+    units: &UnitList,
     flags: u32,
     rest: &mut [u8],
     line: &[u8],
     body: TextView,
     f: Follow,
 ) -> TextItems
-    requires { (t.now ≡ unicode_tables) × Indexed units.now index.now × TextField line.now body × (f.inline + length line.now < 2 ^ 32) }
-    ensures { QuantitiesDrawn (units_or (read_units units.now)) flags line.now body f rest.old rest.new result }
+    requires { TextField line.now body × (f.inline + length line.now < 2 ^ 32) }
+    ensures { QuantitiesDrawn (units_or (read_units units.now.lines.now)) flags line.now body f rest.old rest.new result }
 {
     let b = f.block;
     match b {
@@ -88,7 +85,7 @@ fn quantities_of(
                 };
             }
             let first = f.inline;
-            step_lines::inline_lines(t, units, index, flags, rest, line, body, first)
+            step_lines::inline_lines(units, flags, rest, line, body, first)
         }
         Open::Text => TextItems {
             count: 0,
@@ -103,17 +100,15 @@ fn quantities_of(
 
 // What a line adds to the page's inline quantities, and how many they are.
 fn inline_line(
-    t: &[u32],
-    units: &[u8],
-    index: &[u32],
+    units: &UnitList,
     flags: u32,
     rest: &mut [u8],
     line: &[u8],
     e: EventView,
     f: Follow,
 ) -> TextItems
-    requires { (t.now ≡ unicode_tables) × Indexed units.now index.now × EventFields line.now e × (f.inline + length line.now < 2 ^ 32) }
-    ensures { InlineDrawn (units_or (read_units units.now)) flags line.now e f rest.old rest.new result }
+    requires { EventFields line.now e × (f.inline + length line.now < 2 ^ 32) }
+    ensures { InlineDrawn (units_or (read_units units.now.lines.now)) flags line.now e f rest.old rest.new result }
 {
     match e {
         EventView::Between(b) => TextItems {
@@ -125,7 +120,7 @@ fn inline_line(
                 count: 0,
                 inline: 0,
             },
-            Inside::Text(body) => quantities_of(t, units, index, flags, rest, line, body, f),
+            Inside::Text(body) => quantities_of(units, flags, rest, line, body, f),
             Inside::Component(c) => TextItems {
                 count: 0,
                 inline: 0,
@@ -139,7 +134,6 @@ fn inline_line(
 }
 
 fn meta_line(
-    t: &[u32],
     flags: u32,
     rest: &mut [u8],
     line: &[u8],
@@ -147,10 +141,10 @@ fn meta_line(
     value: TextView,
     f: Follow,
 ) -> usize
-    requires { (t.now ≡ unicode_tables) × TextWithin line.now key × TextWithin line.now value }
+    requires { TextWithin line.now key × TextWithin line.now value }
     ensures { MetaDrawn flags line.now key value f rest.old rest.new result }
 {
-    let m = following::meta_of(t, flags, line, key, value);
+    let m = following::meta_of(flags, line, key, value);
     match m {
         Meta::Defines(d) => 0,
         Meta::Ordinary => {
@@ -170,13 +164,13 @@ fn meta_line(
 }
 
 // What a line adds to the spans of finding 3.
-fn old_line(t: &[u32], flags: u32, rest: &mut [u8], line: &[u8], e: EventView, f: Follow) -> usize
-    requires { (t.now ≡ unicode_tables) × EventWithin line.now e }
+fn old_line(flags: u32, rest: &mut [u8], line: &[u8], e: EventView, f: Follow) -> usize
+    requires { EventWithin line.now e }
     ensures { OldDrawn flags line.now e f rest.old rest.new result }
 {
     match e {
         EventView::Between(b) => match b {
-            Between::Meta(key, value) => meta_line(t, flags, rest, line, key, value, f),
+            Between::Meta(key, value) => meta_line(flags, rest, line, key, value, f),
             Between::Section(name) => 0,
             Between::Start(kind) => 0,
         },
@@ -188,28 +182,26 @@ fn old_line(t: &[u32], flags: u32, rest: &mut [u8], line: &[u8], e: EventView, f
 // What a line adds to a part, and how many inline quantities it adds where the part depends on them.
 pub fn draw_line(
     p: Part,
-    t: &[u32],
-    text: &[u8],
-    units: &[u8],
-    index: &[u32],
+    text: &Utf8,
+    units: &UnitList,
     flags: u32,
     rest: &mut [u8],
     line: &[u8],
     e: EventView,
     f: Follow,
 ) -> TextItems
-    requires { (t.now ≡ unicode_tables) × (is_utf8 text.now ≡ true) × Indexed units.now index.now × KnownEvent line.now e × (all (is_good_span text.now (length text.now)) (spans_of (event_in line.now e)) ≡ true) × (f.inline + length line.now < 2 ^ 32) }
-    ensures { LineDrawn text.now (units_or (read_units units.now)) flags p line.now e f rest.old rest.new result }
+    requires { KnownEvent line.now e × (all (is_good_span text.now.bytes.now (length text.now.bytes.now)) (spans_of (event_in line.now e)) ≡ true) × (f.inline + length line.now < 2 ^ 32) }
+    ensures { LineDrawn text.now.bytes.now (units_or (read_units units.now.lines.now)) flags p line.now e f rest.old rest.new result }
 {
     match p {
-        Part::Sections => page_parts::sections_line(t, text, units, index, flags, rest, line, e, f),
+        Part::Sections => page_parts::sections_line(text, units, flags, rest, line, e, f),
         Part::Timers => {
-            let count = timers_line(t, rest, line, e, f);
+            let count = timers_line(rest, line, e, f);
             TextItems { count, inline: 0 }
         }
-        Part::Inline => inline_line(t, units, index, flags, rest, line, e, f),
+        Part::Inline => inline_line(units, flags, rest, line, e, f),
         Part::Old => {
-            let count = old_line(t, flags, rest, line, e, f);
+            let count = old_line(flags, rest, line, e, f);
             TextItems { count, inline: 0 }
         }
     }

@@ -5,11 +5,11 @@ use borrow.Author.Tests.{lt-leb}
 use Rattle.rules.specs.Basic.{pick, tab, minus, eq_list, is_some, on_some, on_first, split_at, word_in}
 use Rattle.rules.specs.Utf8.{chars}
 use Rattle.rules.specs.Sheet.{fields_of, unescape, number_up_to, at_most, only_zero, digits_from}
-use Rattle.rules.specs.Read.{Fields, go_on, ◌>>=◌, give, saying, got_one, opt, field, content_of, read_content, word}
+use Rattle.rules.specs.Read.{Fields, go_on, ◌>>=◌, give, saying, got_one, opt, field, content_of, read_content}
 use Rattle.rules.proofs.Basics.{pick_either, no_some, no_truth, some_inj}
 use Rattle.sheet.specs.Lines.{fields_from, field_at}
 use Rattle.sheet.proofs.Scans.{field_within, fields_next}
-use Rattle.sheet.proofs.Tests.{hit, miss}
+use Rattle.sheet.proofs.Tests.{hit, miss, ends}
 use Rattle.parts.specs.declared.Dash.TheVariants as dash
 use Rattle.parts.specs.declared.Part.{Part}
 use Rattle.parts.specs.Views.{part_of, or_empty, bytes_in, content_in}
@@ -120,19 +120,16 @@ module _ (line : List ℕ) (at : ℕ) {f : List ℕ} (h : at ≤ length line) (e
 
 -- ---- words
 -- a table of two words
-module _ {View A : Type 0} {means : View → A} {Good : View → Type 0} (a b : List ℕ × A) {line : List ℕ} {at : ℕ} {f : List ℕ} (h : at ≤ length line) (e : f ≡ field_at line at) where
-  pub two_first : {t : Bool} {v : View} → t ≡ eq_list f a.0 → t ≡ true → a.1 ≡ means v → Good v → ReadAt means Good no_contents (word (a ∷ b ∷ [])) line at (Some (v, at + length f + 1))
-  unfolding word
-  two_first p q m g = leaf_got (λ (f : List ℕ). word_in f (a ∷ b ∷ [])) h e (sym (hit f a (b ∷ []) refl p q) ∙ ap Some m) g
+module _ {A : Type 0} (f : List ℕ) (a b : List ℕ × A) where
+  pub two_first : {t : Bool} → t ≡ eq_list f a.0 → t ≡ true → Some a.1 ≡ word_in f (a ∷ b ∷ [])
+  two_first p q = hit f a (b ∷ []) refl p q
 
   module _ {t : Bool} (p : t ≡ eq_list f a.0) (q : t ≡ false) {u : Bool} (l : u ≡ eq_list f b.0) where
-    pub two_second : {v : View} → u ≡ true → b.1 ≡ means v → Good v → ReadAt means Good no_contents (word (a ∷ b ∷ [])) line at (Some (v, at + length f + 1))
-    unfolding word
-    two_second k m g = leaf_got (λ (f : List ℕ). word_in f (a ∷ b ∷ [])) h e (sym (hit f b [] (miss f a (b ∷ []) refl p q) l k) ∙ ap Some m) g
+    pub two_second : u ≡ true → Some b.1 ≡ word_in f (a ∷ b ∷ [])
+    two_second k = hit f b [] (miss f a (b ∷ []) refl p q) l k
 
-    pub two_neither : u ≡ false → ReadAt means Good no_contents (word (a ∷ b ∷ [])) line at None
-    unfolding word word_in
-    two_neither k = leaf_bad (λ (f : List ℕ). word_in f (a ∷ b ∷ [])) h e (sym (miss f b [] (miss f a (b ∷ []) refl p q) l k))
+    pub two_neither : u ≡ false → None ≡ word_in f (a ∷ b ∷ [])
+    two_neither k = ends f (miss f b [] (miss f a (b ∷ []) refl p q) l k)
 
 -- ---- opt
 module _ (line : List ℕ) (at : ℕ) where

@@ -6,3 +6,4 @@ pub mod Numbers
 pub mod Near
 pub mod Escapes
 pub mod Alone
+pub mod Generic

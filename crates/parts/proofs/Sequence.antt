@@ -24,10 +24,10 @@ unfolding give
 gives a fs = record { is = refl; among = among_end }
 
 -- ---- opt: as it is for a part of nothing
-abbrev nothing : Reader (Unit {0})
+abbrev pub nothing : Reader (Unit {0})
 nothing = give tt
 
-none_there : {P : Type 0} {gs hs : Fields} → ◌≡◌ {A = Option (Option (Unit {0}) × Fields)} (Some (None, gs)) (Some (Some tt, hs)) → P
+pub none_there : {P : Type 0} {gs hs : Fields} → ◌≡◌ {A = Option (Option (Unit {0}) × Fields)} (Some (None, gs)) (Some (Some tt, hs)) → P
 none_there e = no_some (ap (λ (p : Option (Unit {0}) × Fields). p.0) (some_inj e))
 
 absent_left : (t : Bool) (f : List ℕ) (hs : Fields) {gs : Fields} → Some (None, gs) ≡ pick t (Some (None, hs)) (got_one (nothing (f ∷ hs))) → hs ≡ gs
@@ -64,7 +64,7 @@ module _ {A : Type 0} (r : Reader A) where
   pub opt_absent : (fs : Fields) {gs : Fields} → Some (None, gs) ≡ opt nothing fs → Reads (opt r) None [] fs gs
   opt_absent fs e = record { is = absent_is fs e; among = absent_among fs e }
 
-  opt_there : (fs : Fields) {gs : Fields} → Some (Some tt, gs) ≡ opt nothing fs → opt r fs ≡ got_one (r fs)
+  pub opt_there : (fs : Fields) {gs : Fields} → Some (Some tt, gs) ≡ opt nothing fs → opt r fs ≡ got_one (r fs)
   unfolding opt
   opt_there [] e = no_some (sym e)
   opt_there (f ∷ hs) e = choose_present (eq_list f (minus ∷ [])) f hs e

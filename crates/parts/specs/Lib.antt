@@ -1,3 +1,4 @@
 pub mod Views
 pub mod Got
 pub mod Near
+pub mod Generic

@@ -3,11 +3,13 @@
 #![tactic(auto)]
 
 ghost use Rattle.std.specs.Prelude.{◌≡◌, ◌+◌, ◌<◌, ◌≤◌, [], ◌∷◌, length};
-ghost use Rattle.rules.specs.Basic.{tab, backslash, is_empty, eq_list};
+ghost use Rattle.rules.specs.Basic.{tab, backslash, is_empty, eq_list, word_in};
+ghost use Rattle.rules.specs.Words.{locks};
 ghost use Rattle.sheet.specs.Lines.{field_at};
 ghost use Rattle.sheet.specs.Runs.{Lacking};
 ghost use Rattle.parts.specs.Views.{part_of};
 ghost use Rattle.parts.specs.Near.{figure_of, end_of, NearRead};
+ghost use Rattle.parts.specs.Generic.{WordReadBy, OptReadBy};
 ghost use Rattle.parts.specs.Got.{DashAt, NumberRead, SpanRead, ContentRead, TextRead, OptTextRead, KindRead, LockRead, QuantityRead, OptQuantityRead};
 
 use sheet::ValueKind;
@@ -274,46 +276,72 @@ pub fn read_text(line: &[u8], at: usize) -> Option<(TextView, usize)>
     Some((TextView { span, content }, a2))
 }
 
-pub fn read_opt_text(line: &[u8], at: usize) -> Option<(Option<TextView>, usize)>
-    ensures { OptTextRead line.now at result }
+// An opt part: `-`, or what the part's reader finds there.
+pub fn read_opt<T, F: FnOnce(&[u8], usize) -> Option<(T, usize)>>(
+    line: &[u8],
+    at: usize,
+    read: F,
+) -> Option<(Option<T>, usize)>
+    requires { F.IsAlwaysCallable read }
+    ensures { OptReadBy F.FnOnce read line.now at result }
 {
     match opt_dash(line, at) {
         Dash::Absent(n) => Some((None, n)),
         Dash::Ill => None,
         Dash::Present => {
-            let (text, m) = read_text(line, at)?;
-            Some((Some(text), m))
+            let (v, m) = read(line, at)?;
+            Some((Some(v), m))
         }
     }
 }
 
-fn read_kind(line: &[u8], at: usize) -> Option<(ValueKind, usize)>
-    ensures { KindRead line.now at result }
+pub fn read_opt_text(line: &[u8], at: usize) -> Option<(Option<TextView>, usize)>
+    ensures { OptTextRead line.now at result }
+{
+    read_opt(line, at, read_text)
+}
+
+// A field that is one word: what the word's reader makes of it.
+pub fn read_word<T, F: FnOnce(&[u8]) -> Option<T>>(
+    line: &[u8],
+    at: usize,
+    word: F,
+) -> Option<(T, usize)>
+    requires { F.IsAlwaysCallable word }
+    ensures { WordReadBy F.FnOnce word line.now at result }
 {
     if line.len() < at {
         return None;
     }
     let f = sheet::field(line, at);
     let n = at + f.len() + 1;
-    let kind = sheet::value_kind(f)?;
-    Some((kind, n))
+    let x = word(f)?;
+    Some((x, n))
+}
+
+fn read_kind(line: &[u8], at: usize) -> Option<(ValueKind, usize)>
+    ensures { KindRead line.now at result }
+{
+    read_word(line, at, sheet::value_kind)
 }
 
 // The lock of a quantity: `l` or `-`.
+fn lock_of(f: &[u8]) -> Option<bool>
+    ensures { result ≡ word_in f.now locks }
+{
+    if sheet::same_bytes(f, b"l") {
+        return Some(true);
+    }
+    if sheet::same_bytes(f, b"-") {
+        return Some(false);
+    }
+    None
+}
+
 fn read_lock(line: &[u8], at: usize) -> Option<(bool, usize)>
     ensures { LockRead line.now at result }
 {
-    if line.len() < at {
-        return None;
-    }
-    let f = sheet::field(line, at);
-    if sheet::same_bytes(f, b"l") {
-        return Some((true, at + f.len() + 1));
-    }
-    if sheet::same_bytes(f, b"-") {
-        return Some((false, at + f.len() + 1));
-    }
-    None
+    read_word(line, at, lock_of)
 }
 
 fn read_quantity(line: &[u8], at: usize) -> Option<(QuantityView, usize)>
@@ -341,12 +369,5 @@ fn read_quantity(line: &[u8], at: usize) -> Option<(QuantityView, usize)>
 pub fn read_opt_quantity(line: &[u8], at: usize) -> Option<(Option<QuantityView>, usize)>
     ensures { OptQuantityRead line.now at result }
 {
-    match opt_dash(line, at) {
-        Dash::Absent(n) => Some((None, n)),
-        Dash::Ill => None,
-        Dash::Present => {
-            let (quantity, m) = read_quantity(line, at)?;
-            Some((Some(quantity), m))
-        }
-    }
+    read_opt(line, at, read_quantity)
 }

@@ -14,7 +14,6 @@ use Rattle.rules.specs.Finding.{parsed}
 use Rattle.rules.specs.State as state
 use Rattle.rules.specs.State.{State, set_place, set_block, set_kept, report, Step, next}
 use Rattle.rules.specs.Pass.{is_empty_section, close_section, on_section, on_component, in_step_block, is_error_event, on_inside, on_between, on_event}
-use Rattle.letters.specs.Tables.{unicode_tables}
 use Rattle.refusals.specs.declared.Reason.{Reason}
 use Rattle.refusals.specs.declared.Reason.TheVariants.{InOpenBlock, InNoBlock}
 use Rattle.content.specs.Parts.{Field}
@@ -47,8 +46,7 @@ use Rattle.timers.specs.Timed.{TimerDone}
 use Rattle.step_texts.specs.Texts.{TextDone}
 use Rattle.metadata.specs.Metas.{MetaDone}
 use Rattle.component_lines.specs.Lines.{LineHere, Kept, ComponentDone}
-use Rattle.unit_index.specs.Index.{Indexed}
-use Rattle.pass.specs.Walks.{Lent, EventHere, Running, LineDone, InStep, inside_now, InsideDone, BetweenDone, EventDone, ErrorView}
+use Rattle.pass.specs.Walks.{EventHere, Running, LineDone, InStep, inside_now, InsideDone, BetweenDone, EventDone, ErrorView}
 use Rattle.pass.proofs.Rooms.{line_short, room}
 use Rattle.parts.specs.declared.QuantityView.{QuantityView}
 
@@ -61,13 +59,11 @@ here_as {sheet} {line} {at} {end} u e z = subst (λ (x : EventView). EventHere s
 
 -- ---- components
 
-module _ {t list index sheet line w : List ℕ} {at end : ℕ} {h : Held} {c : ComponentEvent} (l : Lent t list index) (z : EventHere sheet line at end (event.Inside (inside.Component c))) (r : Running sheet w h at) where
+module _ {sheet line w : List ℕ} {at end : ℕ} {h : Held} {c : ComponentEvent} (z : EventHere sheet line at end (event.Inside (inside.Component c))) (r : Running sheet w h at) where
   pub component_ready : (d : ComponentEvent) → c ≡ d
-      → (t ≡ unicode_tables) × Indexed list index × LineHere sheet at end (rules.inside (rules.component_event (component_event_in (slice at end sheet) d))) × ComponentEventWithin (slice at end sheet) d × ComponentEventFields (slice at end sheet) d × Kept sheet w h
+      → LineHere sheet at end (rules.inside (rules.component_event (component_event_in (slice at end sheet) d))) × ComponentEventWithin (slice at end sheet) d × ComponentEventFields (slice at end sheet) d × Kept sheet w h
   unfolding event_in inside_in EventWithin InsideWithin EventFields InsideFields
   component_ready d e = (
-    l.tables,
-    l.units,
     subst (λ (x : List ℕ). LineHere sheet at end (rules.inside (rules.component_event (component_event_in x d)))) z.part (rw e at z.here),
     subst (λ (x : List ℕ). ComponentEventWithin x d) z.part (rw e at z.within),
     subst (λ (x : List ℕ). ComponentEventFields x d) z.part (rw e at z.fields),
@@ -75,12 +71,12 @@ module _ {t list index sheet line w : List ℕ} {at end : ℕ} {h : Held} {c : C
   )
 
   pub timer_ready : (s : Span) (n : Option TextView) (q : Option QuantityView) → c ≡ component.Timer s n q
-      → (t ≡ unicode_tables) × Indexed list index × OptQuantityWithin line q × Sound w h × (h.counts.findings + 2 < 1544) × (h.counts.timers < 100000) × (h.counts.items < 100000)
+      → OptQuantityWithin line q × Sound w h × (h.counts.findings + 2 < 1544) × (h.counts.timers < 100000) × (h.counts.items < 100000)
   unfolding EventWithin InsideWithin ComponentEventWithin
   timer_ready s n q e =
       let b = room z r in
       let y = rw e at z.within in
-      (l.tables, l.units, y.2, r.kept.sound, omega (arith, b.findings), omega (arith, b.timers), omega (arith, b.items))
+      (y.2, r.kept.sound, omega (arith, b.findings), omega (arith, b.timers), omega (arith, b.items))
 
 pub component_done : {us : List NamedUnit} {flags : ℕ} {sheet line part w₀ w : List ℕ} {c d : ComponentEvent} {h₀ : Held} {r : Result Held Reason} → line ≡ part → c ≡ d → ComponentDone us flags sheet part d w₀ h₀ w r → ComponentDone us flags sheet line c w₀ h₀ w r
 component_done p e k = rw (p, e) k
@@ -104,17 +100,13 @@ module _ {us : List NamedUnit} {flags : ℕ} {sheet line w₀ w : List ℕ} {e :
   unfolding inside_in in_step_block
   step_component c q p = rw q record { done = record { is = p.is; sound = p.sound; fit = p.fit } }
 
-pub text_ready : {t list index sheet line w : List ℕ} {at end : ℕ} {h : Held} {e : Inside} (v : TextView) → e ≡ inside.Text v → Lent t list index → EventHere sheet line at end (event.Inside e) → Running sheet w h at
-    → (t ≡ unicode_tables) × Indexed list index × TextWithin line v × Field (part_of line v.content) × Sound w h × (h.counts.findings < 1544) × (h.counts.items + length line < 100000) × (h.counts.inline + length line < 100000)
+pub text_ready : {sheet line w : List ℕ} {at end : ℕ} {h : Held} {e : Inside} (v : TextView) → e ≡ inside.Text v → EventHere sheet line at end (event.Inside e) → Running sheet w h at
+    → TextWithin line v × Field (part_of line v.content) × Sound w h × (h.counts.findings < 1544) × (h.counts.items + length line < 100000) × (h.counts.inline + length line < 100000)
 unfolding EventWithin InsideWithin EventFields InsideFields TextField
-text_ready v q l z r =
+text_ready v q z r =
     let b = room z r in
     let m = line_short z in
-    (l.tables, l.units, rw q at z.within, rw q at z.fields, r.kept.sound, omega (arith, b.findings), omega (arith, b.items, m), omega (arith, b.inline, m))
-
-pub component_here : {t list index sheet line w : List ℕ} {at end : ℕ} {h : Held} {e : Inside} (c : ComponentEvent) → e ≡ inside.Component c → Lent t list index → EventHere sheet line at end (event.Inside e) → Running sheet w h at
-    → Lent t list index × EventHere sheet line at end (event.Inside (inside.Component c)) × Running sheet w h at
-component_here c q l z r = (l, here_as _ (ap event.Inside q) z, r)
+    (rw q at z.within, rw q at z.fields, r.kept.sound, omega (arith, b.findings), omega (arith, b.items, m), omega (arith, b.inline, m))
 
 -- ---- lines in any block
 
@@ -194,12 +186,12 @@ meta_within k v q z = rw q at z
 
 -- ---- every line
 
-pub between_ready : {t list index sheet line w : List ℕ} {at end : ℕ} {h : Held} {v : EventView} (b : Between) → v ≡ event.Between b → Lent t list index → EventHere sheet line at end v → Running sheet w h at
-    → (t ≡ unicode_tables) × BetweenWithin line b × Sound w h × (h.counts.findings < 1544) × (h.counts.old < 100000) × (h.counts.sections < 100000)
+pub between_ready : {sheet line w : List ℕ} {at end : ℕ} {h : Held} {v : EventView} (b : Between) → v ≡ event.Between b → EventHere sheet line at end v → Running sheet w h at
+    → BetweenWithin line b × Sound w h × (h.counts.findings < 1544) × (h.counts.old < 100000) × (h.counts.sections < 100000)
 unfolding EventWithin
-between_ready b q l z r =
+between_ready b q z r =
     let m = room z r in
-    (l.tables, rw q at z.within, r.kept.sound, omega (arith, m.findings), omega (arith, m.old), omega (arith, m.sections))
+    (rw q at z.within, r.kept.sound, omega (arith, m.findings), omega (arith, m.old), omega (arith, m.sections))
 
 module _ {us : List NamedUnit} {flags : ℕ} {sheet line w₀ w : List ℕ} {v : EventView} {h₀ : Held} where
   -- 11

@@ -7,7 +7,6 @@ use Rattle.rules.specs.Finding.{Finding}
 use Rattle.rules.specs.State.{State, first_state, Step, going, refused, recipe, no_recipe, refusal}
 use Rattle.rules.specs.Pass as rules
 use Rattle.rules.specs.Pass.{is_error_event, walk, ended, finish, parse_events}
-use Rattle.letters.specs.Tables.{unicode_tables}
 use Rattle.refusals.specs.Told.{number_of}
 use Rattle.refusals.specs.declared.Reason.{Reason}
 use Rattle.refusals.specs.declared.Refusal.{Refusal}
@@ -20,15 +19,9 @@ use Rattle.model.specs.Blank.{blank, blank_step, blank_walk}
 use Rattle.model.specs.Memory.{state_in}
 use Rattle.model.specs.declared.Held.{Held}
 use Rattle.blocks.specs.Lined.{step_in, SoundStep, FitStep, Went}
-use Rattle.unit_index.specs.Index.{Indexed}
 use Rattle.component_lines.specs.Lines.{LineHere, Kept}
 
 -- ---- what every line is given
-
--- the tables, and a list of units with its index
-pub record Lent (t list index : List ℕ) : Type 0 where
-  pub tables : t ≡ unicode_tables
-  pub units : Indexed list index
 
 -- v is the view of a line of the sheet
 pub record EventHere (sheet line : List ℕ) (at end : ℕ) (v : EventView) : Type 0 where

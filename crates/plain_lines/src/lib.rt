@@ -4,7 +4,6 @@
 
 ghost use Rattle.std.specs.Prelude.{◌≡◌, true, [], ◌∷◌, ◌++◌, length};
 ghost use Rattle.rules.specs.Basic.{pick, codes, lf};
-ghost use Rattle.rules.specs.Utf8.{is_utf8};
 ghost use Rattle.rules.specs.Words.{text_kind};
 ghost use Rattle.rules.specs.Event.{start_event, end_event, text_event, component_event, between, inside};
 ghost use Rattle.rules.specs.Answer.{is_good_span};
@@ -21,6 +20,7 @@ ghost use Rattle.plain_lines.specs.Lines.{source_at, marked_as};
 use components::{ComponentView, Modifiers};
 use model::Kind;
 use parts::{QuantityView, Span, TextView};
+use utf8::Utf8;
 
 // A line as it stands in the sheet, and its LF.
 pub fn copied_line(rest: &mut [u8], line: &[u8]) -> usize
@@ -54,16 +54,16 @@ fn put_span(out: &mut [u8], at: usize, s: Span) -> usize
 }
 
 // The `text` line of a span and its source.
-pub fn source_line(rest: &mut [u8], text: &[u8], span: Span) -> usize
-    requires { (is_utf8 text.now ≡ true) × (is_good_span text.now (length text.now) (span_in span) ≡ true) }
-    ensures { Put (write_line (inside (text_event (source_at text.now (span_in span))))) rest.old 0 rest.new result }
+pub fn source_line(rest: &mut [u8], text: &Utf8, span: Span) -> usize
+    requires { is_good_span text.now.bytes.now (length text.now.bytes.now) (span_in span) ≡ true }
+    ensures { Put (write_line (inside (text_event (source_at text.now.bytes.now (span_in span))))) rest.old 0 rest.new result }
 {
     let from = span.start as usize;
     let to = span.end as usize;
     let a = output::put_bytes(rest, 0, b"text");
     let b = put_span(rest, a, span);
     let c = output::put_byte(rest, b, b'\t');
-    let d = output::put_escaped(rest, c, &text[from..to]);
+    let d = output::put_escaped(rest, c, &text.bytes[from..to]);
     output::put_byte(rest, d, b'\n')
 }
 

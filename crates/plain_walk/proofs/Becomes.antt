@@ -114,26 +114,26 @@ module _ (flags : ℕ) (line : List ℕ) (f : Follow) {b : Between} where
 
 -- the row of an ingredient or of cookware is in its window
 module _ (w : List ℕ) (f : Follow) (l : 24157 ≤ length w) (z : Few f) where
-  pub ingredient_room : {n : ℕ} → n ≡ f.ingredients → (n < 513) × (n * 12 + 12 ≤ length (take 6156 (drop 0 w)))
-  ingredient_room e =
+  pub ingredient_room : (f.ingredients < 513) × (f.ingredients * 12 + 12 ≤ length (take 6156 (drop 0 w)))
+  ingredient_room =
       let d : length (drop 0 w) ≡ length w - 0 = length-drop 0 w in
       let k : length (take 6156 (drop 0 w)) ≡ 6156 = length-take-le 6156 (drop 0 w) (omega (arith, d, l)) in
-      (omega (arith, e, z.ingredients), omega (arith, e, z.ingredients, k))
+      (omega (arith, z.ingredients), omega (arith, z.ingredients, k))
 
-  pub cookware_room : {n : ℕ} → n ≡ f.cookware → (n < 513) × (n * 12 + 12 ≤ length (take 3084 (drop 6156 w)))
-  cookware_room e =
+  pub cookware_room : (f.cookware < 513) × (f.cookware * 12 + 12 ≤ length (take 3084 (drop 6156 w)))
+  cookware_room =
       let d : length (drop 6156 w) ≡ length w - 6156 = length-drop 6156 w in
       let k : length (take 3084 (drop 6156 w)) ≡ 3084 = length-take-le 3084 (drop 6156 w) (omega (arith, d, l)) in
-      (omega (arith, e, z.cookware), omega (arith, e, z.cookware, k))
+      (omega (arith, z.cookware), omega (arith, z.cookware, k))
 
 module _ (w : List ℕ) (f : Follow) {c : ComponentEvent} where
   component_as_lem : (y : ComponentEvent) {r : Plain} → c ≡ y → ComponentTold w y f r → ComponentTold w c f r
   component_as_lem y {r} q g = subst (λ (x : ComponentEvent). ComponentTold w x f r) (sym q) g
 
-  module _ (v : ComponentView) (i : Option Intermediate) {n : ℕ} {to : Option ℕ} (q : c ≡ component.Ingredient v i) (e : n ≡ f.ingredients) (g : ImplicitFound (take 6156 (drop 0 w)) v.modifiers.reference n to) where
+  module _ (v : ComponentView) (i : Option Intermediate) {to : Option ℕ} (q : c ≡ component.Ingredient v i) (g : ImplicitFound (take 6156 (drop 0 w)) v.modifiers.reference f.ingredients to) where
     ingredient_found : (line : List ℕ) → implicit_in w ingredient (views.component_in line v) f.ingredients ≡ to
     unfolding implicit_in views.component_in views.modifiers_in windows_of
-    ingredient_found line = sym (rw e at g.is)
+    ingredient_found line = sym g.is
 
     pub ingredient_kept : to ≡ None → ComponentTold w c f Copied
     unfolding plain_as component_event_in component_plain PlainFit
@@ -147,10 +147,10 @@ module _ (w : List ℕ) (f : Follow) {c : ComponentEvent} where
         component_as_lem (component.Ingredient v i) q
         (record { at = λ text line. sym (ap (λ (o : Option ℕ). rules.inside (rules.component_event (ingredient_plain (views.component_in line v) (views.opt_intermediate_in i) o)) ∷ []) (ingredient_found line ∙ t) ∙ unfold ingredient_plain in refl); fit = λ text line z. z })
 
-  module _ (v : ComponentView) {n : ℕ} {to : Option ℕ} (q : c ≡ component.Cookware v) (e : n ≡ f.cookware) (g : ImplicitFound (take 3084 (drop 6156 w)) v.modifiers.reference n to) where
+  module _ (v : ComponentView) {to : Option ℕ} (q : c ≡ component.Cookware v) (g : ImplicitFound (take 3084 (drop 6156 w)) v.modifiers.reference f.cookware to) where
     cookware_found : (line : List ℕ) → implicit_in w cookware (views.component_in line v) f.cookware ≡ to
     unfolding implicit_in views.component_in views.modifiers_in windows_of
-    cookware_found line = sym (rw e at g.is)
+    cookware_found line = sym g.is
 
     pub cookware_kept : to ≡ None → ComponentTold w c f Copied
     unfolding plain_as component_event_in component_plain PlainFit

@@ -36,27 +36,27 @@ use Rattle.sheet.specs.Words.{define_of}
 -- ---- 23 of a component in a step
 
 module _ (sheet w : List ℕ) (f : Follow) {c : ComponentEvent} where
-  pub ready_ingredient : (v : ComponentView) (i : Option Intermediate) → c ≡ component.Ingredient v i → ComponentReady sheet w c f → {n : ℕ} → n ≡ f.ingredients → RowNamed sheet (take 6156 (drop 0 w)) n
+  pub ready_ingredient : (v : ComponentView) (i : Option Intermediate) → c ≡ component.Ingredient v i → ComponentReady sheet w c f → RowNamed sheet (take 6156 (drop 0 w)) f.ingredients
   unfolding ComponentReady windows_of
-  ready_ingredient v i q z e = rw e (subst (λ (x : ComponentEvent). ComponentReady sheet w x f) q z)
+  ready_ingredient v i q z = subst (λ (x : ComponentEvent). ComponentReady sheet w x f) q z
 
-  pub ready_cookware : (v : ComponentView) → c ≡ component.Cookware v → ComponentReady sheet w c f → {n : ℕ} → n ≡ f.cookware → RowNamed sheet (take 3084 (drop 6156 w)) n
+  pub ready_cookware : (v : ComponentView) → c ≡ component.Cookware v → ComponentReady sheet w c f → RowNamed sheet (take 3084 (drop 6156 w)) f.cookware
   unfolding ComponentReady windows_of
-  ready_cookware v q z e = rw e (subst (λ (x : ComponentEvent). ComponentReady sheet w x f) q z)
+  ready_cookware v q z = subst (λ (x : ComponentEvent). ComponentReady sheet w x f) q z
 
   -- a component that is y
   step_as : (y : ComponentEvent) {r : Result (Unit {0}) Reason} → c ≡ y → ((line : List ℕ) → number_told r ≡ mark_fault_in w sheet (component_event_in line y) f) → StepFault sheet w c f r
   step_as y q g = record { at = λ line. g line ∙ ap (λ (x : ComponentEvent). mark_fault_in w sheet (component_event_in line x) f) (sym q) }
 
-  pub fault_ingredient : (v : ComponentView) (i : Option Intermediate) {n : ℕ} {r : Result (Unit {0}) Reason} → c ≡ component.Ingredient v i → n ≡ f.ingredients
-      → RowFault sheet (take 6156 (drop 0 w)) n (implicit_row (take 6156 (drop 0 w)) v.modifiers.reference n) r → StepFault sheet w c f r
+  pub fault_ingredient : (v : ComponentView) (i : Option Intermediate) {r : Result (Unit {0}) Reason} → c ≡ component.Ingredient v i
+      → RowFault sheet (take 6156 (drop 0 w)) f.ingredients (implicit_row (take 6156 (drop 0 w)) v.modifiers.reference f.ingredients) r → StepFault sheet w c f r
   unfolding component_event_in mark_fault_in kind_fault implicit_in views.component_in views.modifiers_in windows_of
-  fault_ingredient v i q e g = step_as (component.Ingredient v i) q (λ line. rw e at g.is)
+  fault_ingredient v i q g = step_as (component.Ingredient v i) q (λ line. g.is)
 
-  pub fault_cookware : (v : ComponentView) {n : ℕ} {r : Result (Unit {0}) Reason} → c ≡ component.Cookware v → n ≡ f.cookware
-      → RowFault sheet (take 3084 (drop 6156 w)) n (implicit_row (take 3084 (drop 6156 w)) v.modifiers.reference n) r → StepFault sheet w c f r
+  pub fault_cookware : (v : ComponentView) {r : Result (Unit {0}) Reason} → c ≡ component.Cookware v
+      → RowFault sheet (take 3084 (drop 6156 w)) f.cookware (implicit_row (take 3084 (drop 6156 w)) v.modifiers.reference f.cookware) r → StepFault sheet w c f r
   unfolding component_event_in mark_fault_in kind_fault implicit_in views.component_in views.modifiers_in windows_of
-  fault_cookware v q e g = step_as (component.Cookware v) q (λ line. rw e at g.is)
+  fault_cookware v q g = step_as (component.Cookware v) q (λ line. g.is)
 
   pub fault_timer : (s : Span) (n : Option TextView) (a : Option QuantityView) → c ≡ component.Timer s n a → StepFault sheet w c f (Ok tt)
   unfolding component_event_in mark_fault_in

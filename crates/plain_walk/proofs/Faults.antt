@@ -49,9 +49,9 @@ module _ {rows : List ℕ} {n : ℕ} {ref : Bool} where
   implicit_marked e = record { is = rw e }
 
   module _ (e : ref ≡ false) where
-    pub implicit_at_lem : get_or rows (n * 12 + 9) 0 ≡ 1 → {i : ℕ} → i ≡ get_or rows (n * 12 + 10) 0 → ImplicitFound rows ref n (Some i)
+    pub implicit_at_lem : get_or rows (n * 12 + 9) 0 ≡ 1 → ImplicitFound rows ref n (Some (get_or rows (n * 12 + 10) 0))
     unfolding implicit_row
-    implicit_at_lem q {i} k = record { is = rw e (sym (refers_words rows n ∙ (refers_one (get_or rows (n * 12 + 9) 0) (get_or rows (n * 12 + 10) 0) q ∙ ap Some (sym k)))) }
+    implicit_at_lem q = record { is = rw e (sym (refers_words rows n ∙ refers_one (get_or rows (n * 12 + 9) 0) (get_or rows (n * 12 + 10) 0) q)) }
 
     pub implicit_none : (get_or rows (n * 12 + 9) 0 ≡ 1 → ⊥) → ImplicitFound rows ref n None
     unfolding implicit_row
@@ -59,7 +59,13 @@ module _ {rows : List ℕ} {n : ℕ} {ref : Bool} where
 
 -- ---- the last of its name
 
-module _ {sheet rows : List ℕ} {n : ℕ} (z : RowNamed sheet rows n) {a e : ℕ} (ea : a ≡ get_or rows (n * 12 + 2) 0) (ee : e ≡ get_or rows (n * 12 + 3) 0) where
+module _ {sheet rows : List ℕ} {n : ℕ} (z : RowNamed sheet rows n) where
+  abbrev a : ℕ
+  a = get_or rows (n * 12 + 2) 0
+
+  abbrev e : ℕ
+  e = get_or rows (n * 12 + 3) 0
+
   pub last_part_lem : (a ≤ e) × (e ≤ length sheet)
   last_part_lem =
       let p = name_order sheet rows n (z.names.at n (omega arith)) in
@@ -67,7 +73,7 @@ module _ {sheet rows : List ℕ} {n : ℕ} (z : RowNamed sheet rows n) {a e : �
       (omega (arith, p), omega (arith, q))
 
   last_name : take (e - a) (drop a sheet) ≡ name_part sheet (row_of (row_at 12 rows n))
-  last_name = part_slice a e sheet last_part_lem.0 ∙ rw (row_name_at rows n, row_name_end rows n, ea, ee)
+  last_name = part_slice a e sheet last_part_lem.0 ∙ rw (row_name_at rows n, row_name_end rows n)
 
   last_fault : (r : Option ℕ) (d : ℕ) (o : Option ℕ) {m : Result (Unit {0}) Reason} → r ≡ same_row sheet (fold_name (kept_in (take (e - a) (drop a sheet)))) true false rows n → r ≡ o
       → number_told m ≡ fault_as (Some d) o → RowFault sheet rows n (Some d) m

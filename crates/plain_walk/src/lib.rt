@@ -4,10 +4,9 @@
 ghost use Rattle.std.specs.Prelude.{◌≡◌, true, ◌&&◌, ◌+◌, ◌*◌, ◌≤◌, ◌<◌, length, Some};
 ghost use Rattle.rules.specs.Utf8.{is_utf8};
 ghost use Rattle.rules.specs.Units.{read_units};
-ghost use Rattle.rules.specs.Answer.{units_or, events_or, read_sheet, events};
+ghost use Rattle.rules.specs.Answer.{units_or};
 ghost use Rattle.rules.specs.Modes.{has_modes, key_of, key_text};
 ghost use Rattle.rules.specs.Plain.{is_mode_key};
-ghost use Rattle.letters.specs.Tables.{unicode_tables};
 ghost use Rattle.parts.specs.Views.{text_in, TextWithin};
 ghost use Rattle.events.specs.declared.EventView.TheVariants as event;
 ghost use Rattle.events.specs.Views.{BetweenWithin, EventWithin};
@@ -22,14 +21,10 @@ use events::{Between, ComponentEvent, EventView, Inside};
 use following::Follow;
 use model::{Held, Kind, Open};
 use parts::{Span, TextView};
+use reading::ReadSheet;
 use refusals::{Reason, Refusal};
 use sheet::BlockKind;
-
-fn wide(x: u32) -> usize
-    ensures { result ≡ x }
-{
-    x as usize
-}
+use utf8::Utf8;
 
 // ---- references without REF
 
@@ -43,20 +38,20 @@ fn implicit_row(rows: &[u32], n: usize, reference: bool) -> Option<usize>
     }
     let at = n * 12;
     if rows[at + 9] == 1 {
-        return Some(wide(rows[at + 10]));
+        return Some(rows[at + 10] as usize);
     }
     None
 }
 
 // 23, where row n refers to the row d without REF.
-fn check_last(t: &[u32], sheet: &[u8], rows: &[u32], n: usize, d: usize) -> Result<(), Reason>
-    requires { (t.now ≡ unicode_tables) × RowNamed sheet.now rows.now n }
+fn check_last(sheet: &[u8], rows: &[u32], n: usize, d: usize) -> Result<(), Reason>
+    requires { RowNamed sheet.now rows.now n }
     ensures { RowFault sheet.now rows.now n (Some d) result }
 {
     let at = n * 12;
-    let a = wide(rows[at + 2]);
-    let e = wide(rows[at + 3]);
-    match lookup::same_name_before(t, sheet, rows, n, &sheet[a..e], true, false) {
+    let a = rows[at + 2] as usize;
+    let e = rows[at + 3] as usize;
+    match lookup::same_name_before(sheet, rows, n, &sheet[a..e], true, false) {
         None => Err(Reason::NotLast),
         Some(l) => {
             if l == d {
@@ -68,45 +63,39 @@ fn check_last(t: &[u32], sheet: &[u8], rows: &[u32], n: usize, d: usize) -> Resu
 }
 
 // 23 of the line of row n.
-fn check_row(t: &[u32], sheet: &[u8], rows: &[u32], n: usize, reference: bool) -> Result<(), Reason>
-    requires { (t.now ≡ unicode_tables) × RowNamed sheet.now rows.now n }
+fn check_row(sheet: &[u8], rows: &[u32], n: usize, reference: bool) -> Result<(), Reason>
+    requires { RowNamed sheet.now rows.now n }
     ensures { RowFault sheet.now rows.now n (implicit_row rows.now reference n) result }
 {
     match implicit_row(rows, n, reference) {
         None => Ok(()),
-        Some(d) => check_last(t, sheet, rows, n, d),
+        Some(d) => check_last(sheet, rows, n, d),
     }
 }
 
 // 23 of a component in a step.
-fn check_mark(
-    t: &[u32],
-    sheet: &[u8],
-    words: &[u32],
-    c: ComponentEvent,
-    f: Follow,
-) -> Result<(), Reason>
-    requires { (t.now ≡ unicode_tables) × (24157 ≤ length words.now) × ComponentReady sheet.now words.now c f }
+fn check_mark(sheet: &[u8], words: &[u32], c: ComponentEvent, f: Follow) -> Result<(), Reason>
+    requires { (24157 ≤ length words.now) × ComponentReady sheet.now words.now c f }
     ensures { StepFault sheet.now words.now c f result }
 {
     match c {
         ComponentEvent::Ingredient(v, i) => {
-            let n = wide(f.ingredients);
+            let n = f.ingredients as usize;
             let m = v.modifiers;
-            check_row(t, sheet, &words[0..6156], n, m.reference)
+            check_row(sheet, &words[0..6156], n, m.reference)
         }
         ComponentEvent::Cookware(v) => {
-            let n = wide(f.cookware);
+            let n = f.cookware as usize;
             let m = v.modifiers;
-            check_row(t, sheet, &words[6156..9240], n, m.reference)
+            check_row(sheet, &words[6156..9240], n, m.reference)
         }
         ComponentEvent::Timer(s, n, q) => Ok(()),
     }
 }
 
 // 22 or 23 of a line in a block.
-fn check_inside(t: &[u32], sheet: &[u8], words: &[u32], i: Inside, f: Follow) -> Result<(), Reason>
-    requires { (t.now ≡ unicode_tables) × (24157 ≤ length words.now) × InsideReady sheet.now words.now i f }
+fn check_inside(sheet: &[u8], words: &[u32], i: Inside, f: Follow) -> Result<(), Reason>
+    requires { (24157 ≤ length words.now) × InsideReady sheet.now words.now i f }
     ensures { LineFault sheet.now words.now (event.Inside i) f result }
 {
     match i {
@@ -121,7 +110,7 @@ fn check_inside(t: &[u32], sheet: &[u8], words: &[u32], i: Inside, f: Follow) ->
                     if blocks::is_components(define) {
                         return Err(Reason::InComponentsMode);
                     }
-                    check_mark(t, sheet, words, c, f)
+                    check_mark(sheet, words, c, f)
                 }
                 Open::Text => Ok(()),
                 Open::TextMode => Ok(()),
@@ -131,19 +120,13 @@ fn check_inside(t: &[u32], sheet: &[u8], words: &[u32], i: Inside, f: Follow) ->
 }
 
 // 22 or 23 of any line.
-fn check_marks(
-    t: &[u32],
-    sheet: &[u8],
-    words: &[u32],
-    e: EventView,
-    f: Follow,
-) -> Result<(), Reason>
-    requires { (t.now ≡ unicode_tables) × (24157 ≤ length words.now) × EventReady sheet.now words.now e f }
+fn check_marks(sheet: &[u8], words: &[u32], e: EventView, f: Follow) -> Result<(), Reason>
+    requires { (24157 ≤ length words.now) × EventReady sheet.now words.now e f }
     ensures { LineFault sheet.now words.now e f result }
 {
     match e {
         EventView::Between(b) => Ok(()),
-        EventView::Inside(i) => check_inside(t, sheet, words, i, f),
+        EventView::Inside(i) => check_inside(sheet, words, i, f),
         EventView::Finding(s, n) => Ok(()),
     }
 }
@@ -163,13 +146,13 @@ pub enum Plain {
 }
 
 // Whether a `meta` line sets a mode, or would.
-fn is_mode_line(t: &[u32], flags: u32, line: &[u8], key: TextView) -> bool
-    requires { (t.now ≡ unicode_tables) × TextWithin line.now key }
+fn is_mode_line(flags: u32, line: &[u8], key: TextView) -> bool
+    requires { TextWithin line.now key }
     ensures { result ≡ (has_modes flags && is_mode_key (key_of (key_text (text_in line.now key)))) }
 {
     let kp = key.content;
     let k = parts::part_of(line, kp);
-    config_keys::is_heeded(t, flags, k)
+    config_keys::is_heeded(flags, k)
 }
 
 fn start_plain(kind: BlockKind, f: Follow) -> Plain
@@ -190,13 +173,13 @@ fn start_plain(kind: BlockKind, f: Follow) -> Plain
     }
 }
 
-fn between_plain(t: &[u32], flags: u32, line: &[u8], b: Between, f: Follow) -> Plain
-    requires { (t.now ≡ unicode_tables) × BetweenWithin line.now b }
+fn between_plain(flags: u32, line: &[u8], b: Between, f: Follow) -> Plain
+    requires { BetweenWithin line.now b }
     ensures { BetweenTold flags line.now b f result }
 {
     match b {
         Between::Meta(key, value) => {
-            if is_mode_line(t, flags, line, key) {
+            if is_mode_line(flags, line, key) {
                 return Plain::Dropped;
             }
             Plain::Copied
@@ -213,7 +196,7 @@ fn component_plain(words: &[u32], c: ComponentEvent, f: Follow) -> Plain
 {
     match c {
         ComponentEvent::Ingredient(v, i) => {
-            let n = wide(f.ingredients);
+            let n = f.ingredients as usize;
             let m = v.modifiers;
             match implicit_row(&words[0..6156], n, m.reference) {
                 None => Plain::Copied,
@@ -221,7 +204,7 @@ fn component_plain(words: &[u32], c: ComponentEvent, f: Follow) -> Plain
             }
         }
         ComponentEvent::Cookware(v) => {
-            let n = wide(f.cookware);
+            let n = f.cookware as usize;
             let m = v.modifiers;
             match implicit_row(&words[6156..9240], n, m.reference) {
                 None => Plain::Copied,
@@ -272,12 +255,12 @@ fn inside_plain(words: &[u32], i: Inside, f: Follow) -> Plain
     }
 }
 
-fn plain_of(t: &[u32], flags: u32, line: &[u8], words: &[u32], e: EventView, f: Follow) -> Plain
-    requires { (t.now ≡ unicode_tables) × EventWithin line.now e × (24157 ≤ length words.now) × Few f }
+fn plain_of(flags: u32, line: &[u8], words: &[u32], e: EventView, f: Follow) -> Plain
+    requires { EventWithin line.now e × (24157 ≤ length words.now) × Few f }
     ensures { EventTold flags words.now line.now e f result }
 {
     match e {
-        EventView::Between(b) => between_plain(t, flags, line, b, f),
+        EventView::Between(b) => between_plain(flags, line, b, f),
         EventView::Inside(i) => inside_plain(words, i, f),
         EventView::Finding(s, n) => Plain::Copied,
     }
@@ -285,9 +268,9 @@ fn plain_of(t: &[u32], flags: u32, line: &[u8], words: &[u32], e: EventView, f: 
 
 // ---- its bytes
 
-fn plain_line(rest: &mut [u8], text: &[u8], line: &[u8], p: Plain) -> usize
-    requires { (is_utf8 text.now ≡ true) × PlainFit text.now line.now p }
-    ensures { PlainWritten text.now line.now p rest.old 0 rest.new result }
+fn plain_line(rest: &mut [u8], text: &Utf8, line: &[u8], p: Plain) -> usize
+    requires { PlainFit text.now.bytes.now line.now p }
+    ensures { PlainWritten text.now.bytes.now line.now p rest.old 0 rest.new result }
 {
     match p {
         Plain::Dropped => 0,
@@ -299,9 +282,9 @@ fn plain_line(rest: &mut [u8], text: &[u8], line: &[u8], p: Plain) -> usize
     }
 }
 
-fn put_plain(out: &mut [u8], at: usize, text: &[u8], line: &[u8], p: Plain) -> usize
-    requires { (is_utf8 text.now ≡ true) × PlainFit text.now line.now p }
-    ensures { PlainWritten text.now line.now p out.old at out.new result }
+fn put_plain(out: &mut [u8], at: usize, text: &Utf8, line: &[u8], p: Plain) -> usize
+    requires { PlainFit text.now.bytes.now line.now p }
+    ensures { PlainWritten text.now.bytes.now line.now p out.old at out.new result }
 {
     if out.len() < at {
         return out.len() + 1;
@@ -313,37 +296,36 @@ fn put_plain(out: &mut [u8], at: usize, text: &[u8], line: &[u8], p: Plain) -> u
 
 // The plain form of a sheet that the pass accepted, written in `out`; `words` and `h` are what the pass left.
 pub fn plain_form_lines(
-    t: &[u32],
-    sheet: &[u8],
-    text: &[u8],
+    sheet: &ReadSheet,
     units: &[u8],
     flags: u32,
     words: &[u32],
     h: Held,
     out: &mut [u8],
 ) -> Result<usize, Refusal>
-    requires { (t.now ≡ unicode_tables) × (length sheet.now ≤ 65536) × (is_utf8 text.now ≡ true) × (read_sheet text.now sheet.now ≡ events (events_or (read_sheet text.now sheet.now))) × PassDone text.now (units_or (read_units units.now)) flags sheet.now words.now h }
-    ensures { FormWritten text.now (units_or (read_units units.now)) flags sheet.now out.old out.new result }
+    requires { (length sheet.now.bytes.now ≤ 65536) × (is_utf8 sheet.now.text.now ≡ true) × PassDone sheet.now.text.now (units_or (read_units units.now)) flags sheet.now.bytes.now words.now h }
+    ensures { FormWritten sheet.now.text.now (units_or (read_units units.now)) flags sheet.now.bytes.now out.old out.new result }
 {
+    let text = Utf8 { bytes: sheet.text };
     let mut f = following::first_follow();
     let mut at = 0;
     let mut number: u32 = 1;
     let mut n = 0;
-    while at < sheet.len() {
-        let Some(end) = sheet::line_end(sheet, at) else {
+    while at < sheet.bytes.len() {
+        let Some(end) = sheet::line_end(sheet.bytes, at) else {
             return Ok(0);
         };
-        let line = &sheet[at..end];
+        let line = &sheet.bytes[at..end];
         let e = known_events::event_of(line);
-        if let Err(reason) = check_marks(t, sheet, words, e, f) {
+        if let Err(reason) = check_marks(sheet.bytes, words, e, f) {
             return Err(Refusal {
                 reason,
                 line: number,
             });
         }
-        let p = plain_of(t, flags, line, words, e, f);
-        n = put_plain(out, n, text, line, p);
-        f = following::follow_event(t, flags, line, e, f, 0);
+        let p = plain_of(flags, line, words, e, f);
+        n = put_plain(out, n, &text, line, p);
+        f = following::follow_event(flags, line, e, f, 0);
         at = end + 1;
         number += 1;
     }

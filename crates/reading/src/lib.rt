@@ -2,11 +2,20 @@
 #![tactic(auto)]
 
 ghost use Rattle.std.specs.Prelude.{◌≡◌, length};
+ghost use Rattle.rules.specs.Answer.{events, read_sheet, events_or};
 ghost use Rattle.reading.specs.Answers.{leads_with, WordRead, ended_as, EventOf, LineOf, LineChecked, SheetChecked};
 
 use events::EventView;
 use refusals::{Reason, Refusal};
 use sheet::EventWord;
+
+// A sheet in which every line is an event, its spans in the text beside it.
+#[derive(Clone, Copy)]
+pub struct ReadSheet<'a> {
+    pub bytes: &'a [u8],
+    pub text: &'a [u8],
+    ghost read: { read_sheet text.now bytes.now ≡ events (events_or (read_sheet text.now bytes.now)) },
+}
 
 // The event that was read, if the line ends with it.
 fn ended(line: &[u8], g: Option<(events::EventView, usize)>) -> Option<EventView>

@@ -19,14 +19,13 @@ use Rattle.rules.specs.Answer.{declined, Lent, bytes_needed, events, events_or, 
 use Rattle.rules.proofs.Basics.{by_order}
 use Rattle.rules.proofs.Collected.{Begins, collected_is}
 use Rattle.rules.proofs.Kept.{form_reads}
-use Rattle.letters.specs.Tables.{unicode_tables}
 use Rattle.refusals.specs.Told.{number_of}
 use Rattle.refusals.specs.declared.Reason.TheVariants.{OverLimits, ErrorLine, LongForm}
 use Rattle.refusals.specs.declared.Refusal.{Refusal}
 use Rattle.refusals.proofs.Told.{same_reason}
 use Rattle.output.specs.Put.{Put}
 use Rattle.output.proofs.Puts.{keeps, put_room, put_fit, put_fits}
-use Rattle.inputs.specs.Inputs.{InputsChecked, GoodInputs}
+use Rattle.inputs.specs.Inputs.{lent, InputsChecked, GoodInputs}
 use Rattle.inputs.proofs.Answers.{told_refused, refused_plain, good_plain}
 use Rattle.model.specs.declared.Held.{Held}
 use Rattle.pass.specs.Walks.{RanRecipe, RanFailed, RanBy, RanAs}
@@ -34,7 +33,7 @@ use Rattle.page.specs.Pages.{RecipeGiven}
 use Rattle.component_lines.proofs.Rooms.{limits_roomy}
 use Rattle.plain_walk.specs.Walk.{PassDone, FormWritten}
 use Rattle.plain_walk.proofs.Results.{form_declined, form_answered, form_put}
-use Rattle.recipe.specs.Answers.{page_or20, lengths, Given, Answered}
+use Rattle.recipe.specs.Answers.{lends, page_or20, Answered}
 use Rattle.recipe.specs.Forms.{tells17, form_given}
 use Rattle.recipe.proofs.Pages.{refused_as, Handed, page_handed}
 
@@ -66,10 +65,10 @@ tells_gives text us flags sheet es w (Ok None) p = sym (ap gives17 p.is)
 tells_gives text us flags sheet es w (Err f) p = sym (ap gives17 p)
 
 -- ---- a form that is not too long
-module _ {t form text units index : List ℕ} {flags : ℕ} {m : Lent} (g : Given t form text units index flags m) {w₀ w : List ℕ} {a : Result (Option Held) Refusal}
+module _ {form text units : List ℕ} {flags words bytes : ℕ} (g : GoodInputs form text units flags words bytes) {w₀ w : List ℕ} {a : Result (Option Held) Refusal}
     (p : RanAs (units_or (read_units units)) flags form text (events_or (read_sheet text form)) w₀ w a) {b : Bool} (e : b ≡ tells17 a) where
   again : (ltb 65536 (length form) || gives17 (collection form text units flags)) ≡ b
-  again = rw (le-ltb 65536 (length form) g.inputs.sheet_short) (ap gives17 g.inputs.collects ∙ sym (tells_gives text (units_or (read_units units)) flags form (events_or (read_sheet text form)) w a p.is) ∙ sym e)
+  again = rw (le-ltb 65536 (length form) g.sheet_short) (ap gives17 g.collects ∙ sym (tells_gives text (units_or (read_units units)) flags form (events_or (read_sheet text form)) w a p.is) ∙ sym e)
 
   pub form_over : {room : ℕ} (o : List ℕ) → length o ≡ room → b ≡ true → Answered (form_answer text units flags room form) room o (Err (record { reason = LongForm; line = 0 }))
   unfolding form_answer
@@ -83,7 +82,7 @@ module _ {t form text units index : List ℕ} {flags : ℕ} {m : Lent} (g : Give
       record { is = rw (again ∙ q) h.is; fits = h.fits; long = h.long }
 
 -- ---- the form as it is written to work memory
-module _ {t sheet text units index : List ℕ} {flags : ℕ} {w : List ℕ} {h : Held} (g : RecipeGiven t sheet text units index flags w h) where
+module _ {sheet text units : List ℕ} {flags : ℕ} {w : List ℕ} {h : Held} (g : RecipeGiven sheet text units flags w h) where
   abbrev us : List NamedUnit
   us = units_or (read_units units)
 
@@ -93,15 +92,13 @@ module _ {t sheet text units index : List ℕ} {flags : ℕ} {w : List ℕ} {h :
   abbrev form : List ℕ
   form = sheet_of (plain_events text us flags ts)
 
-  pub lines_given : (t ≡ unicode_tables) × (length sheet ≤ 65536) × (is_utf8 text ≡ true) × (read_sheet text sheet ≡ events (events_or (read_sheet text sheet)))
+  pub lines_given : (length sheet ≤ 65536) × (is_utf8 text ≡ true)
       × PassDone text us flags sheet w h
   lines_given =
       let k = g.ran.kept in
       let c = (limits_roomy sheet w h k.limits).0 in (
-        g.tables,
         g.inputs.sheet_short,
         g.inputs.text_utf8,
-        g.inputs.sheet_read,
         record {
           final = g.ran.state;
           walked = g.ran.walked;
@@ -186,10 +183,10 @@ module _ {t sheet text units index : List ℕ} {flags : ℕ} {w : List ℕ} {h :
         pub form_within : (s : List ℕ) → n ≤ length (b ++ s)
         form_within s = omega (arith, length-append b s, keeps put)
 
-        pub form_given_lem : (s o : List ℕ) → Given t (take (n - 0) (b ++ s)) text units index flags (lengths w bytes_needed o)
-        form_given_lem s o =
-            subst (λ (x : List ℕ). Given t x text units index flags (lengths w bytes_needed o)) (sym (part s))
-            (record { tables = g.tables; inputs = form_good (omega (arith, ends)); indexed = g.indexed })
+        pub form_given_lem : (s : List ℕ) → GoodInputs (take (n - 0) (b ++ s)) text units flags (length w) bytes_needed
+        form_given_lem s =
+            subst (λ (x : List ℕ). GoodInputs x text units flags (length w) bytes_needed) (sym (part s))
+            (form_good (omega (arith, ends)))
 
         pub form_told : (s : List ℕ) {room : ℕ} {o : List ℕ} {r : Result ℕ Refusal} → Answered (form_answer text units flags room (take (n - 0) (b ++ s))) room o r
             → Answered (form_given sheet text units flags room) room o r
@@ -197,33 +194,33 @@ module _ {t sheet text units index : List ℕ} {flags : ℕ} {w : List ℕ} {h :
             record { is = d.is ∙ ap (form_answer text units flags room) (part s) ∙ sym (no_fault room); fits = d.fits; long = d.long }
 
 -- ---- after the pass
-module _ {t sheet text units index : List ℕ} {flags : ℕ} {m : Lent} (g : Given t sheet text units index flags m) where
-  pub bytes_lent : 65536 ≤ m.bytes
+module _ {sheet text units : List ℕ} {flags words bytes : ℕ} (g : GoodInputs sheet text units flags words bytes) where
+  pub bytes_lent : 65536 ≤ bytes
   unfolding bytes_needed
-  bytes_lent = g.inputs.bytes_enough
+  bytes_lent = g.bytes_enough
 
-  formed_on : {x : Outcome} → parse_events text (units_or (read_units units)) flags (events_or (read_sheet text sheet)) ≡ x
-      → plain_answer sheet text units flags m ≡ plain_of text units (units_or (read_units units)) flags m.room (events_or (read_sheet text sheet)) x
-  formed_on e = good_plain sheet text units flags m g.inputs ∙ ap (plain_of text units (units_or (read_units units)) flags m.room (events_or (read_sheet text sheet))) e
+  formed_on : (room : ℕ) {x : Outcome} → parse_events text (units_or (read_units units)) flags (events_or (read_sheet text sheet)) ≡ x
+      → plain_answer sheet text units flags (lends (lent words bytes) room) ≡ plain_of text units (units_or (read_units units)) flags room (events_or (read_sheet text sheet)) x
+  formed_on room e = good_plain sheet text units flags (lends (lent words bytes) room) g ∙ ap (plain_of text units (units_or (read_units units)) flags room (events_or (read_sheet text sheet))) e
 
   module _ {w₀ w : List ℕ} {a : Result (Option Held) Refusal}
       (p : RanAs (units_or (read_units units)) flags sheet text (events_or (read_sheet text sheet)) w₀ w a) where
-    pub recipe_formed : {h : Held} {o : List ℕ} {r : Result ℕ Refusal} → a ≡ Ok (Some h) → Answered (form_given sheet text units flags m.room) m.room o r
-        → Answered (plain_answer sheet text units flags m) m.room o r
+    pub recipe_formed : {room : ℕ} {h : Held} {o : List ℕ} {r : Result ℕ Refusal} → a ≡ Ok (Some h) → Answered (form_given sheet text units flags room) room o r
+        → Answered (plain_answer sheet text units flags (lends (lent words bytes) room)) room o r
     unfolding RanBy form_given plain_of
-    recipe_formed {h} q d =
+    recipe_formed {h = h} q d =
         let x : RanRecipe text (units_or (read_units units)) flags sheet (events_or (read_sheet text sheet)) w h = (rw q at p).is in
-        record { is = d.is ∙ sym (formed_on x.is); fits = d.fits; long = d.long }
+        record { is = d.is ∙ sym (formed_on _ x.is); fits = d.fits; long = d.long }
 
-    pub failed_formed : {l : ℕ} (o : List ℕ) → length o ≡ m.room → a ≡ Ok None → l ≡ error_line 1 (events_or (read_sheet text sheet))
-        → Answered (plain_answer sheet text units flags m) m.room o (Err (record { reason = ErrorLine; line = l }))
+    pub failed_formed : {room : ℕ} {l : ℕ} (o : List ℕ) → length o ≡ room → a ≡ Ok None → l ≡ error_line 1 (events_or (read_sheet text sheet))
+        → Answered (plain_answer sheet text units flags (lends (lent words bytes) room)) room o (Err (record { reason = ErrorLine; line = l }))
     unfolding RanBy plain_of
     failed_formed o e q k =
         let x : RanFailed text (units_or (read_units units)) flags (events_or (read_sheet text sheet)) = (rw q at p).is in
-        refused_as o e (formed_on x.is ∙ ap (declined 21) (sym k))
+        refused_as o e (formed_on _ x.is ∙ ap (declined 21) (sym k))
 
-    pub refused_formed : {f : Refusal} (o : List ℕ) → length o ≡ m.room → a ≡ Err f → Answered (plain_answer sheet text units flags m) m.room o (Err f)
+    pub refused_formed : {room : ℕ} {f : Refusal} (o : List ℕ) → length o ≡ room → a ≡ Err f → Answered (plain_answer sheet text units flags (lends (lent words bytes) room)) room o (Err f)
     unfolding RanBy plain_of
-    refused_formed {f} o e q =
+    refused_formed {f = f} o e q =
         let x : parse_events text (units_or (read_units units)) flags (events_or (read_sheet text sheet)) ≡ refusal (number_of f.reason) f.line = (rw q at p).is in
-        refused_as o e (formed_on x)
+        refused_as o e (formed_on _ x)

@@ -3,12 +3,9 @@ use Rattle.std.specs.Prelude.{ℕ, ◌+◌, ◌*◌, ◌≤◌, ◌<◌, ◌≡�
 use Rattle.rules.specs.Basic.{pick}
 use Rattle.rules.specs.Answer as rules
 use Rattle.rules.specs.Answer.{answered, declined, Lent, collect_answer, plain_answer, out_after, work_after, printed}
-use Rattle.letters.specs.Tables.{unicode_tables}
 use Rattle.refusals.specs.Told.{number_of}
 use Rattle.refusals.specs.declared.Reason.TheVariants.{NoRoom}
 use Rattle.refusals.specs.declared.Refusal.{Refusal}
-use Rattle.unit_index.specs.Index.{Indexed}
-use Rattle.inputs.specs.Inputs.{GoodInputs}
 
 -- the bytes at the front of the output, or a refusal's number and line
 unfoldable pub answer_of : Result ℕ Refusal → List ℕ → rules.Answer
@@ -53,12 +50,6 @@ lent_of words bytes out = lengths words (length bytes) out
 -- a page of n bytes, unless it is longer than the output ("20 answer longer than the space lent")
 unfoldable pub page_or20 : ℕ → ℕ → Result ℕ Refusal
 page_or20 n room = pick (leb n room) (Ok n) (Err (record { reason = NoRoom; line = 0 }))
-
--- what the pass and the page are given
-pub record Given (t sheet text units index : List ℕ) (flags : ℕ) (m : Lent) : Type 0 where
-  pub tables : t ≡ unicode_tables
-  pub inputs : GoodInputs sheet text units flags m.words m.bytes
-  pub indexed : Indexed units index
 
 -- the answer a of the rules, of an output that may hold anything past it
 pub record Answered (a : rules.Answer) (room : ℕ) (out : List ℕ) (r : Result ℕ Refusal) : Type 0 where

@@ -3,14 +3,16 @@
 #![tactic(auto)]
 
 ghost use Rattle.std.specs.Prelude.{◌≡◌, ◌≤◌, length};
-ghost use Rattle.rules.specs.Answer.{words_needed, bytes_needed, events, events_or, read_sheet, collect_answer, error_line, form_answer, plain_answer};
-ghost use Rattle.letters.specs.Tables.{unicode_tables};
+ghost use Rattle.rules.specs.Answer.{words_needed, bytes_needed, events_or, read_sheet, collect_answer, error_line, form_answer, plain_answer};
 ghost use Rattle.page.specs.Pages.{RecipeGiven};
-ghost use Rattle.recipe.specs.Answers.{used_of, answer_code, usable_of, usable_lent, lengths, lent_of, page_or20, Given, Answered, Collected, PlainFormed, Coded, PrintedAt};
+ghost use Rattle.inputs.specs.Inputs.{GoodInputs};
+ghost use Rattle.recipe.specs.Answers.{used_of, answer_code, usable_of, usable_lent, lengths, lent_of, page_or20, Answered, Collected, PlainFormed, Coded, PrintedAt};
 ghost use Rattle.recipe.specs.Forms.{tells17, form_given};
 
 use model::Held;
+use reading::ReadSheet;
 use refusals::{Reason, Refusal};
+use unit_index::UnitList;
 
 // The length of the page or of the form at the front of the output, or a refusal.
 pub type Answer = Result<usize, Refusal>;
@@ -30,26 +32,23 @@ fn hand_out(n: usize, room: usize) -> Answer
 
 // The pass, then the page.
 fn pass_and_write(
-    t: &[u32],
-    sheet: &[u8],
-    text: &[u8],
-    units: &[u8],
-    index: &[u32],
+    sheet: &ReadSheet,
+    units: &UnitList,
     flags: u32,
     words: &mut [u32],
     bytes: usize,
     out: &mut [u8],
 ) -> Answer
-    requires { Given t.now sheet.now text.now units.now index.now flags (lengths words.old bytes out.old) }
-    ensures { Answered (collect_answer sheet.now text.now units.now flags (lengths words.old bytes out.old)) (length out.old) out.new result }
+    requires { GoodInputs sheet.now.bytes.now sheet.now.text.now units.now.lines.now flags (length words.old) bytes }
+    ensures { Answered (collect_answer sheet.now.bytes.now sheet.now.text.now units.now.lines.now flags (lengths words.old bytes out.old)) (length out.old) out.new result }
 {
-    match pass::run(t, sheet, text, units, index, flags, words)? {
+    match pass::run(sheet, units, flags, words)? {
         Some(h) => {
-            let n = page::recipe_page(t, sheet, text, units, index, flags, words, h, out);
+            let n = page::recipe_page(sheet, units, flags, words, h, out);
             hand_out(n, out.len())
         }
         None => {
-            let n = page::failed_page(sheet, text, out);
+            let n = page::failed_page(sheet, out);
             hand_out(n, out.len())
         }
     }
@@ -57,7 +56,6 @@ fn pass_and_write(
 
 // The answer, with memory left as it comes; `bytes` is how many bytes of work memory are lent.
 fn collected(
-    t: &[u32],
     sheet: &[u8],
     text: &[u8],
     units: &[u8],
@@ -67,11 +65,16 @@ fn collected(
     bytes: usize,
     out: &mut [u8],
 ) -> Answer
-    requires { (t.now ≡ unicode_tables) × (length index.old ≡ 2305) }
+    requires { length index.old ≡ 2305 }
     ensures { Answered (collect_answer sheet.now text.now units.now flags (lengths words.old bytes out.old)) (length out.old) out.new result }
 {
     inputs::check_inputs(sheet, text, units, index, flags, words.len(), bytes)?;
-    pass_and_write(t, sheet, text, units, index, flags, words, bytes, out)
+    let read = ReadSheet { bytes: sheet, text };
+    let list = UnitList {
+        lines: units,
+        words: index,
+    };
+    pass_and_write(&read, &list, flags, words, bytes, out)
 }
 
 // How many bytes of the output an answer hands out.
@@ -96,10 +99,8 @@ pub fn collect(
 ) -> Answer
     ensures { Collected sheet.now text.now units.now flags (lent_of words.old bytes.old out.old) words.new bytes.new out.new result }
 {
-    let t = letters::unicode_tables();
     let mut index = [0u32; 2305];
     let r = collected(
-        &t,
         sheet,
         text,
         units,
@@ -118,17 +119,17 @@ pub fn collect(
 // ---- the plain form
 
 // The number of the first `error` line; 0 where there is none.
-fn error_line(sheet: &[u8], text: &[u8]) -> u32
-    requires { (length sheet.now ≤ 65536) × (read_sheet text.now sheet.now ≡ events (events_or (read_sheet text.now sheet.now))) }
-    ensures { result ≡ error_line 1 (events_or (read_sheet text.now sheet.now)) }
+fn error_line(sheet: &ReadSheet) -> u32
+    requires { length sheet.now.bytes.now ≤ 65536 }
+    ensures { result ≡ error_line 1 (events_or (read_sheet sheet.now.text.now sheet.now.bytes.now)) }
 {
     let mut at = 0;
     let mut number: u32 = 1;
-    while at < sheet.len() {
-        let Some(end) = sheet::line_end(sheet, at) else {
+    while at < sheet.bytes.len() {
+        let Some(end) = sheet::line_end(sheet.bytes, at) else {
             return 0;
         };
-        let v = known_events::event_of(&sheet[at..end]);
+        let v = known_events::event_of(&sheet.bytes[at..end]);
         if pass::is_error(v) {
             return number;
         }
@@ -150,19 +151,18 @@ fn tells_17(r: Result<Option<Held>, Refusal>) -> bool
 
 // A form that is not too long: collected again, then copied to the output.
 fn give_form(
-    t: &[u32],
     form: &[u8],
     text: &[u8],
-    units: &[u8],
-    index: &[u32],
+    units: &UnitList,
     flags: u32,
     words: &mut [u32],
     out: &mut [u8],
 ) -> Answer
-    requires { Given t.now form.now text.now units.now index.now flags (lengths words.old bytes_needed out.old) }
-    ensures { Answered (form_answer text.now units.now flags (length out.old) form.now) (length out.old) out.new result }
+    requires { GoodInputs form.now text.now units.now.lines.now flags (length words.old) bytes_needed }
+    ensures { Answered (form_answer text.now units.now.lines.now flags (length out.old) form.now) (length out.old) out.new result }
 {
-    if tells_17(pass::run(t, form, text, units, index, flags, words)) {
+    let read = ReadSheet { bytes: form, text };
+    if tells_17(pass::run(&read, units, flags, words)) {
         return Err(Refusal {
             reason: Reason::LongForm,
             line: 0,
@@ -174,25 +174,20 @@ fn give_form(
 
 // The form of a sheet whose pass made a recipe, written to work memory first.
 fn write_form(
-    t: &[u32],
-    sheet: &[u8],
-    text: &[u8],
-    units: &[u8],
-    index: &[u32],
+    sheet: &ReadSheet,
+    units: &UnitList,
     flags: u32,
     words: &mut [u32],
     h: Held,
     bytes: &mut [u8],
     out: &mut [u8],
 ) -> Answer
-    requires { RecipeGiven t.now sheet.now text.now units.now index.now flags words.old h × (65536 ≤ length bytes.old) }
-    ensures { Answered (form_given sheet.now text.now units.now flags (length out.old)) (length out.old) out.new result }
+    requires { RecipeGiven sheet.now.bytes.now sheet.now.text.now units.now.lines.now flags words.old h × (65536 ≤ length bytes.old) }
+    ensures { Answered (form_given sheet.now.bytes.now sheet.now.text.now units.now.lines.now flags (length out.old)) (length out.old) out.new result }
 {
     let n = plain_walk::plain_form_lines(
-        t,
         sheet,
-        text,
-        units,
+        units.lines,
         flags,
         words,
         h,
@@ -202,36 +197,32 @@ fn write_form(
         let reason = Reason::LongForm;
         return Err(Refusal { reason, line: 0 });
     }
-    give_form(t, &bytes[0..n], text, units, index, flags, words, out)
+    give_form(&bytes[0..n], sheet.text, units, flags, words, out)
 }
 
 // The pass, then the form.
 fn pass_and_form(
-    t: &[u32],
-    sheet: &[u8],
-    text: &[u8],
-    units: &[u8],
-    index: &[u32],
+    sheet: &ReadSheet,
+    units: &UnitList,
     flags: u32,
     words: &mut [u32],
     bytes: &mut [u8],
     out: &mut [u8],
 ) -> Answer
-    requires { Given t.now sheet.now text.now units.now index.now flags (lent_of words.old bytes.old out.old) }
-    ensures { Answered (plain_answer sheet.now text.now units.now flags (lent_of words.old bytes.old out.old)) (length out.old) out.new result }
+    requires { GoodInputs sheet.now.bytes.now sheet.now.text.now units.now.lines.now flags (length words.old) (length bytes.old) }
+    ensures { Answered (plain_answer sheet.now.bytes.now sheet.now.text.now units.now.lines.now flags (lent_of words.old bytes.old out.old)) (length out.old) out.new result }
 {
-    match pass::run(t, sheet, text, units, index, flags, words)? {
-        Some(h) => write_form(t, sheet, text, units, index, flags, words, h, bytes, out),
+    match pass::run(sheet, units, flags, words)? {
+        Some(h) => write_form(sheet, units, flags, words, h, bytes, out),
         None => Err(Refusal {
             reason: Reason::ErrorLine,
-            line: error_line(sheet, text),
+            line: error_line(sheet),
         }),
     }
 }
 
 // The answer, with memory left as it comes.
 fn formed(
-    t: &[u32],
     sheet: &[u8],
     text: &[u8],
     units: &[u8],
@@ -241,11 +232,16 @@ fn formed(
     bytes: &mut [u8],
     out: &mut [u8],
 ) -> Answer
-    requires { (t.now ≡ unicode_tables) × (length index.old ≡ 2305) }
+    requires { length index.old ≡ 2305 }
     ensures { Answered (plain_answer sheet.now text.now units.now flags (lent_of words.old bytes.old out.old)) (length out.old) out.new result }
 {
     inputs::check_inputs(sheet, text, units, index, flags, words.len(), bytes.len())?;
-    pass_and_form(t, sheet, text, units, index, flags, words, bytes, out)
+    let read = ReadSheet { bytes: sheet, text };
+    let list = UnitList {
+        lines: units,
+        words: index,
+    };
+    pass_and_form(&read, &list, flags, words, bytes, out)
 }
 
 // The plain form of a sheet, with its text, its units and flags, at the front of `out`; or a refusal.
@@ -260,9 +256,8 @@ pub fn plain_form(
 ) -> Answer
     ensures { PlainFormed sheet.now text.now units.now flags (lent_of words.old bytes.old out.old) words.new bytes.new out.new result }
 {
-    let t = letters::unicode_tables();
     let mut index = [0u32; 2305];
-    let f = formed(&t, sheet, text, units, &mut index, flags, words, bytes, out);
+    let f = formed(sheet, text, units, &mut index, flags, words, bytes, out);
     clearing::clear_words(words);
     clearing::clear_from(bytes, 0usize);
     clearing::clear_from(out, used(f));

@@ -15,16 +15,15 @@ use Rattle.rules.specs.Model.{Kind, ingredient, cookware, Entry}
 use Rattle.rules.specs.Reference.{entry_at}
 use Rattle.rules.specs.State.{Tables, State, set_kept, table_of, report, Outcome, recipe, no_recipe, refusal}
 use Rattle.rules.specs.Pass.{is_empty_section, close_section, ended, parse_events}
-use Rattle.rules.specs.Answer.{words_needed, bytes_needed, is_short, events, events_or, read_sheet, units_or}
+use Rattle.rules.specs.Answer.{words_needed, bytes_needed, is_short, events_or, read_sheet, units_or}
 use Rattle.rules.proofs.Basics.{pick_either, no_some, and_left, and_right}
 use Rattle.rules.proofs.Referrers.{Linked, walk_linked}
 use Rattle.rules.proofs.LinkedRecipe.{own_references}
-use Rattle.letters.specs.Tables.{unicode_tables}
 use Rattle.refusals.specs.Told.{number_of}
 use Rattle.refusals.specs.declared.Reason.TheVariants.{NoRoom}
 use Rattle.refusals.specs.declared.Refusal.{Refusal}
-use Rattle.inputs.specs.Inputs.{InputsChecked, UnitsReady}
-use Rattle.inputs.proofs.Answers.{told_good, told_refused, refused_outcome}
+use Rattle.inputs.specs.Inputs.{InputsChecked, GoodInputs}
+use Rattle.inputs.proofs.Answers.{told_refused, refused_outcome}
 use Rattle.model.specs.Blank.{blank, blank_tables}
 use Rattle.model.specs.Memory.{windows_of, state_of, state_in, Sound}
 use Rattle.model.specs.Fits.{Fits, EachRow}
@@ -32,11 +31,10 @@ use Rattle.model.specs.declared.Held.{Held}
 use Rattle.model.proofs.Tables.{entries_length}
 use Rattle.component_records.specs.Records.{records_in}
 use Rattle.component_records.specs.Links.{pairs_of, pairs_from, own_count, Linkable}
-use Rattle.pass.specs.Walks as walks
 use Rattle.pass.specs.Walks.{RanRecipe, RanFailed, RanBy, RanAs}
 use Rattle.recipe_components.specs.declared.ComponentCounts.{ComponentCounts}
 use Rattle.recipe_components.specs.Components.{RecordsOf, table_pairs, TableRoom, Room, table_fits, both_fit, counts_of, answer_of, told_answer, table_lent, outcome_of}
-use Rattle.recipe_components.specs.Tables.{ingredients_of, cookware_of, Ready, is_room_for, row_counts, counts_or20, RowsOf, RowsCollected, Given}
+use Rattle.recipe_components.specs.Tables.{ingredients_of, cookware_of, Ready, is_room_for, row_counts, counts_or20, RowsOf, RowsCollected}
 use Rattle.recipe_components.proofs.Rows.{table_in, table_records, table_linkable, table_pairs_lem, table_own}
 
 -- ---- no rows
@@ -212,24 +210,12 @@ module _ {sheet text units : List ℕ} {flags : ℕ} (m : Room) {a : Result (Uni
       refused_rows sheet text units flags m long
       (rw (enough_words m.words) at (refused_outcome sheet text units flags (record { words = m.words; bytes = 65536; room = 0 }) (told_refused (rw q at p))))
 
-  pub inputs_good : {t index : List ℕ} → t ≡ unicode_tables → UnitsReady units index a → a ≡ Ok tt → Given t sheet text units index flags m
-  inputs_good e x q = record { tables = e; inputs = told_good (rw q at p); indexed = x.indexed q }
-
 -- ---- after the pass
 
-module _ {t sheet text units index : List ℕ} {flags : ℕ} {m : Room} (g : Given t sheet text units index flags m) where
-  pub run_given : walks.Lent t units index × (length sheet ≤ 65536) × (24157 ≤ m.words) × (read_sheet text sheet ≡ events (events_or (read_sheet text sheet)))
-  unfolding words_needed
-  run_given = (
-    record { tables = g.tables; units = g.indexed },
-    g.inputs.sheet_short,
-    omega (arith, g.inputs.words_enough),
-    g.inputs.sheet_read,
-  )
-
+module _ {sheet text units : List ℕ} {flags : ℕ} (m : Room) (g : GoodInputs sheet text units flags m.words 65536) where
   outcome_is : {x : Outcome} → parse_events text (units_or (read_units units)) flags (events_or (read_sheet text sheet)) ≡ x → outcome_of sheet text units flags m ≡ x
   unfolding outcome_of
-  outcome_is e = rw (le-ltb m.words words_needed g.inputs.words_enough) (g.inputs.collects ∙ e)
+  outcome_is e = rw (le-ltb m.words words_needed g.words_enough) (g.collects ∙ e)
 
   module _ {w₀ w : List ℕ} {a : Result (Option Held) Refusal} (long : length w₀ ≡ m.words) (p : RanAs (units_or (read_units units)) flags sheet text (events_or (read_sheet text sheet)) w₀ w a) where
     pub recipe_rows : {h : Held} {r : Result (Option ComponentCounts) Refusal} → a ≡ Ok (Some h) → r ≡ counts_or20 w h m.ingredients m.cookware → RowsCollected sheet text units flags m w r

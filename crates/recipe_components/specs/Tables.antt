@@ -2,9 +2,6 @@
 use Rattle.std.specs.Prelude.{ℕ, ◌+◌, ◌-◌, ◌*◌, ◌≤◌, ◌<◌, ◌≡◌, List, ◌++◌, Bool, ◌&&◌, leb, length, replicate, Option, None, Some, Result, Ok, Err}
 use Rattle.rules.specs.Basic.{pick}
 use Rattle.rules.specs.Model.{Kind, ingredient, cookware, Entry}
-use Rattle.letters.specs.Tables.{unicode_tables}
-use Rattle.unit_index.specs.Index.{Indexed}
-use Rattle.inputs.specs.Inputs.{GoodInputs}
 use Rattle.model.specs.declared.Held.{Held}
 use Rattle.component_records.specs.Records.{no_component, records_in}
 use Rattle.component_records.specs.Links.{pairs_of, own_count, Linkable}
@@ -90,9 +87,3 @@ pub record RowsCollected (sheet text units : List ℕ) (flags : ℕ) (m : Room) 
   pub cookware : RowsOf cookware sheet (table_lent m cookware (outcome_of sheet text units flags m)) w 6156 (cookware_of r)
   pub ingredients_ready : Ready w 0 (ingredients_of r) m.ingredients
   pub cookware_ready : Ready w 6156 (cookware_of r) m.cookware
-
--- what the pass is given
-pub record Given (t sheet text units index : List ℕ) (flags : ℕ) (m : Room) : Type 0 where
-  pub tables : t ≡ unicode_tables
-  pub inputs : GoodInputs sheet text units flags m.words 65536
-  pub indexed : Indexed units index

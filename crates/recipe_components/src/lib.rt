@@ -3,12 +3,15 @@
 
 ghost use Rattle.std.specs.Prelude.{◌≡◌, ◌+◌, ◌*◌, ◌<◌, ◌≤◌, length};
 ghost use Rattle.model.specs.Memory.{Sound};
+ghost use Rattle.inputs.specs.Inputs.{GoodInputs};
 ghost use Rattle.recipe_components.specs.Components.{ComponentsLeft};
-ghost use Rattle.recipe_components.specs.Tables.{ingredients_of, cookware_of, OwnCounted, room_for, room_of, is_room_for, counts_or20, Given, RowsCollected, Ready, Laid};
+ghost use Rattle.recipe_components.specs.Tables.{ingredients_of, cookware_of, OwnCounted, room_for, room_of, is_room_for, counts_or20, RowsCollected, Ready, Laid};
 
 use component_records::Component;
 use model::Held;
+use reading::ReadSheet;
 use refusals::{Reason, Refusal};
+use unit_index::UnitList;
 
 // How many ingredients, pieces of cookware, and pairs of each kind a recipe has.
 #[derive(Clone, Copy)]
@@ -22,23 +25,22 @@ pub struct ComponentCounts {
 // The counts of a recipe; `None`: an `error` line, there is no recipe; or a refusal.
 pub type Components = Result<Option<ComponentCounts>, Refusal>;
 
-fn ingredients_of(r: Components) -> usize
-    ensures { result ≡ ingredients_of r }
-{
-    match r {
-        Ok(Some(c)) => c.ingredients,
-        Ok(None) => 0,
-        Err(_) => 0,
-    }
-}
+// An answer without rows.
+const NO_ROWS: ComponentCounts = ComponentCounts {
+    ingredients: 0,
+    cookware: 0,
+    ingredient_pairs: 0,
+    cookware_pairs: 0,
+};
 
-fn cookware_of(r: Components) -> usize
-    ensures { result ≡ cookware_of r }
+// The counts that an answer has, or none.
+fn counts_of(r: Components) -> ComponentCounts
+    ensures { (result.ingredients ≡ ingredients_of r) × (result.cookware ≡ cookware_of r) }
 {
     match r {
-        Ok(Some(c)) => c.cookware,
-        Ok(None) => 0,
-        Err(_) => 0,
+        Ok(Some(counts)) => counts,
+        Ok(None) => NO_ROWS,
+        Err(_) => NO_ROWS,
     }
 }
 
@@ -100,11 +102,8 @@ fn recipe_counts(
 
 // The pass; its rows stay in the words.
 fn pass_rows(
-    t: &[u32],
-    sheet: &[u8],
-    text: &[u8],
-    units: &[u8],
-    index: &[u32],
+    sheet: &ReadSheet,
+    units: &UnitList,
     flags: u32,
     words: &mut [u32],
     ingredients: usize,
@@ -112,10 +111,10 @@ fn pass_rows(
     cookware: usize,
     cookware_pairs: usize,
 ) -> Components
-    requires { Given t.now sheet.now text.now units.now index.now flags (room_of (length words.old) ingredients ingredient_pairs cookware cookware_pairs) }
-    ensures { RowsCollected sheet.now text.now units.now flags (room_of (length words.old) ingredients ingredient_pairs cookware cookware_pairs) words.new result }
+    requires { GoodInputs sheet.now.bytes.now sheet.now.text.now units.now.lines.now flags (length words.old) 65536 }
+    ensures { RowsCollected sheet.now.bytes.now sheet.now.text.now units.now.lines.now flags (room_of (length words.old) ingredients ingredient_pairs cookware cookware_pairs) words.new result }
 {
-    match pass::run(t, sheet, text, units, index, flags, words)? {
+    match pass::run(sheet, units, flags, words)? {
         Some(h) => recipe_counts(
             words,
             h,
@@ -152,13 +151,14 @@ fn collect_rows(
         words.len(),
         inputs::BYTES,
     )?;
-    let t = letters::unicode_tables();
+    let read = ReadSheet { bytes: sheet, text };
+    let list = UnitList {
+        lines: units,
+        words: &index,
+    };
     pass_rows(
-        &t,
-        sheet,
-        text,
-        units,
-        &index,
+        &read,
+        &list,
         flags,
         words,
         ingredients,
@@ -218,10 +218,11 @@ pub fn collect_components(
         cookware.len(),
         cookware_pairs.len(),
     );
+    let counts = counts_of(r);
     lend_tables(
         words,
-        ingredients_of(r),
-        cookware_of(r),
+        counts.ingredients,
+        counts.cookware,
         ingredients,
         ingredient_pairs,
         cookware,

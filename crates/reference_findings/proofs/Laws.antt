@@ -1,5 +1,5 @@
 -- One law for each way through.
-use Prim.Native.Nat.{ℕ, ◌+◌, ◌<◌}
+use Prim.Native.Nat.{ℕ}
 use mathlib.Core.Path.{◌≡◌, refl, ap, sym, ◌∙◌}
 use mathlib.Core.Bool.{Bool, true, false, ◌&&◌, ◌||◌, not}
 use mathlib.Core.List.{List, [], ◌∷◌, ◌++◌}
@@ -11,19 +11,20 @@ use Rattle.rules.specs.Event as rules
 use Rattle.rules.specs.Finding.{Finding, diag, found}
 use Rattle.rules.specs.Modes.{is_steps, is_reference}
 use Rattle.rules.specs.Model as model
-use Rattle.rules.specs.Model.{Entry, definition, both, any_beyond, with_ref, inherits}
+use Rattle.rules.specs.Model.{Entry, both, any_beyond, with_ref, inherits}
 use Rattle.rules.specs.Reference.{Earlier, is_explicit, treat_as_reference, redundant_new, redundant_ref, conflict_or_missing, reference_findings}
 use Rattle.parts.specs.Views.{span_in}
 use Rattle.parts.specs.declared.Span.{Span}
 use Rattle.components.specs.Views.{modifiers_in}
 use Rattle.components.specs.declared.Modifiers.{Modifiers}
-use Rattle.model.specs.Memory.{Sound}
+use Rattle.model.specs.Rows.{finding_of, if_found}
+use Rattle.model.specs.declared.Noted.{Noted}
 use Rattle.sheet.specs.declared.Define.{Define}
 use Rattle.sheet.specs.declared.Duplicate.{Duplicate}
 use Rattle.model.specs.declared.Held.{Held}
-use Rattle.checks.specs.Reports.{Reported, nothing}
-use Rattle.checks.proofs.Reports.{reported_seq, reported_sound}
-use Rattle.checks.proofs.Laws.{none_found, said, when_room}
+use Rattle.memory.specs.Reports.{Reported, nothing}
+use Rattle.memory.proofs.Reports.{reported_seq, reported_as}
+use Rattle.checks.proofs.Laws.{nothing_found, one_found, said}
 use Rattle.lookup.specs.References.{modes_of, TreatedAs}
 use Rattle.lookup.proofs.References.{found_in, some_on}
 use Rattle.reference_findings.specs.Reports.{hands_down, SameAs, NewAs, RedundantNew, RedundantRef, ConflictOrMissing, ReferenceReported}
@@ -83,42 +84,43 @@ any_is a b {p} {q} {r} {s} e f g h = h ∙ rw (g, f, e, and_false a.reference) (
 
 -- ---- 11 and 12
 
-module _ {define : Define} {duplicate : Duplicate} {is_found : Bool} {at : Span} {w₀ : List ℕ} {h₀ : Held} {s : Bool} (es : s ≡ is_steps (define_of define)) where
-  pub new_steps : s ≡ true → RedundantNew define duplicate is_found at w₀ h₀ w₀ h₀
+module _ {define : Define} {duplicate : Duplicate} {is_found : Bool} {at : Span} {s : Bool} (es : s ≡ is_steps (define_of define)) where
+  pub new_steps : s ≡ true → RedundantNew define duplicate is_found at None
   unfolding redundant_new when
-  new_steps t = record { is = λ e same ea ef. none_found (rw (← es, t)) }
+  new_steps t = record { is = λ e same ea ef. nothing_found (rw (← es, t)) }
 
   module _ (n : s ≡ false) {q : Bool} (eq : q ≡ is_reference (duplicate_of duplicate)) where
-    pub new_found : q ≡ true → is_found ≡ true → RedundantNew define duplicate is_found at w₀ h₀ w₀ h₀
+    pub new_found : q ≡ true → is_found ≡ true → RedundantNew define duplicate is_found at None
     unfolding redundant_new when
-    new_found t u = record { is = λ e same ea ef. none_found (rw (← es, n, ← eq, t, ef, u)) }
+    new_found t u = record { is = λ e same ea ef. nothing_found (rw (← es, n, ← eq, t, ef, u)) }
 
-    pub new_missing : {w : List ℕ} {h : Held} → q ≡ true → is_found ≡ false → Reported (found 11 (span_in at) ∷ []) w₀ h₀ w h → RedundantNew define duplicate is_found at w₀ h₀ w h
-    unfolding redundant_new when
-    new_missing t u r = record { is = λ e same ea ef. said (rw (← es, n, ← eq, t, ef, u, ea)) r }
+    module _ {x : Noted} (k : finding_of x ≡ found 11 (span_in at)) where
+      pub new_missing : q ≡ true → is_found ≡ false → RedundantNew define duplicate is_found at (Some x)
+      unfolding redundant_new when
+      new_missing t u = record { is = λ e same ea ef. one_found _ k (rw (← es, n, ← eq, t, ef, u, ea)) }
 
-    pub new_always : {w : List ℕ} {h : Held} → q ≡ false → Reported (found 11 (span_in at) ∷ []) w₀ h₀ w h → RedundantNew define duplicate is_found at w₀ h₀ w h
-    unfolding redundant_new when
-    new_always t r = record { is = λ e same ea ef. said (rw (← es, n, ← eq, t, ea)) r }
+      pub new_always : q ≡ false → RedundantNew define duplicate is_found at (Some x)
+      unfolding redundant_new when
+      new_always t = record { is = λ e same ea ef. one_found _ k (rw (← es, n, ← eq, t, ea)) }
 
-module _ {define : Define} {duplicate : Duplicate} {explicit : Bool} {at : Span} {w₀ : List ℕ} {h₀ : Held} where
-  pub ref_not : explicit ≡ false → RedundantRef define duplicate explicit at w₀ h₀ w₀ h₀
+module _ {define : Define} {duplicate : Duplicate} {explicit : Bool} {at : Span} where
+  pub ref_not : explicit ≡ false → RedundantRef define duplicate explicit at None
   unfolding redundant_ref is_explicit when
-  ref_not t = record { is = λ e ea er. none_found (rw (er, t)) }
+  ref_not t = record { is = λ e ea er. nothing_found (rw (er, t)) }
 
-  module _ (x : explicit ≡ true) {q : Bool} (eq : q ≡ is_reference (duplicate_of duplicate)) where
-    pub ref_duplicate : {w : List ℕ} {h : Held} → q ≡ true → Reported (found 12 (span_in at) ∷ []) w₀ h₀ w h → RedundantRef define duplicate explicit at w₀ h₀ w h
+  module _ (y : explicit ≡ true) {q : Bool} (eq : q ≡ is_reference (duplicate_of duplicate)) where
+    pub ref_duplicate : {x : Noted} → finding_of x ≡ found 12 (span_in at) → q ≡ true → RedundantRef define duplicate explicit at (Some x)
     unfolding redundant_ref is_explicit when
-    ref_duplicate t r = record { is = λ e ea er. said (rw (er, x, ← eq, t, ea)) r }
+    ref_duplicate k t = record { is = λ e ea er. one_found _ k (rw (er, y, ← eq, t, ea)) }
 
     module _ (n : q ≡ false) {s : Bool} (es : s ≡ is_steps (define_of define)) where
-      pub ref_steps : {w : List ℕ} {h : Held} → s ≡ true → Reported (found 12 (span_in at) ∷ []) w₀ h₀ w h → RedundantRef define duplicate explicit at w₀ h₀ w h
+      pub ref_steps : {x : Noted} → finding_of x ≡ found 12 (span_in at) → s ≡ true → RedundantRef define duplicate explicit at (Some x)
       unfolding redundant_ref is_explicit when
-      ref_steps t r = record { is = λ e ea er. said (rw (er, x, ← eq, n, ← es, t, ea)) r }
+      ref_steps k t = record { is = λ e ea er. one_found _ k (rw (er, y, ← eq, n, ← es, t, ea)) }
 
-      pub ref_needed : s ≡ false → RedundantRef define duplicate explicit at w₀ h₀ w₀ h₀
+      pub ref_needed : s ≡ false → RedundantRef define duplicate explicit at None
       unfolding redundant_ref is_explicit when
-      ref_needed t = record { is = λ e ea er. none_found (rw (er, x, ← eq, n, ← es, t)) }
+      ref_needed t = record { is = λ e ea er. nothing_found (rw (er, y, ← eq, n, ← es, t)) }
 
 -- ---- 13 and 14
 
@@ -144,9 +146,9 @@ handed i d b eb ey define duplicate e (Some x) en z =
     let inner : x.entry.modifiers ≡ modifiers_in d = some_inj z in
     rw (inner, en.is_at, en.is_modifiers, ← eb, ← ey) (unfold modifiers_in in refl)
 
-module _ {i : model.Kind} {m : Modifiers} {span at : Span} {old : Option Modifiers} {w₀ : List ℕ} {h₀ : Held} where
-  pub missing : {w : List ℕ} {h : Held} → old ≡ None → Reported (diag 14 (span_in span ∷ []) (not m.reference) ∷ []) w₀ h₀ w h → ConflictOrMissing i m span at old w₀ h₀ w h
-  missing o r = record { is = λ define duplicate e same en es. said (by define duplicate e same en (by_missing same (es.is ∙ empty))) r }
+module _ {i : model.Kind} {m : Modifiers} {span at : Span} {old : Option Modifiers} where
+  pub missing : {x : Noted} → old ≡ None → finding_of x ≡ diag 14 (span_in span ∷ []) (not m.reference) → ConflictOrMissing i m span at old (Some x)
+  missing o k = record { is = λ define duplicate e same en es. one_found _ k (by define duplicate e same en (by_missing same (es.is ∙ empty))) }
     where
       empty : on_some modifiers_in old ≡ None
       empty = unfold on_some in rw o
@@ -156,11 +158,11 @@ module _ {i : model.Kind} {m : Modifiers} {span at : Span} {old : Option Modifie
       by define duplicate e same en z = unfold conflict_or_missing is_explicit modifiers_in in rw (z, en.is_span, en.is_modifiers)
 
   module _ (d b : Modifiers) (o : old ≡ Some d) (eb : modifiers_in b ≡ both (modifiers_in d) (inherits i)) {y : Bool} (ey : y ≡ any_beyond (modifiers_in m) (with_ref (modifiers_in b))) where
-    pub conflicts : {w : List ℕ} {h : Held} → y ≡ true → Reported (diag 13 (span_in at ∷ []) (not m.reference) ∷ []) w₀ h₀ w h → ConflictOrMissing i m span at old w₀ h₀ w h
-    conflicts t r = record { is = λ define duplicate e same en es. said (handed i d b eb ey define duplicate e same en (es.is ∙ old_of d o) ∙ when_true _ _ t) r }
+    pub conflicts : {x : Noted} → y ≡ true → finding_of x ≡ diag 13 (span_in at ∷ []) (not m.reference) → ConflictOrMissing i m span at old (Some x)
+    conflicts t k = record { is = λ define duplicate e same en es. one_found _ k (handed i d b eb ey define duplicate e same en (es.is ∙ old_of d o) ∙ when_true _ _ t) }
 
-    pub agrees : y ≡ false → ConflictOrMissing i m span at old w₀ h₀ w₀ h₀
-    agrees t = record { is = λ define duplicate e same en es. none_found (handed i d b eb ey define duplicate e same en (es.is ∙ old_of d o) ∙ (unfold when in rw t)) }
+    pub agrees : y ≡ false → ConflictOrMissing i m span at old None
+    agrees t = record { is = λ define duplicate e same en es. nothing_found (handed i d b eb ey define duplicate e same en (es.is ∙ old_of d o) ∙ (unfold when in rw t)) }
 
 -- ---- 10 to 14
 
@@ -186,44 +188,20 @@ module _ {i : model.Kind} {m : Modifiers} {span at : Span} {old : Option Modifie
   unfolding reference_findings is_explicit
   new_with_ref n t r = record { is = λ e same en es. said (rw (new_of en, n, ref_of en, t, en.is_at)) r }
 
-  module _ {is_found : Bool} (ef : is_found ≡ option.is_some old) where
-    pub new_alone : {w : List ℕ} {h : Held} → m.new ≡ true → m.reference ≡ false → RedundantNew h₀.define h₀.duplicate is_found at w₀ h₀ w h → ReferenceReported i m span at old w₀ h₀ w h
+  module _ {is_found : Bool} (ef : is_found ≡ option.is_some old) {x : Option Noted} {w₁ : List ℕ} {h₁ : Held} (l : Reported (if_found x) w₀ h₀ w₁ h₁) where
+    pub new_alone : m.new ≡ true → m.reference ≡ false → RedundantNew h₀.define h₀.duplicate is_found at x → ReferenceReported i m span at old w₀ h₀ w₁ h₁
     unfolding reference_findings is_explicit
-    new_alone n t r = record { is = λ e same en es. said (rw (new_of en, n, ref_of en, t)) (r.is e same en.is_at (same_found es ef)) }
+    new_alone n t r = record { is = λ e same en es. said (rw (new_of en, n, ref_of en, t)) (reported_as l (r.is e same en.is_at (same_found es ef))) }
 
-    module _ (n : m.new ≡ false) {w₁ : List ℕ} {h₁ : Held} (r : RedundantRef h₀.define h₀.duplicate m.reference at w₀ h₀ w₁ h₁) {y : Bool} (z : TreatedAs h₀.define h₀.duplicate m.reference is_found y) where
-      pub as_reference : {w : List ℕ} {h : Held} → y ≡ true → ConflictOrMissing i m span at old w₁ h₁ w h → ReferenceReported i m span at old w₀ h₀ w h
-      as_reference t k = record { is = λ e same en es. said (first i h₀.define h₀.duplicate ef n z e same en es ∙ rw t) (reported_seq (r.is e en.is_at (ref_of en)) (k.is h₀.define h₀.duplicate e same en es)) }
+    module _ (n : m.new ≡ false) (r : RedundantRef h₀.define h₀.duplicate m.reference at x) {y : Bool} (z : TreatedAs h₀.define h₀.duplicate m.reference is_found y) where
+      pub as_reference : {u : Option Noted} {w : List ℕ} {h : Held} → y ≡ true → ConflictOrMissing i m span at old u → Reported (if_found u) w₁ h₁ w h → ReferenceReported i m span at old w₀ h₀ w h
+      as_reference t k p =
+          record {
+            is =
+                λ e same en es.
+                said (first i h₀.define h₀.duplicate ef n z e same en es ∙ rw t)
+                (reported_seq (reported_as l (r.is e en.is_at (ref_of en))) (reported_as p (k.is h₀.define h₀.duplicate e same en es)));
+          }
 
       pub as_definition : y ≡ false → ReferenceReported i m span at old w₀ h₀ w₁ h₁
-      as_definition t = record { is = λ e same en es. said (first i h₀.define h₀.duplicate ef n z e same en es ∙ rw t) (reported_seq (r.is e en.is_at (ref_of en)) nothing) }
-
--- there is room for one more after 12: some new entry has REF or not, and the span
-some_entry : Bool → Span → Entry
-some_entry x at =
-    record {
-      name = [];
-      path = None;
-      alias = None;
-      quantity = None;
-      note = None;
-      modifiers = record { recipe = false; ref = x; hidden = false; opt = false; new = false };
-      relation = definition false [];
-      source = record { span = span_in at; quantity = None; note = None; modifiers_span = span_in at };
-    }
-
-module _ {define : Define} {duplicate : Duplicate} {x : Bool} {at : Span} {w₀ w : List ℕ} {h₀ h : Held} (r : RedundantRef define duplicate x at w₀ h₀ w h) where
-  pub ref_room : h₀.counts.findings + 1 < 1544 → h.counts.findings < 1544
-  unfolding redundant_ref
-  ref_room l = when_room _ _ (r.is (some_entry x at) (unfold some_entry in refl) (unfold some_entry in refl)) l
-
-  pub ref_sound : Sound w₀ h₀ → Sound w h
-  ref_sound s = reported_sound (r.is (some_entry x at) (unfold some_entry in refl) (unfold some_entry in refl)) s
-
-pub not_false : (b : Bool) → not b ≡ true → b ≡ false
-not_false true e = sym e
-not_false false e = refl
-
-pub not_true : (b : Bool) → not b ≡ false → b ≡ true
-not_true true e = refl
-not_true false e = sym e
+      as_definition t = record { is = λ e same en es. said (first i h₀.define h₀.duplicate ef n z e same en es ∙ rw t) (reported_seq (reported_as l (r.is e en.is_at (ref_of en))) nothing) }

@@ -10,8 +10,10 @@ use Rattle.components.specs.Views.{modifiers_in}
 use Rattle.components.specs.declared.Modifiers.{Modifiers}
 use Rattle.sheet.specs.declared.Define.{Define}
 use Rattle.sheet.specs.declared.Duplicate.{Duplicate}
+use Rattle.model.specs.Rows.{if_found}
+use Rattle.model.specs.declared.Noted.{Noted}
 use Rattle.model.specs.declared.Held.{Held}
-use Rattle.checks.specs.Reports.{Reported}
+use Rattle.memory.specs.Reports.{Reported}
 use Rattle.lookup.specs.References.{modes_of}
 
 -- the modifiers of what the search found
@@ -28,17 +30,17 @@ pub record NewAs (e : Entry) (m : Modifiers) (span at : Span) : Type 0 where
   pub is_at : e.source.modifiers_span ≡ span_in at
 
 -- whatever the new entry is and what the search found: 11
-pub record RedundantNew (define : Define) (duplicate : Duplicate) (is_found : Bool) (at : Span) (w₀ : List ℕ) (h₀ : Held) (w : List ℕ) (h : Held) : Type 0 where
-  pub is : (e : Entry) (same : Option Earlier) → e.source.modifiers_span ≡ span_in at → is_some same ≡ is_found → Reported (redundant_new (modes_of define duplicate) e same) w₀ h₀ w h
+pub record RedundantNew (define : Define) (duplicate : Duplicate) (is_found : Bool) (at : Span) (r : Option Noted) : Type 0 where
+  pub is : (e : Entry) (same : Option Earlier) → e.source.modifiers_span ≡ span_in at → is_some same ≡ is_found → if_found r ≡ redundant_new (modes_of define duplicate) e same
 
 -- 12
-pub record RedundantRef (define : Define) (duplicate : Duplicate) (explicit : Bool) (at : Span) (w₀ : List ℕ) (h₀ : Held) (w : List ℕ) (h : Held) : Type 0 where
-  pub is : (e : Entry) → e.source.modifiers_span ≡ span_in at → e.modifiers.ref ≡ explicit → Reported (redundant_ref (modes_of define duplicate) e) w₀ h₀ w h
+pub record RedundantRef (define : Define) (duplicate : Duplicate) (explicit : Bool) (at : Span) (r : Option Noted) : Type 0 where
+  pub is : (e : Entry) → e.source.modifiers_span ≡ span_in at → e.modifiers.ref ≡ explicit → if_found r ≡ redundant_ref (modes_of define duplicate) e
 
 -- 13 and 14; the modes do not matter
-pub record ConflictOrMissing (k : Kind) (m : Modifiers) (span at : Span) (old : Option Modifiers) (w₀ : List ℕ) (h₀ : Held) (w : List ℕ) (h : Held) : Type 0 where
+pub record ConflictOrMissing (k : Kind) (m : Modifiers) (span at : Span) (old : Option Modifiers) (r : Option Noted) : Type 0 where
   pub is : (define : Define) (duplicate : Duplicate) (e : Entry) (same : Option Earlier) → NewAs e m span at → SameAs same old
-      → Reported (conflict_or_missing (modes_of define duplicate) e (inherits k) same) w₀ h₀ w h
+      → if_found r ≡ conflict_or_missing (modes_of define duplicate) e (inherits k) same
 
 -- 10 to 14
 pub record ReferenceReported (k : Kind) (m : Modifiers) (span at : Span) (old : Option Modifiers) (w₀ : List ℕ) (h₀ : Held) (w : List ℕ) (h : Held) : Type 0 where

@@ -8,22 +8,20 @@ ghost use Rattle.rules.specs.Model.{both, any_beyond, with_ref, inherits};
 ghost use Rattle.parts.specs.Views.{span_in};
 ghost use Rattle.components.specs.Views.{modifiers_in};
 ghost use Rattle.model.specs.Memory.{Sound};
-ghost use Rattle.checks.specs.Reports.{Reported};
+ghost use Rattle.model.specs.Rows.{finding_of};
 ghost use Rattle.reference_findings.specs.Reports.{RedundantNew, RedundantRef, ConflictOrMissing, ReferenceReported};
 ghost use Rattle.model.specs.Kinds.{kind_of};
 
 use components::Modifiers;
-use model::{Held, Kind};
+use model::{Held, Kind, Noted};
 use parts::Span;
 use sheet::{Define, Duplicate};
 
 // A finding with one span.
-pub fn push_one(words: &mut [u32], h: Held, code: u32, s: Span, implicit: bool) -> Held
-    requires { Sound words.old h × (h.counts.findings < 1544) }
-    ensures { Reported (diag code (span_in s ∷ []) implicit ∷ []) words.old h words.new result }
+pub fn one_span(code: u32, s: Span, implicit: bool) -> Noted
+    ensures { finding_of result ≡ diag code (span_in s ∷ []) implicit }
 {
-    let x = model::one_span(code, s.start, s.end, implicit);
-    memory::push_finding(words, h, x)
+    model::one_span(code, s.start, s.end, implicit)
 }
 
 // ---- modifiers
@@ -55,75 +53,44 @@ fn any_beyond(a: Modifiers, b: Modifiers) -> bool
 // ---- the findings
 
 // 11: never in steps mode; else with `[duplicate] new`, or where the name is new.
-fn redundant_new(
-    words: &mut [u32],
-    h: Held,
-    define: Define,
-    duplicate: Duplicate,
-    is_found: bool,
-    at: Span,
-) -> Held
-    requires { Sound words.old h × (h.counts.findings < 1544) }
-    ensures { RedundantNew define duplicate is_found at words.old h words.new result }
+fn redundant_new(define: Define, duplicate: Duplicate, is_found: bool, at: Span) -> Option<Noted>
+    ensures { RedundantNew define duplicate is_found at result }
 {
-    if lookup::is_steps(define) {
-        return h;
+    if lookup::is_steps(define) || (lookup::is_reference(duplicate) && is_found) {
+        return None;
     }
-    if lookup::is_reference(duplicate) {
-        if is_found {
-            return h;
-        }
-        return push_one(words, h, 11, at, false);
-    }
-    push_one(words, h, 11, at, false)
+    Some(one_span(11, at, false))
 }
 
 // 12
-fn redundant_ref(
-    words: &mut [u32],
-    h: Held,
-    define: Define,
-    duplicate: Duplicate,
-    explicit: bool,
-    at: Span,
-) -> Held
-    requires { Sound words.old h × (h.counts.findings < 1544) }
-    ensures { RedundantRef define duplicate explicit at words.old h words.new result }
+fn redundant_ref(define: Define, duplicate: Duplicate, explicit: bool, at: Span) -> Option<Noted>
+    ensures { RedundantRef define duplicate explicit at result }
 {
-    if !explicit {
-        return h;
+    if explicit && (lookup::is_reference(duplicate) || lookup::is_steps(define)) {
+        return Some(one_span(12, at, false));
     }
-    if lookup::is_reference(duplicate) {
-        return push_one(words, h, 12, at, false);
-    }
-    if lookup::is_steps(define) {
-        return push_one(words, h, 12, at, false);
-    }
-    h
+    None
 }
 
 // 13 and 14
 fn conflict_or_missing(
-    words: &mut [u32],
-    h: Held,
     kind: Kind,
     m: Modifiers,
     span: Span,
     at: Span,
     old: Option<Modifiers>,
-) -> Held
-    requires { Sound words.old h × (h.counts.findings < 1544) }
-    ensures { ConflictOrMissing (kind_of kind) m span at old words.old h words.new result }
+) -> Option<Noted>
+    ensures { ConflictOrMissing (kind_of kind) m span at old result }
 {
     let implicit = !m.reference;
     match old {
-        None => push_one(words, h, 14, span, implicit),
+        None => Some(one_span(14, span, implicit)),
         Some(d) => {
             let b = handed_down(kind, d);
             if any_beyond(m, b) {
-                return push_one(words, h, 13, at, implicit);
+                return Some(one_span(13, at, implicit));
             }
-            h
+            None
         }
     }
 }
@@ -147,13 +114,16 @@ pub fn reference_findings(
     let explicit = m.reference;
     if m.new {
         if explicit {
-            return push_one(words, h, 10, at, false);
+            return memory::push_finding(words, h, one_span(10, at, false));
         }
-        return redundant_new(words, h, define, duplicate, is_found, at);
+        let found = redundant_new(define, duplicate, is_found, at);
+        return memory::push_found(words, h, found);
     }
-    let k = redundant_ref(words, h, define, duplicate, explicit, at);
+    let found = redundant_ref(define, duplicate, explicit, at);
+    let k = memory::push_found(words, h, found);
     if lookup::treat_as_reference(define, duplicate, explicit, is_found) {
-        return conflict_or_missing(words, k, kind, m, span, at, old);
+        let found = conflict_or_missing(kind, m, span, at, old);
+        return memory::push_found(words, k, found);
     }
     k
 }

@@ -1,4 +1,4 @@
--- What the pass is given of good inputs, and what may be printed of what it leaves.
+-- What may be printed of what the pass leaves.
 use Prim.Native.Nat.{ℕ, ◌*◌, ◌≤◌}
 use mathlib.Core.Path.{◌≡◌}
 use mathlib.Core.List.{List}
@@ -7,21 +7,12 @@ use Rattle.std.specs.Prelude.{Option, Some, Result, Ok}
 use lib.ListN.{length, take, drop}
 use Rattle.rules.specs.Event.{Event}
 use Rattle.rules.specs.Units.{NamedUnit}
-use Rattle.letters.specs.Tables.{unicode_tables}
-use Rattle.unit_index.specs.Index.{Indexed}
-use Rattle.inputs.specs.Inputs.{InputsChecked, GoodInputs, UnitsReady}
 use Rattle.refusals.specs.declared.Refusal.{Refusal}
-use Rattle.inputs.proofs.Answers.{told_good}
 use Rattle.model.specs.Memory.{Sound, windows_of}
 use Rattle.model.specs.declared.Held.{Held}
 use Rattle.memory.proofs.Whole.{long_ingredients, long_cookware, long_ingredient_pairs, long_cookware_pairs}
 use Rattle.pass.specs.Walks.{Running, RanRecipe, RanBy, RanAs}
 use Rattle.pass.proofs.Rooms.{bounded}
-
-module _ {t sheet text units : List ℕ} {flags n : ℕ} (e : t ≡ unicode_tables) where
-  pub good_given : {index : List ℕ} {a : Result (Unit {0}) Refusal} → InputsChecked sheet text units flags n 65536 a → UnitsReady units index a → a ≡ Ok tt
-      → (t ≡ unicode_tables) × GoodInputs sheet text units flags n 65536 × Indexed units index
-  good_given p x q = (e, told_good (rw q at p), x.indexed q)
 
 module _ {us : List NamedUnit} {flags : ℕ} {sheet text : List ℕ} {es : List Event} {w₀ w : List ℕ} {a : Result (Option Held) Refusal} (p : RanAs us flags sheet text es w₀ w a) {h : Held} (q : a ≡ Ok (Some h)) where
   ran : RanRecipe text us flags sheet es w h

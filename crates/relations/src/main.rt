@@ -4,15 +4,15 @@
 #![tactic(auto)]
 
 ghost use Rattle.std.specs.Prelude.{◌≡◌, ◌*◌, ◌≤◌, length};
-ghost use Rattle.letters.specs.Tables.{unicode_tables};
-ghost use Rattle.unit_index.specs.Index.{Indexed};
 ghost use Rattle.inputs.specs.Inputs.{GoodInputs};
 ghost use Rattle.model.specs.Memory.{Sound};
 
 use model::{Held, Kind, RelationRecord};
+use reading::ReadSheet;
 use refusals::Refusal;
 use std::io;
 use stored_cases::{Case, part};
+use unit_index::UnitList;
 
 // ---- components
 
@@ -52,12 +52,10 @@ fn show_components(
 ) -> io::Result<()>
     requires { (n ≤ 513) × (n * 12 ≤ length rows.now) × (m ≤ 513) × (m * 2 ≤ length pairs.now) }
 {
-    let mut i = 0;
-    while i < n {
+    for i in 0..n {
         let row = model::row_at(rows, i);
         let relation = row.relation;
         show_component(rt, pairs, m, relation, i as u32, kind)?;
-        i += 1;
     }
     Ok(())
 }
@@ -125,17 +123,14 @@ fn show_refusal(rt: &impl Print, f: Refusal) -> io::Result<()> {
 
 fn run(
     rt: &impl Print,
-    t: &[u32],
-    sheet: &[u8],
-    text: &[u8],
-    units: &[u8],
-    index: &[u32],
+    sheet: &ReadSheet,
+    units: &UnitList,
     flags: u32,
     words: &mut [u32],
 ) -> io::Result<()>
-    requires { (t.now ≡ unicode_tables) × GoodInputs sheet.now text.now units.now flags (length words.old) 65536 × Indexed units.now index.now }
+    requires { GoodInputs sheet.now.bytes.now sheet.now.text.now units.now.lines.now flags (length words.old) 65536 }
 {
-    match pass::run(t, sheet, text, units, index, flags, words) {
+    match pass::run(sheet, units, flags, words) {
         Ok(Some(h)) => {
             show_counts(rt, h)?;
             show_both(rt, words, h)
@@ -147,15 +142,12 @@ fn run(
 
 fn check_and_run(
     rt: &impl Print,
-    t: &[u32],
     sheet: &[u8],
     text: &[u8],
     units: &[u8],
     flags: u32,
     words: &mut [u32],
-) -> io::Result<()>
-    requires { t.now ≡ unicode_tables }
-{
+) -> io::Result<()> {
     let mut index = [0u32; 2305];
     match inputs::check_inputs(
         sheet,
@@ -167,32 +159,35 @@ fn check_and_run(
         inputs::BYTES,
     ) {
         Err(f) => show_refusal(rt, f),
-        Ok(()) => run(rt, t, sheet, text, units, &index, flags, words),
+        Ok(()) => {
+            let read = ReadSheet { bytes: sheet, text };
+            let list = UnitList {
+                lines: units,
+                words: &index,
+            };
+            run(rt, &read, &list, flags, words)
+        }
     }
 }
 
-fn relate(rt: &impl Print, t: &[u32], s: &[u8], c: Case, words: &mut [u32]) -> io::Result<()>
-    requires { t.now ≡ unicode_tables }
-{
+fn relate(rt: &impl Print, s: &[u8], c: Case, words: &mut [u32]) -> io::Result<()> {
     rt.write_all(part(s, c.name, c.sheet))?;
     rt.write_all(b"\n")?;
     let sheet = part(s, c.sheet, c.text);
     let text = part(s, c.text, c.units);
     let units = part(s, c.units, c.flags);
     let flags = inputs::read_flags(part(s, c.flags, c.collect));
-    check_and_run(rt, t, sheet, text, units, flags, words)
+    check_and_run(rt, sheet, text, units, flags, words)
 }
 
 // All cases of a file. Nothing is read after what is not as the format says.
-fn relate_all(rt: &impl Print, t: &[u32], s: &[u8], words: &mut [u32]) -> io::Result<()>
-    requires { t.now ≡ unicode_tables }
-{
+fn relate_all(rt: &impl Print, s: &[u8], words: &mut [u32]) -> io::Result<()> {
     let mut at = 0;
     while at < s.len() {
         let Some(c) = stored_cases::case_at(s, at) else {
             return Ok(());
         };
-        relate(rt, t, s, c, words)?;
+        relate(rt, s, c, words)?;
         let next = stored_cases::next_case(s, c);
         if next <= at {
             return Ok(());
@@ -209,9 +204,8 @@ fn words_room() -> [u32; 45661]
 }
 
 fn main(rt: HostRuntime) -> io::Result<()> {
-    let t = letters::unicode_tables();
     let mut words = words_room();
     let mut space = stored_cases::room();
     let n = stored_cases::read_file(&rt, "cases.txt", &mut space)?;
-    relate_all(&rt, &t, part(&space, 0, n), &mut words)
+    relate_all(&rt, part(&space, 0, n), &mut words)
 }

@@ -4,7 +4,7 @@
 // were refused by each number, and how many differ; then the same of the forms, and how many are other than the sheet.
 #![tactic(auto)]
 
-ghost use Rattle.std.specs.Prelude.{◌≡◌, length};
+ghost use Rattle.std.specs.Prelude.{◌≡◌, ◌<◌, length};
 
 use recipe::Answer;
 use refusals::Refusal;
@@ -42,28 +42,6 @@ fn count_of(counts: &[u64; 29], i: usize) -> u64 {
 
 // ---- what has to be zero
 
-fn zero_words(s: &[u32]) -> bool {
-    let mut i = 0;
-    while i < s.len() {
-        if s[i] != 0 {
-            return false;
-        }
-        i += 1;
-    }
-    true
-}
-
-fn zero_bytes(s: &[u8]) -> bool {
-    let mut i = 0;
-    while i < s.len() {
-        if s[i] != 0 {
-            return false;
-        }
-        i += 1;
-    }
-    true
-}
-
 // How many bytes of the output an answer hands out.
 fn used(r: Answer) -> usize {
     match r {
@@ -73,16 +51,11 @@ fn used(r: Answer) -> usize {
 }
 
 fn is_cleared(r: Answer, words: &[u32], bytes: &[u8], out: &[u8]) -> bool {
-    if !zero_words(words) {
-        return false;
-    }
-    if !zero_bytes(bytes) {
-        return false;
-    }
-    if out.len() < used(r) {
-        return false;
-    }
-    zero_bytes(part(out, used(r), out.len()))
+    let n = used(r);
+    n <= out.len()
+        && words.iter().all(|w| *w == 0)
+        && bytes.iter().all(|b| *b == 0)
+        && out[n..].iter().all(|b| *b == 0)
 }
 
 // ---- a case
@@ -266,16 +239,13 @@ fn replay_files(rt: &impl Files, plain: bool, counts: &mut [u64; 29]) -> io::Res
 }
 
 // How many were refused by each number, to `last`, each after these words.
-fn show_refused(rt: &impl Print, words: &[u8], counts: &[u64; 29], last: usize) -> io::Result<()> {
-    let mut i = 1;
-    while i <= 24 {
-        if last < i {
-            return Ok(());
-        }
+fn show_refused(rt: &impl Print, words: &[u8], counts: &[u64; 29], last: usize) -> io::Result<()>
+    requires { last < 29 }
+{
+    for i in 1..last + 1 {
         rt.write_all(words)?;
         rt.print(i)?;
         show(rt, b": ", count_of(counts, i))?;
-        i += 1;
     }
     Ok(())
 }

@@ -120,7 +120,7 @@ pub fn same_bytes(a: &[u8], b: &[u8]) -> bool
     true
 }
 
-#[derive(Clone, Copy)]
+#[derive(Clone, Copy, PartialEq)]
 pub enum EventWord {
     Meta,
     Section,
@@ -171,7 +171,7 @@ pub fn event_word(f: &[u8]) -> Option<EventWord>
     None
 }
 
-#[derive(Clone, Copy)]
+#[derive(Clone, Copy, PartialEq)]
 pub enum BlockKind {
     Step,
     Text,
@@ -190,7 +190,7 @@ pub fn block_kind(f: &[u8]) -> Option<BlockKind>
     None
 }
 
-#[derive(Clone, Copy)]
+#[derive(Clone, Copy, PartialEq)]
 pub enum ValueKind {
     Number,
     Range,
@@ -213,7 +213,7 @@ pub fn value_kind(f: &[u8]) -> Option<ValueKind>
     None
 }
 
-#[derive(Clone, Copy)]
+#[derive(Clone, Copy, PartialEq)]
 pub enum ConfigKey {
     Define,
     Duplicate,
@@ -235,7 +235,7 @@ pub fn config_key(f: &[u8]) -> Option<ConfigKey>
     None
 }
 
-#[derive(Clone, Copy)]
+#[derive(Clone, Copy, PartialEq)]
 pub enum Define {
     All,
     Components,
@@ -268,7 +268,7 @@ pub fn define_mode(f: &[u8]) -> Option<Define>
     None
 }
 
-#[derive(Clone, Copy)]
+#[derive(Clone, Copy, PartialEq)]
 pub enum Duplicate {
     New,
     Reference,

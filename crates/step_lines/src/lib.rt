@@ -4,7 +4,6 @@
 
 ghost use Rattle.std.specs.Prelude.{◌≡◌, true, [], ◌∷◌, ◌++◌, ◌+◌, ◌^◌, ◌<◌, length, None};
 ghost use Rattle.rules.specs.Basic.{codes, tab, lf, decimal, on_some};
-ghost use Rattle.rules.specs.Utf8.{is_utf8};
 ghost use Rattle.rules.specs.Sheet.{line_of};
 ghost use Rattle.rules.specs.Units.{read_units};
 ghost use Rattle.rules.specs.Answer.{units_or, is_good_span};
@@ -13,16 +12,16 @@ ghost use Rattle.rules.specs.Model.{text_item, trimmed_text};
 ghost use Rattle.rules.specs.Components.{timer_of};
 ghost use Rattle.rules.specs.Pass.{pieces, source_text};
 ghost use Rattle.rules.specs.Page.{optional, item_line, timer_line, inline_line};
-ghost use Rattle.letters.specs.Tables.{unicode_tables};
 ghost use Rattle.output.specs.Put.{Put, tabbed};
 ghost use Rattle.content.specs.Contents.{content_in, spell};
 ghost use Rattle.content.specs.Parts.{Field};
-ghost use Rattle.unit_index.specs.Index.{Indexed};
 ghost use Rattle.parts.specs.Views.{text_in, span_in, opt_text_in, opt_quantity_in};
 ghost use Rattle.known_events.specs.Fields.{TextField, OptTextField, OptQuantityFields};
 ghost use Rattle.step_lines.specs.Lines.{kind_word, item_as, PutItem, quantity_as, TextLines, item_text, inline_text, text_text};
 
 use parts::{QuantityView, Span, TextView};
+use unit_index::UnitList;
+use utf8::Utf8;
 
 // What an item refers to by its index.
 #[derive(Clone, Copy)]
@@ -58,10 +57,7 @@ pub fn item_line(rest: &mut [u8], kind: ItemKind, index: u32) -> usize
 fn put_item(out: &mut [u8], at: usize, kind: ItemKind, index: u32) -> usize
     ensures { Put (item_line 0 (item_as kind index)) out.old at out.new result }
 {
-    if out.len() < at {
-        return out.len() + 1;
-    }
-    at + item_line(&mut out[at..], kind, index)
+    output::put_line(out, at, |rest: &mut [u8]| item_line(rest, kind, index))
 }
 
 // An item that is the text of a field.
@@ -82,10 +78,7 @@ fn put_text(out: &mut [u8], at: usize, f: &[u8]) -> usize
     if f.len() == 0 {
         return output::put_bytes(out, at, f);
     }
-    if out.len() < at {
-        return out.len() + 1;
-    }
-    at + text_item_line(&mut out[at..], f)
+    output::put_line(out, at, |rest: &mut [u8]| text_item_line(rest, f))
 }
 
 // How many bytes the lines of a text took, or one more than there is room for; and how many quantities it has.
@@ -96,21 +89,14 @@ pub struct TextItems {
 }
 
 // The items of a field's text, which quantities split.
-fn split_items(
-    t: &[u32],
-    units: &[u8],
-    index: &[u32],
-    rest: &mut [u8],
-    s: &[u8],
-    first: u32,
-) -> TextItems
-    requires { (t.now ≡ unicode_tables) × Indexed units.now index.now × Field s.now × (first + length s.now < 2 ^ 32) }
-    ensures { TextLines item_text (inline_pieces (units_or (read_units units.now)) (content_in s.now)) first rest.old rest.new result }
+fn split_items(units: &UnitList, rest: &mut [u8], s: &[u8], first: u32) -> TextItems
+    requires { Field s.now × (first + length s.now < 2 ^ 32) }
+    ensures { TextLines item_text (inline_pieces (units_or (read_units units.now.lines.now)) (content_in s.now)) first rest.old rest.new result }
 {
     let mut n = 0;
     let mut quantities = 0;
     let mut at = 0;
-    while let Some(q) = inline::find_inline_quantity(t, units, index, s, at) {
+    while let Some(q) = inline::find_inline_quantity(units, s, at) {
         let m = put_text(rest, n, &s[at..q.number_from]);
         n = put_item(rest, m, ItemKind::Inline, first + quantities);
         quantities += 1;
@@ -125,22 +111,20 @@ fn split_items(
 
 // The items of a text in a step, where `first` inline quantities came before.
 pub fn text_items(
-    t: &[u32],
-    units: &[u8],
-    index: &[u32],
+    units: &UnitList,
     flags: u32,
     rest: &mut [u8],
     line: &[u8],
     body: TextView,
     first: u32,
 ) -> TextItems
-    requires { (t.now ≡ unicode_tables) × Indexed units.now index.now × TextField line.now body × (first + length line.now < 2 ^ 32) }
-    ensures { TextLines item_text (pieces (units_or (read_units units.now)) flags (text_in line.now body).content) first rest.old rest.new result }
+    requires { TextField line.now body × (first + length line.now < 2 ^ 32) }
+    ensures { TextLines item_text (pieces (units_or (read_units units.now.lines.now)) flags (text_in line.now body).content) first rest.old rest.new result }
 {
     let s = parts::part_of(line, body.content);
     let bit = flags / 2 % 2;
     if bit == 1 {
-        return split_items(t, units, index, rest, s, first);
+        return split_items(units, rest, s, first);
     }
     let count = text_item_line(rest, s);
     TextItems { count, inline: 0 }
@@ -164,28 +148,22 @@ fn put_inline(out: &mut [u8], at: usize, index: u32, number: &[u8], unit: &[u8])
     requires { Field number.now × Field unit.now }
     ensures { Put (inline_line index (quantity_as number.now unit.now)) out.old at out.new result }
 {
-    if out.len() < at {
-        return out.len() + 1;
-    }
-    at + inline_line(&mut out[at..], index, number, unit)
+    output::put_line(
+        out,
+        at,
+        |rest: &mut [u8]| inline_line(rest, index, number, unit),
+    )
 }
 
 // The quantities of a field's text.
-fn split_quantities(
-    t: &[u32],
-    units: &[u8],
-    index: &[u32],
-    rest: &mut [u8],
-    s: &[u8],
-    first: u32,
-) -> TextItems
-    requires { (t.now ≡ unicode_tables) × Indexed units.now index.now × Field s.now × (first + length s.now < 2 ^ 32) }
-    ensures { TextLines inline_text (inline_pieces (units_or (read_units units.now)) (content_in s.now)) first rest.old rest.new result }
+fn split_quantities(units: &UnitList, rest: &mut [u8], s: &[u8], first: u32) -> TextItems
+    requires { Field s.now × (first + length s.now < 2 ^ 32) }
+    ensures { TextLines inline_text (inline_pieces (units_or (read_units units.now.lines.now)) (content_in s.now)) first rest.old rest.new result }
 {
     let mut count = 0;
     let mut quantities = 0;
     let mut at = 0;
-    while let Some(q) = inline::find_inline_quantity(t, units, index, s, at) {
+    while let Some(q) = inline::find_inline_quantity(units, s, at) {
         count = put_inline(
             rest,
             count,
@@ -204,22 +182,20 @@ fn split_quantities(
 
 // The inline quantities of a text in a step, where `first` came before.
 pub fn inline_lines(
-    t: &[u32],
-    units: &[u8],
-    index: &[u32],
+    units: &UnitList,
     flags: u32,
     rest: &mut [u8],
     line: &[u8],
     body: TextView,
     first: u32,
 ) -> TextItems
-    requires { (t.now ≡ unicode_tables) × Indexed units.now index.now × TextField line.now body × (first + length line.now < 2 ^ 32) }
-    ensures { TextLines inline_text (pieces (units_or (read_units units.now)) flags (text_in line.now body).content) first rest.old rest.new result }
+    requires { TextField line.now body × (first + length line.now < 2 ^ 32) }
+    ensures { TextLines inline_text (pieces (units_or (read_units units.now.lines.now)) flags (text_in line.now body).content) first rest.old rest.new result }
 {
     let bit = flags / 2 % 2;
     if bit == 1 {
         let s = parts::part_of(line, body.content);
-        return split_quantities(t, units, index, rest, s, first);
+        return split_quantities(units, rest, s, first);
     }
     TextItems {
         count: 0,
@@ -228,12 +204,12 @@ pub fn inline_lines(
 }
 
 // The first line of a section with an optional name.
-pub fn section_line(t: &[u32], rest: &mut [u8], line: &[u8], name: Option<TextView>) -> usize
-    requires { (t.now ≡ unicode_tables) × OptTextField line.now name }
+pub fn section_line(rest: &mut [u8], line: &[u8], name: Option<TextView>) -> usize
+    requires { OptTextField line.now name }
     ensures { Put (line_of (codes "section" ∷ optional (on_some trimmed_text (opt_text_in line.now name)) ∷ [])) rest.old 0 rest.new result }
 {
     let a = output::put_bytes(rest, 0, b"section");
-    let b = page_fields::put_optional(t, rest, a, line, name);
+    let b = page_fields::put_optional(rest, a, line, name);
     output::put_byte(rest, b, b'\n')
 }
 
@@ -244,20 +220,19 @@ pub fn unnamed_section_line(rest: &mut [u8]) -> usize
 }
 
 pub fn timer_line(
-    t: &[u32],
     rest: &mut [u8],
     line: &[u8],
     index: u32,
     name: Option<TextView>,
     quantity: Option<QuantityView>,
 ) -> usize
-    requires { (t.now ≡ unicode_tables) × OptTextField line.now name × OptQuantityFields line.now quantity }
+    requires { OptTextField line.now name × OptQuantityFields line.now quantity }
     ensures { Put (timer_line index (timer_of (opt_text_in line.now name) (opt_quantity_in line.now quantity))) rest.old 0 rest.new result }
 {
     let a = output::put_bytes(rest, 0, b"timer");
     let b = output::put_number(rest, a, index);
-    let c = page_fields::put_optional(t, rest, b, line, name);
-    let d = page_fields::put_amount(t, rest, c, line, quantity, false);
+    let c = page_fields::put_optional(rest, b, line, name);
+    let d = page_fields::put_amount(rest, c, line, quantity, false);
     output::put_byte(rest, d, b'\n')
 }
 
@@ -286,13 +261,13 @@ pub fn text_piece(rest: &mut [u8], line: &[u8], body: TextView) -> usize
 }
 
 // The source of a span, escaped.
-pub fn source_piece(rest: &mut [u8], text: &[u8], span: Span) -> usize
-    requires { (is_utf8 text.now ≡ true) × (is_good_span text.now (length text.now) (span_in span) ≡ true) }
-    ensures { Put (spell (source_text text.now (span_in span))) rest.old 0 rest.new result }
+pub fn source_piece(rest: &mut [u8], text: &Utf8, span: Span) -> usize
+    requires { is_good_span text.now.bytes.now (length text.now.bytes.now) (span_in span) ≡ true }
+    ensures { Put (spell (source_text text.now.bytes.now (span_in span))) rest.old 0 rest.new result }
 {
     let from = span.start as usize;
     let to = span.end as usize;
-    output::put_escaped(rest, 0, &text[from..to])
+    output::put_escaped(rest, 0, &text.bytes[from..to])
 }
 
 pub fn text_close(rest: &mut [u8]) -> usize

@@ -4,8 +4,6 @@
 ghost use Rattle.std.specs.Prelude.{◌≡◌, ◌+◌, ◌≤◌, ◌<◌, length};
 ghost use Rattle.rules.specs.Units.{read_units};
 ghost use Rattle.rules.specs.Answer.{units_or};
-ghost use Rattle.unit_index.specs.Index.{Indexed};
-ghost use Rattle.letters.specs.Tables.{unicode_tables};
 ghost use Rattle.content.specs.Parts.{Field};
 ghost use Rattle.parts.specs.Views.{part_of, TextWithin};
 ghost use Rattle.model.specs.Memory.{Sound};
@@ -14,6 +12,7 @@ ghost use Rattle.step_texts.specs.Texts.{PiecesPushed, TextDone};
 
 use model::Held;
 use parts::TextView;
+use unit_index::UnitList;
 
 // The inline quantities of a text.
 fn count_inline(mut h: Held, n: usize) -> Held
@@ -34,22 +33,20 @@ fn push_pieces(h: Held, items: usize, quantities: usize) -> Held
 }
 
 pub fn text_in_step(
-    t: &[u32],
-    units: &[u8],
-    index: &[u32],
+    units: &UnitList,
     flags: u32,
     line: &[u8],
     body: TextView,
     words: &mut [u32],
     h: Held,
 ) -> Held
-    requires { (t.now ≡ unicode_tables) × Indexed units.now index.now × TextWithin line.now body × Field (part_of line.now body.content) × Sound words.old h × (h.counts.findings < 1544) × (h.counts.items + length line.now < 100000) × (h.counts.inline + length line.now < 100000) }
-    ensures { TextDone (units_or (read_units units.now)) flags line.now body words.old h words.new result }
+    requires { TextWithin line.now body × Field (part_of line.now body.content) × Sound words.old h × (h.counts.findings < 1544) × (h.counts.items + length line.now < 100000) × (h.counts.inline + length line.now < 100000) }
+    ensures { TextDone (units_or (read_units units.now.lines.now)) flags line.now body words.old h words.new result }
 {
     let f = parts::part_of(line, body.content);
     let define = h.define;
     if blocks::is_components(define) {
-        if text::has_alphanumeric(t, f) {
+        if text::has_alphanumeric(f) {
             let s = body.span;
             let x = model::one_span(4, s.start, s.end, false);
             return memory::push_finding(words, h, x);
@@ -58,7 +55,7 @@ pub fn text_in_step(
     }
     let bit = flags / 2 % 2;
     if bit == 1 {
-        let n = inline::count_items(t, units, index, f);
+        let n = inline::count_items(units, f);
         return push_pieces(h, n.items, n.quantities);
     }
     push_pieces(h, 1, 0)

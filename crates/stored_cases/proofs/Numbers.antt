@@ -68,6 +68,6 @@ module _ (end : ℕ) (s : List ℕ) (n count i : ℕ) {r : Option Number} (e : n
   unfolding number_from
   tenth_digit h p q = simp (drop-cons s i 0 h, ne_eqb (get_or s i 0) end p, le-ltb count 9 q, and-false) at e
 
-  pub digit : i < length s → (get_or s i 0 ≡ end → ⊥) → 48 ≤ get_or s i 0 → get_or s i 0 ≤ 57 → count < 9 → {b : ℕ} → b ≡ get_or s i 0 → number_from end (n * 10 + (b - 48)) (count + 1) (i + 1) (drop (i + 1) s) ≡ r
+  pub digit : i < length s → (get_or s i 0 ≡ end → ⊥) → 48 ≤ get_or s i 0 → get_or s i 0 ≤ 57 → count < 9 → number_from end (n * 10 + (get_or s i 0 - 48)) (count + 1) (i + 1) (drop (i + 1) s) ≡ r
   unfolding number_from
-  digit h p l u q w = rw w (simp add-one (simp (drop-cons s i 0 h, ne_eqb (get_or s i 0) end p, le-leb 48 (get_or s i 0) l, le-leb (get_or s i 0) 57 u, lt-ltb count 9 q, add-one) at e))
+  digit h p l u q = simp add-one (simp (drop-cons s i 0 h, ne_eqb (get_or s i 0) end p, le-leb 48 (get_or s i 0) l, le-leb (get_or s i 0) 57 u, lt-ltb count 9 q, add-one) at e)

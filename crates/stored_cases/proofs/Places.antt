@@ -12,13 +12,13 @@ pub byte_past : (s : List ℕ) (at : ℕ) → length s ≤ at → 0 ≡ get_or s
 byte_past s at h = sym (get_or-eq_default s 0 h)
 
 module _ (s : List ℕ) (at n : ℕ) where
-  pub after_within : {k : ℕ} → k ≡ n → at ≤ length s → k ≤ length s - at → at + k ≡ after_of s at n
+  pub after_within : at ≤ length s → n ≤ length s - at → at + n ≡ after_of s at n
   unfolding after_of
-  after_within e h l = rw e (simp (le-leb (at + n) (length s) (omega arith)))
+  after_within h l = simp (le-leb (at + n) (length s) (omega arith))
 
-  pub after_end : {k : ℕ} → k ≡ n → at ≤ length s → length s - at < k → length s ≡ after_of s at n
+  pub after_end : at ≤ length s → length s - at < n → length s ≡ after_of s at n
   unfolding after_of
-  after_end e h l = simp (lt-leb (at + n) (length s) (omega arith))
+  after_end h l = simp (lt-leb (at + n) (length s) (omega arith))
 
   pub after_past : length s < at → length s ≡ after_of s at n
   unfolding after_of

@@ -30,18 +30,6 @@ pub struct Case {
     pub end: usize,
 }
 
-fn wide(b: u8) -> u32
-    ensures { result ≡ b }
-{
-    b as u32
-}
-
-fn long(n: u32) -> usize
-    ensures { result ≡ n }
-{
-    n as usize
-}
-
 // The byte at a place; past the end 0.
 fn byte(s: &[u8], at: usize) -> u8
     ensures { result ≡ get_or s.now at 0 }
@@ -58,8 +46,7 @@ fn read_number(s: &[u8], at: usize, end: u8) -> Option<Number>
 {
     let mut n: u32 = 0;
     let mut count: u32 = 0;
-    let mut i = at;
-    while i < s.len() {
+    for i in at..s.len() {
         let b = s[i];
         if b == end {
             if count == 0 {
@@ -70,18 +57,11 @@ fn read_number(s: &[u8], at: usize, end: u8) -> Option<Number>
                 next: i + 1,
             });
         }
-        if b < b'0' {
+        if b < b'0' || b'9' < b || 9 <= count {
             return None;
         }
-        if b'9' < b {
-            return None;
-        }
-        if 9 <= count {
-            return None;
-        }
-        n = n * 10 + (wide(b) - 48);
+        n = n * 10 + (b - 48) as u32;
         count += 1;
-        i += 1;
     }
     None
 }
@@ -90,7 +70,7 @@ fn read_number(s: &[u8], at: usize, end: u8) -> Option<Number>
 fn after(s: &[u8], at: usize, n: u32) -> usize
     ensures { result ≡ after_of s.now at n }
 {
-    let k = long(n);
+    let k = n as usize;
     if at <= s.len() {
         if k <= s.len() - at {
             return at + k;
@@ -141,7 +121,7 @@ fn laid_out(
     let f = after(s, e, collect.value);
     let g = after(s, f, plain.value);
     Case {
-        room: long(room.value),
+        room: room.value as usize,
         name: plain.next,
         sheet: a,
         text: b,

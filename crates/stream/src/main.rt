@@ -5,8 +5,7 @@
 // same name as the line before, and 1 if it has the same content.
 #![tactic(auto)]
 
-ghost use Rattle.std.specs.Prelude.{◌≡◌, ◌≤◌, length};
-ghost use Rattle.letters.specs.Tables.{unicode_tables};
+ghost use Rattle.std.specs.Prelude.{◌≤◌, length};
 
 use std::io;
 use text::Cursor;
@@ -32,9 +31,7 @@ fn one(yes: bool) -> u64
     if yes { 1 } else { 0 }
 }
 
-fn count(t: &[u32], s: &[u8]) -> Counts
-    requires { t.now ≡ unicode_tables }
-{
+fn count(s: &[u8]) -> Counts {
     let mut points: u64 = 0;
     let mut white: u64 = 0;
     let mut alphabetic: u64 = 0;
@@ -43,9 +40,9 @@ fn count(t: &[u32], s: &[u8]) -> Counts
     while at < s.len() {
         let c = content::char_in(s, at);
         points += 1;
-        white += one(letters::is_white_space(t, c.code));
-        alphabetic += one(letters::is_alphabetic(t, c.code));
-        alphanumeric += one(letters::is_alphanumeric(t, c.code));
+        white += one(letters::is_white_space(c.code));
+        alphabetic += one(letters::is_alphabetic(c.code));
+        alphanumeric += one(letters::is_alphanumeric(c.code));
         at += c.size;
     }
     Counts {
@@ -63,13 +60,11 @@ fn and(s: Sum, c: u32) -> Sum {
     }
 }
 
-fn folded(t: &[u32], s: &[u8]) -> Sum
-    requires { t.now ≡ unicode_tables }
-{
+fn folded(s: &[u8]) -> Sum {
     let mut sum = Sum { count: 0, total: 0 };
     let mut c = text::start();
     loop {
-        let p = text::next_folded(t, s, c);
+        let p = text::next_folded(s, c);
         match p {
             None => {
                 return sum;
@@ -100,48 +95,34 @@ fn show_place(rt: &impl Print, line: &[u8]) -> io::Result<()> {
     put(rt, p.start as u64, b"\t")
 }
 
-fn show_same(rt: &impl Print, t: &[u32], before: &[u8], line: &[u8]) -> io::Result<()>
-    requires { t.now ≡ unicode_tables }
-{
-    let same = text::same_name(t, before, line);
+fn show_same(rt: &impl Print, before: &[u8], line: &[u8]) -> io::Result<()> {
+    let same = text::same_name(before, line);
     put(rt, one(same), b"\t")?;
     let equal = content::same_parts(before, line);
     put(rt, one(equal), b"\n")
 }
 
-fn show_read(rt: &impl Print, t: &[u32], line: &[u8]) -> io::Result<()>
-    requires { t.now ≡ unicode_tables }
-{
-    show_counts(rt, count(t, line))?;
-    let any = text::has_alphanumeric(t, line);
+fn show_read(rt: &impl Print, line: &[u8]) -> io::Result<()> {
+    show_counts(rt, count(line))?;
+    let any = text::has_alphanumeric(line);
     put(rt, one(any), b"\t")?;
-    let f = folded(t, line);
+    let f = folded(line);
     put(rt, f.count, b"\t")?;
     put(rt, f.total, b"\t")
 }
 
-fn show_trimmed(rt: &impl Print, t: &[u32], line: &[u8], work: &mut [u8]) -> io::Result<()>
-    requires { t.now ≡ unicode_tables }
-{
-    let r = text::text_outer_trimmed(t, line);
+fn show_trimmed(rt: &impl Print, line: &[u8], work: &mut [u8]) -> io::Result<()> {
+    let r = text::text_outer_trimmed(line);
     put(rt, r.len() as u64, b"\t")?;
-    let n = text::put_text_trimmed(t, work, 0, line);
+    let n = text::put_text_trimmed(work, 0, line);
     put(rt, n as u64, b"\t")
 }
 
-fn show_line(
-    rt: &impl Print,
-    t: &[u32],
-    before: &[u8],
-    line: &[u8],
-    work: &mut [u8],
-) -> io::Result<()>
-    requires { t.now ≡ unicode_tables }
-{
-    show_read(rt, t, line)?;
-    show_trimmed(rt, t, line, work)?;
+fn show_line(rt: &impl Print, before: &[u8], line: &[u8], work: &mut [u8]) -> io::Result<()> {
+    show_read(rt, line)?;
+    show_trimmed(rt, line, work)?;
     show_place(rt, line)?;
-    show_same(rt, t, before, line)
+    show_same(rt, before, line)
 }
 
 // The place of the first line feed from a place on, or the end.
@@ -149,25 +130,21 @@ fn line_end(s: &[u8], at: usize) -> usize
     requires { at ≤ length s.now }
     ensures { (at ≤ result) × (result ≤ length s.now) }
 {
-    let mut i = at;
-    while i < s.len() {
-        if s[i] == 10 {
+    for i in at..s.len() {
+        if s[i] == b'\n' {
             return i;
         }
-        i += 1;
     }
-    i
+    s.len()
 }
 
-fn show_lines(rt: &impl Print, t: &[u32], s: &[u8], work: &mut [u8]) -> io::Result<()>
-    requires { t.now ≡ unicode_tables }
-{
+fn show_lines(rt: &impl Print, s: &[u8], work: &mut [u8]) -> io::Result<()> {
     let mut from = 0;
     let mut to = 0;
     let mut at = 0;
     while at < s.len() {
         let end = line_end(s, at);
-        show_line(rt, t, &s[from..to], &s[at..end], work)?;
+        show_line(rt, &s[from..to], &s[at..end], work)?;
         from = at;
         to = end;
         at = end + 1;
@@ -176,9 +153,8 @@ fn show_lines(rt: &impl Print, t: &[u32], s: &[u8], work: &mut [u8]) -> io::Resu
 }
 
 fn main(rt: HostRuntime) -> io::Result<()> {
-    let tables = letters::unicode_tables();
     let mut space = host::large_buffer();
     let mut work = host::large_buffer();
     let n = host::read_full(&mut rt.stdin(), &mut space)?;
-    show_lines(&rt, &tables, &space[..n], &mut work)
+    show_lines(&rt, &space[..n], &mut work)
 }

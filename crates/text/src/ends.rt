@@ -1,6 +1,4 @@
 // The end of a field without the characters that a trimming drops there.
-ghost use Rattle.std.specs.Prelude.{◌≡◌};
-ghost use Rattle.letters.specs.Tables.{unicode_tables};
 ghost use Rattle.text.specs.Trims.{drops_of, EndAt, LastOf};
 
 use super::Dropped;
@@ -14,8 +12,7 @@ pub(crate) enum Last {
 }
 
 // After a backslash, and where the bytes are no UTF-8, it is unclear.
-pub(crate) fn last_of(t: &[u32], s: &[u8], d: Dropped) -> Last
-    requires { t.now ≡ unicode_tables }
+pub(crate) fn last_of(s: &[u8], d: Dropped) -> Last
     ensures { LastOf (drops_of d) s.now result }
 {
     if s.len() < 1 {
@@ -31,15 +28,14 @@ pub(crate) fn last_of(t: &[u32], s: &[u8], d: Dropped) -> Last
     if i + c.size < s.len() {
         return Last::Unclear;
     }
-    if super::is_dropped(t, d, c.code) {
+    if super::is_dropped(d, c.code) {
         return Last::Goes(i);
     }
     Last::Stays
 }
 
 // The place after the last character that stays, with each character read from the start on.
-pub(crate) fn forward_end(t: &[u32], s: &[u8], d: Dropped) -> usize
-    requires { t.now ≡ unicode_tables }
+pub(crate) fn forward_end(s: &[u8], d: Dropped) -> usize
     ensures { EndAt (drops_of d) s.now result }
 {
     let mut end = 0;
@@ -47,7 +43,7 @@ pub(crate) fn forward_end(t: &[u32], s: &[u8], d: Dropped) -> usize
     while at < s.len() {
         let c = content::char_in(s, at);
         at += c.size;
-        if !super::is_dropped(t, d, c.code) {
+        if !super::is_dropped(d, c.code) {
             end = at;
         }
     }

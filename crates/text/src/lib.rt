@@ -1,5 +1,5 @@
 // The contents of fields as they stand in a sheet, escaped, or of any bytes: trimming, and names that are folded as they
-// are read. The Unicode tables are lent.
+// are read.
 #![tactic(auto)]
 
 mod ends;
@@ -11,7 +11,6 @@ ghost use Rattle.rules.specs.Basic.{blank, any};
 ghost use Rattle.rules.specs.Text.{retain, trim_end, trim_matches};
 ghost use Rattle.rules.specs.Unicode.{is_alphanumeric, same_name};
 ghost use Rattle.content.specs.Contents.{content_in, kept_in};
-ghost use Rattle.letters.specs.Tables.{unicode_tables};
 ghost use Rattle.output.specs.Put.{Put};
 ghost use Rattle.text.specs.Trims.{drops_of, StartAt, EndAt, TrimmedBy, TrimmedTo, PutTrimmed};
 ghost use Rattle.text.specs.Singles.{stay, NextBlank};
@@ -30,25 +29,23 @@ pub enum Dropped {
     NotAlphabetic,
 }
 
-fn is_dropped(t: &[u32], d: Dropped, c: u32) -> bool
-    requires { t.now ≡ unicode_tables }
+fn is_dropped(d: Dropped, c: u32) -> bool
     ensures { result ≡ drops_of d c }
 {
     match d {
-        Dropped::White => letters::is_white_space(t, c),
-        Dropped::NotAlphabetic => !letters::is_alphabetic(t, c),
+        Dropped::White => letters::is_white_space(c),
+        Dropped::NotAlphabetic => !letters::is_alphabetic(c),
     }
 }
 
 // The place of the first character that stays.
-pub fn start_of(t: &[u32], s: &[u8], d: Dropped) -> usize
-    requires { t.now ≡ unicode_tables }
+pub fn start_of(s: &[u8], d: Dropped) -> usize
     ensures { StartAt (drops_of d) s.now result }
 {
     let mut at = 0;
     while at < s.len() {
         let c = content::char_in(s, at);
-        if !is_dropped(t, d, c.code) {
+        if !is_dropped(d, c.code) {
             return at;
         }
         at += c.size;
@@ -57,13 +54,12 @@ pub fn start_of(t: &[u32], s: &[u8], d: Dropped) -> usize
 }
 
 // The place after the last character that stays, sought from the end; a backslash makes it unclear, and then from the start.
-pub fn end_of(t: &[u32], s: &[u8], d: Dropped) -> usize
-    requires { t.now ≡ unicode_tables }
+pub fn end_of(s: &[u8], d: Dropped) -> usize
     ensures { EndAt (drops_of d) s.now result }
 {
     let mut e = fronts::blanks_end(s);
     while 0 < e {
-        match ends::last_of(t, &s[..e], d) {
+        match ends::last_of(&s[..e], d) {
             Last::Stays => {
                 return e;
             }
@@ -71,36 +67,33 @@ pub fn end_of(t: &[u32], s: &[u8], d: Dropped) -> usize
                 e = i;
             }
             Last::Unclear => {
-                return ends::forward_end(t, &s[..e], d);
+                return ends::forward_end(&s[..e], d);
             }
         }
     }
     0
 }
 
-fn trimmed_end<'a>(t: &[u32], s: &'a [u8], d: Dropped) -> &'a [u8]
-    requires { t.now ≡ unicode_tables }
+fn trimmed_end<'a>(s: &'a [u8], d: Dropped) -> &'a [u8]
     ensures { TrimmedBy (trim_end (drops_of d)) s.now result.now }
 {
-    let e = end_of(t, s, d);
+    let e = end_of(s, d);
     &s[..e]
 }
 
 // The field without what is dropped at its ends.
-fn trimmed<'a>(t: &[u32], s: &'a [u8], d: Dropped) -> &'a [u8]
-    requires { t.now ≡ unicode_tables }
+fn trimmed<'a>(s: &'a [u8], d: Dropped) -> &'a [u8]
     ensures { TrimmedBy (trim_matches (drops_of d)) s.now result.now }
 {
-    let a = start_of(t, s, d);
-    trimmed_end(t, &s[a..], d)
+    let a = start_of(s, d);
+    trimmed_end(&s[a..], d)
 }
 
 // The field without White_Space at its ends.
-pub fn text_outer_trimmed<'a>(t: &[u32], s: &'a [u8]) -> &'a [u8]
-    requires { t.now ≡ unicode_tables }
+pub fn text_outer_trimmed<'a>(s: &'a [u8]) -> &'a [u8]
     ensures { TrimmedTo s.now result.now }
 {
-    trimmed(t, s, Dropped::White)
+    trimmed(s, Dropped::White)
 }
 
 // Whether the byte b goes after the byte prev.
@@ -209,23 +202,21 @@ pub fn put_path(out: &mut [u8], at: usize, w: &[u8]) -> usize
 }
 
 // The field trimmed at its ends and with single blanks.
-pub fn put_text_trimmed(t: &[u32], out: &mut [u8], at: usize, s: &[u8]) -> usize
-    requires { t.now ≡ unicode_tables }
+pub fn put_text_trimmed(out: &mut [u8], at: usize, s: &[u8]) -> usize
     ensures { PutTrimmed s.now out.old at out.new result }
 {
-    let w = text_outer_trimmed(t, s);
+    let w = text_outer_trimmed(s);
     put_kept(out, at, w)
 }
 
 // Whether a field has a letter or a number.
-pub fn has_alphanumeric(t: &[u32], s: &[u8]) -> bool
-    requires { t.now ≡ unicode_tables }
+pub fn has_alphanumeric(s: &[u8]) -> bool
     ensures { result ≡ any is_alphanumeric (content_in s.now) }
 {
     let mut at = 0;
     while at < s.len() {
         let c = content::char_in(s, at);
-        if letters::is_alphanumeric(t, c.code) {
+        if letters::is_alphanumeric(c.code) {
             return true;
         }
         at += c.size;
@@ -287,26 +278,24 @@ fn emit(f: Folded, at: usize) -> Option<(u32, Cursor)>
 }
 
 // The first folded code point of the text from at on.
-fn fresh(t: &[u32], s: &[u8], at: usize) -> Option<(u32, Cursor)>
-    requires { t.now ≡ unicode_tables }
+fn fresh(s: &[u8], at: usize) -> Option<(u32, Cursor)>
     ensures { told s.now result ≡ fold_from s.now at }
 {
     if s.len() <= at {
         return None;
     }
     let c = content::kept_char(s, at);
-    emit(letters::fold(t, c.code), at + c.size)
+    emit(letters::fold(c.code), at + c.size)
 }
 
 // The next folded code point.
-pub fn next_folded(t: &[u32], s: &[u8], c: Cursor) -> Option<(u32, Cursor)>
-    requires { t.now ≡ unicode_tables }
+pub fn next_folded(s: &[u8], c: Cursor) -> Option<(u32, Cursor)>
     ensures { told s.now result ≡ rest s.now c }
 {
     let at = c.at;
     let p = c.pending;
     match p {
-        Pending::Nothing => fresh(t, s, at),
+        Pending::Nothing => fresh(s, at),
         Pending::One(x) => Some((
             x,
             Cursor {
@@ -325,15 +314,14 @@ pub fn next_folded(t: &[u32], s: &[u8], c: Cursor) -> Option<(u32, Cursor)>
 }
 
 // Whether two fields have the same folding, their blanks collapsed: both folded as they are read.
-fn same_rest(t: &[u32], a: &[u8], b: &[u8]) -> bool
-    requires { t.now ≡ unicode_tables }
+fn same_rest(a: &[u8], b: &[u8]) -> bool
     ensures { result ≡ same_name (kept_in a.now) (kept_in b.now) }
 {
     let mut i = start();
     let mut j = start();
     loop {
-        let p = next_folded(t, a, i);
-        let q = next_folded(t, b, j);
+        let p = next_folded(a, i);
+        let q = next_folded(b, j);
         match p {
             None => {
                 match q {
@@ -364,8 +352,7 @@ fn same_rest(t: &[u32], a: &[u8], b: &[u8]) -> bool
 }
 
 // What the characters at a place of each of two names tell of the names from there on.
-fn meet(t: &[u32], a: &[u8], i: usize, b: &[u8], j: usize) -> Meeting
-    requires { t.now ≡ unicode_tables }
+fn meet(a: &[u8], i: usize, b: &[u8], j: usize) -> Meeting
     ensures { Met a.now i b.now j result }
 {
     if fronts::is_parted(a, i, b, j) {
@@ -383,16 +370,15 @@ fn meet(t: &[u32], a: &[u8], i: usize, b: &[u8], j: usize) -> Meeting
     }
     let x = content::kept_char(a, i);
     let y = content::kept_char(b, j);
-    let f = letters::fold(t, x.code);
-    let g = letters::fold(t, y.code);
+    let f = letters::fold(x.code);
+    let g = letters::fold(y.code);
     let p = meets::paired(f, g);
-    meets::meet_on(t, a, i + x.size, b, j + y.size, p)
+    meets::meet_on(a, i + x.size, b, j + y.size, p)
 }
 
 // The same for names whose first and last bytes do not tell. No table is asked where their bytes are the same or the same
 // letters of ASCII.
-fn same_whole(t: &[u32], a: &[u8], b: &[u8]) -> bool
-    requires { t.now ≡ unicode_tables }
+fn same_whole(a: &[u8], b: &[u8]) -> bool
     ensures { result ≡ same_name (kept_in a.now) (kept_in b.now) }
 {
     let mut i = 0;
@@ -401,13 +387,13 @@ fn same_whole(t: &[u32], a: &[u8], b: &[u8]) -> bool
         let n = fronts::level(&a[i..], &b[j..]);
         i += n;
         j += n;
-        let m = meet(t, a, i, b, j);
+        let m = meet(a, i, b, j);
         match m {
             Meeting::Answer(r) => {
                 return r;
             }
             Meeting::On(k, l) => {
-                let w = meets::wide_pairs(t, &a[k..], &b[l..]);
+                let w = meets::wide_pairs(&a[k..], &b[l..]);
                 i = k + w;
                 j = l + w;
             }
@@ -416,12 +402,11 @@ fn same_whole(t: &[u32], a: &[u8], b: &[u8]) -> bool
             }
         }
     }
-    same_rest(t, &a[i..], &b[j..])
+    same_rest(&a[i..], &b[j..])
 }
 
 // Whether two fields have the same folding, their blanks collapsed.
-pub fn same_name(t: &[u32], a: &[u8], b: &[u8]) -> bool
-    requires { t.now ≡ unicode_tables }
+pub fn same_name(a: &[u8], b: &[u8]) -> bool
     ensures { result ≡ same_name (kept_in a.now) (kept_in b.now) }
 {
     if fronts::is_parted(a, 0, b, 0) {
@@ -429,7 +414,7 @@ pub fn same_name(t: &[u32], a: &[u8], b: &[u8]) -> bool
     }
     // a name of one byte has no other last one; called in two places, the comparison stays out of the loop over names
     if a.len() < 2 {
-        return same_whole(t, a, b);
+        return same_whole(a, b);
     }
-    !fronts::is_parted_last(a, b) && same_whole(t, a, b)
+    !fronts::is_parted_last(a, b) && same_whole(a, b)
 }

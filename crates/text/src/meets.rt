@@ -1,6 +1,5 @@
 // What characters that are not the same bytes, one of each of two names, tell of the names by their foldings.
 ghost use Rattle.std.specs.Prelude.{◌≡◌, true, ◌≤◌, length};
-ghost use Rattle.letters.specs.Tables.{unicode_tables};
 ghost use Rattle.text.specs.Seams.{Seam, pair_of, Following, Settled, LetterS, StartsSs};
 
 use letters::Folded;
@@ -59,15 +58,14 @@ enum Next {
 }
 
 // Whether the character at a place folds to z alone.
-fn following(t: &[u32], s: &[u8], at: usize, z: u32) -> Next
-    requires { t.now ≡ unicode_tables }
+fn following(s: &[u8], at: usize, z: u32) -> Next
     ensures { Following s.now at z result }
 {
     if s.len() <= at {
         return Next::Other;
     }
     let c = content::kept_char(s, at);
-    match letters::fold(t, c.code) {
+    match letters::fold(c.code) {
         Folded::One(x) => if x == z {
             Next::Past(at + c.size)
         } else {
@@ -79,19 +77,19 @@ fn following(t: &[u32], s: &[u8], at: usize, z: u32) -> Next
 }
 
 // By the two, and one more character where one is to follow.
-pub(crate) fn meet_on(t: &[u32], a: &[u8], i: usize, b: &[u8], j: usize, p: Pair) -> Meeting
-    requires { (t.now ≡ unicode_tables) × (i ≤ length a.now) × (j ≤ length b.now) }
+pub(crate) fn meet_on(a: &[u8], i: usize, b: &[u8], j: usize, p: Pair) -> Meeting
+    requires { (i ≤ length a.now) × (j ≤ length b.now) }
     ensures { Settled a.now i b.now j p result }
 {
     match p {
         Pair::Apart => Meeting::Answer(false),
         Pair::Level => Meeting::On(i, j),
-        Pair::FirstShort(z) => match following(t, a, i, z) {
+        Pair::FirstShort(z) => match following(a, i, z) {
             Next::Other => Meeting::Answer(false),
             Next::Past(k) => Meeting::On(k, j),
             Next::Many => Meeting::Unclear,
         },
-        Pair::SecondShort(z) => match following(t, b, j, z) {
+        Pair::SecondShort(z) => match following(b, j, z) {
             Next::Other => Meeting::Answer(false),
             Next::Past(l) => Meeting::On(i, l),
             Next::Many => Meeting::Unclear,
@@ -103,8 +101,7 @@ pub(crate) fn meet_on(t: &[u32], a: &[u8], i: usize, b: &[u8], j: usize, p: Pair
 // ---- characters beyond ASCII that take as many bytes in both names
 
 // The size of the characters that two names start with, where they differ but fold to one and the same; else 0.
-fn wide_pair(t: &[u32], a: &[u8], b: &[u8]) -> usize
-    requires { t.now ≡ unicode_tables }
+fn wide_pair(a: &[u8], b: &[u8]) -> usize
     ensures { Seam a.now b.now result }
 {
     if a.is_empty() || b.is_empty() {
@@ -118,8 +115,8 @@ fn wide_pair(t: &[u32], a: &[u8], b: &[u8]) -> usize
     if x.size != y.size || x.code == y.code {
         return 0;
     }
-    match letters::fold(t, x.code) {
-        Folded::One(u) => match letters::fold(t, y.code) {
+    match letters::fold(x.code) {
+        Folded::One(u) => match letters::fold(y.code) {
             Folded::One(v) => if u == v { x.size } else { 0 },
             Folded::Two(_, _) => 0,
             Folded::Three(_, _, _) => 0,
@@ -179,11 +176,10 @@ fn sharp_pair(a: &[u8], b: &[u8]) -> usize
 }
 
 // How many bytes one such pair takes.
-fn pair_size(t: &[u32], a: &[u8], b: &[u8]) -> usize
-    requires { t.now ≡ unicode_tables }
+fn pair_size(a: &[u8], b: &[u8]) -> usize
     ensures { Seam a.now b.now result }
 {
-    let k = wide_pair(t, a, b);
+    let k = wide_pair(a, b);
     if k != 0 {
         return k;
     }
@@ -191,13 +187,12 @@ fn pair_size(t: &[u32], a: &[u8], b: &[u8]) -> usize
 }
 
 // How many bytes such characters take at the front of two names.
-pub(crate) fn wide_pairs(t: &[u32], a: &[u8], b: &[u8]) -> usize
-    requires { t.now ≡ unicode_tables }
+pub(crate) fn wide_pairs(a: &[u8], b: &[u8]) -> usize
     ensures { Seam a.now b.now result }
 {
     let mut i = 0;
     loop {
-        let k = pair_size(t, &a[i..], &b[i..]);
+        let k = pair_size(&a[i..], &b[i..]);
         if k == 0 {
             return i;
         }

@@ -26,18 +26,20 @@ use Rattle.units.proofs.Walks.{units_start}
 use Rattle.parts.specs.Views.{part_of, span_in, text_in, opt_text_in, OptTextWithin, quantity_in, opt_quantity_in}
 use Rattle.parts.specs.declared.TextView.{TextView}
 use Rattle.sheet.specs.declared.ValueKind.{ValueKind}
-use Rattle.sheet.specs.declared.ValueKind.TheVariants as kind
+use Rattle.sheet.specs.declared.ValueKind.TheVariants.{Textual}
 use Rattle.parts.specs.declared.QuantityView.{QuantityView}
 use Rattle.compatible.proofs.Laws.{text_kept, within_present}
 use Rattle.model.specs.Blank.{blank, blank_place, blank_kept, blank_tables, blank_timer}
+use Rattle.model.specs.Rows.{finding_of, if_found}
+use Rattle.model.specs.declared.Noted.{Noted}
 use Rattle.model.specs.Memory.{state_of, state_in, Sound}
 use Rattle.model.specs.Small.{with_timers}
 use Rattle.model.specs.declared.Held.{Held}
 use Rattle.memory.proofs.Smalls.{with_timers_lem}
 use Rattle.memory.proofs.Bounds.{sound_timers, fit_timers}
-use Rattle.checks.specs.Reports.{Reported, nothing, more}
-use Rattle.checks.proofs.Reports.{reported_seq, reported_is, reported_fit, reported_sound, reported_count}
-use Rattle.checks.proofs.Laws.{none_found, said}
+use Rattle.memory.specs.Reports.{Reported, nothing, more}
+use Rattle.memory.proofs.Reports.{reported_seq, reported_as, reported_is, reported_fit, reported_sound}
+use Rattle.checks.proofs.Laws.{nothing_found, one_found, none_found, said, textual_not}
 use Rattle.blocks.specs.Lined.{ItemsPushed}
 use Rattle.blocks.proofs.Fitting.{items_fit, items_sound}
 use Rattle.timers.specs.Timed.{LockChecked, time_code, UnitChecked, TimeChecked, with_timer, TimerPushed, TimerDone}
@@ -45,46 +47,38 @@ use Rattle.sheet.specs.Words.{kind_in}
 
 -- ---- 6
 
-module _ {q : Option QuantityView} {w₀ : List ℕ} {h₀ : Held} where
-  pub lock_none : q ≡ None → LockChecked q w₀ h₀ w₀ h₀
+module _ {q : Option QuantityView} where
+  pub lock_none : q ≡ None → LockChecked q None
   unfolding lock_findings opt_quantity_in
-  lock_none e = record { is = λ line. none_found (rw e) }
+  lock_none e = record { is = λ line. nothing_found (rw e) }
 
   module _ (v : QuantityView) (e : q ≡ Some v) where
-    pub lock_free : v.lock ≡ false → LockChecked q w₀ h₀ w₀ h₀
+    pub lock_free : v.lock ≡ false → LockChecked q None
     unfolding lock_findings opt_quantity_in quantity_in when
-    lock_free b = record { is = λ line. none_found (rw (e, b)) }
+    lock_free b = record { is = λ line. nothing_found (rw (e, b)) }
 
-    pub lock_found : {w : List ℕ} {h : Held} → v.lock ≡ true → Reported (found 6 (span_in v.value_span) ∷ []) w₀ h₀ w h → LockChecked q w₀ h₀ w h
+    pub lock_found : {x : Noted} → v.lock ≡ true → finding_of x ≡ found 6 (span_in v.value_span) → LockChecked q (Some x)
     unfolding lock_findings opt_quantity_in quantity_in when
-    lock_found b r = record { is = λ line. said (rw (e, b)) r }
-
-lock_short : (o : Option rules.Quantity) → length (lock_findings o) ≤ 1
-unfolding lock_findings
-lock_short None = omega arith
-lock_short (Some q) = by q.lock
-  where
-    by : (b : Bool) → length (when b (found 6 q.value_span)) ≤ 1
-    by true = unfold when in omega arith
-    by false = unfold when in omega arith
-
-pub lock_room : {q : Option QuantityView} {w₀ w : List ℕ} {h₀ h : Held} → LockChecked q w₀ h₀ w h → h₀.counts.findings + 2 < 1544 → h.counts.findings + 1 < 1544
-lock_room {q} l b = let k = reported_count (l.is []) in let m = lock_short (opt_quantity_in [] q) in omega arith
+    lock_found b k = record { is = λ line. one_found _ k (rw (e, b)) }
 
 -- ---- 21
 
-module _ {k : ValueKind} (f : Finding) where
-  pub kind_number : k ≡ kind.Number → when (is_textual (kind_in k)) f ≡ []
-  unfolding when is_textual kind_in
-  kind_number e = rw e
+module _ {k : ValueKind} {v : Bool} where
+  pub textual_is : k ≡ Textual → v ≡ true → v ≡ is_textual (kind_in k)
+  unfolding is_textual kind_in
+  textual_is e t = rw (e, t)
 
-  pub kind_range : k ≡ kind.Range → when (is_textual (kind_in k)) f ≡ []
-  unfolding when is_textual kind_in
-  kind_range e = rw e
+  pub textual_else : (k ≡ Textual → ⊥) → v ≡ false → v ≡ is_textual (kind_in k)
+  textual_else n t = t ∙ textual_not k n
 
-  pub kind_textual : k ≡ kind.Textual → when (is_textual (kind_in k)) f ≡ f ∷ []
-  unfolding when is_textual kind_in
-  kind_textual e = rw e
+module _ {b v : Bool} (f : Finding) (e : v ≡ b) where
+  pub when_found : v ≡ true → when b f ≡ f ∷ []
+  unfolding when
+  when_found t = rw (← e, t)
+
+  pub when_none : v ≡ false → when b f ≡ []
+  unfolding when
+  when_none t = rw (← e, t)
 
 -- ---- 22 and 23
 
@@ -107,9 +101,9 @@ module _ (us : List NamedUnit) (flags : ℕ) (s : rules.Span) where
       go true e = no_some e
       go false e = unfold when in ap (λ (m : ℕ). found m s ∷ []) (some_inj e)
 
-pub unit_none : {us : List NamedUnit} {line : List ℕ} {u : Option TextView} {w : List ℕ} {h : Held} → u ≡ None → UnitChecked us line u w h w h
+pub unit_none : {us : List NamedUnit} {line : List ℕ} {u : Option TextView} → u ≡ None → UnitChecked us line u None
 unfolding timer_unit opt_text_in
-unit_none e = record { is = λ flags. none_found (rw e) }
+unit_none e = record { is = λ flags. nothing_found (rw e) }
 
 unit_is : (us : List NamedUnit) (line : List ℕ) {u : Option TextView} (v : TextView) → u ≡ Some v → (flags : ℕ) → timer_unit us flags (opt_text_in line u) ≡ time_unit us flags (span_in v.span) (find_unit (trimmed_text (text_in line v)) us)
 unfolding timer_unit opt_text_in text_in
@@ -122,11 +116,11 @@ module _ (s : List ℕ) (line : List ℕ) {u : Option TextView} (v : TextView) (
       c ∙ ap time_code (f ∙ (ap (λ (y : List ℕ). find_unit y (units_from s 0)) (text_kept line v x (within_present line u v z e) t)
       ∙ ap (λ (us : List NamedUnit). find_unit (trimmed_text (text_in line v)) us) (units_start s g)))
 
-  pub unit_time : {w : List ℕ} {h : Held} → r ≡ None → UnitChecked (units_or (read_units s)) line u w h w h
-  unit_time o = record { is = λ flags. none_found (unit_is _ line v e flags ∙ time_none _ flags _ _ (sym unit_code_lem ∙ o)) }
+  pub unit_time : r ≡ None → UnitChecked (units_or (read_units s)) line u None
+  unit_time o = record { is = λ flags. nothing_found (unit_is _ line v e flags ∙ time_none _ flags _ _ (sym unit_code_lem ∙ o)) }
 
-  pub unit_found : (n : ℕ) {w₀ w : List ℕ} {h₀ h : Held} → r ≡ Some n → Reported (found n (span_in v.span) ∷ []) w₀ h₀ w h → UnitChecked (units_or (read_units s)) line u w₀ h₀ w h
-  unit_found n o k = record { is = λ flags. said (unit_is _ line v e flags ∙ time_found _ flags _ _ n (sym unit_code_lem ∙ o)) k }
+  pub unit_found : (n : ℕ) {y : Noted} → r ≡ Some n → finding_of y ≡ found n (span_in v.span) → UnitChecked (units_or (read_units s)) line u (Some y)
+  unit_found n o k = record { is = λ flags. one_found _ k (unit_is _ line v e flags ∙ time_found _ flags _ _ n (sym unit_code_lem ∙ o)) }
 
 -- ---- 21 to 23
 
@@ -135,10 +129,10 @@ module _ {us : List NamedUnit} {line : List ℕ} {q : Option QuantityView} {w₀
   unfolding timer_checks opt_quantity_in
   checks_none e = record { is = λ flags. none_found (rw e) }
 
-  pub checks_both : {w₁ w : List ℕ} {h₁ h : Held} (v : QuantityView) → q ≡ Some v → Reported (when (is_textual (kind_in v.kind)) (found 21 (span_in v.value_span))) w₀ h₀ w₁ h₁
-      → UnitChecked us line v.unit w₁ h₁ w h → TimeChecked us line q w₀ h₀ w h
+  pub checks_both : (x y : Option Noted) {w₁ w : List ℕ} {h₁ h : Held} (v : QuantityView) → q ≡ Some v → if_found x ≡ when (is_textual (kind_in v.kind)) (found 21 (span_in v.value_span)) → Reported (if_found x) w₀ h₀ w₁ h₁
+      → UnitChecked us line v.unit y → Reported (if_found y) w₁ h₁ w h → TimeChecked us line q w₀ h₀ w h
   unfolding timer_checks opt_quantity_in quantity_in
-  checks_both v e a b = record { is = λ flags. said (rw e) (reported_seq a (b.is flags)) }
+  checks_both x y v e a k b l = record { is = λ flags. said (rw e) (reported_seq (reported_as k a) (reported_as l (b.is flags))) }
 
 -- ---- the timer and its item
 
@@ -205,10 +199,11 @@ module _ {us : List NamedUnit} {flags : ℕ} {line : List ℕ} {name : Option Te
         fit = λ sheet a. p.fit sheet w (reported_fit f sheet a);
       }
 
-  pub timer_plain : (flags / 4 % 2 ≡ 1 → ⊥) → LockChecked q w₀ h₀ w h → Sound w₀ h₀ → TimerPushed h r → TimerDone us flags line name q w₀ h₀ w r
+module _ {us : List NamedUnit} {flags : ℕ} {line : List ℕ} {name : Option TextView} {q : Option QuantityView} {x : Option Noted} (l : LockChecked q x) {w₀ w₁ : List ℕ} {h₀ h₁ : Held} (k : Reported (if_found x) w₀ h₀ w₁ h₁) (z : Sound w₀ h₀) {r : Held} where
+  pub timer_plain : (flags / 4 % 2 ≡ 1 → ⊥) → TimerPushed h₁ r → TimerDone us flags line name q w₀ h₀ w₁ r
   unfolding timer_findings has_advanced_units
-  timer_plain n l z p = timer_done (said (rw (ne_eqb (flags / 4 % 2) 1 n)) (reported_seq (l.is line) nothing)) z p
+  timer_plain n p = timer_done (said (rw (ne_eqb (flags / 4 % 2) 1 n)) (reported_seq (reported_as k (l.is line)) nothing)) z p
 
-  pub timer_checked : {w₁ : List ℕ} {h₁ : Held} → flags / 4 % 2 ≡ 1 → LockChecked q w₀ h₀ w₁ h₁ → TimeChecked us line q w₁ h₁ w h → Sound w₀ h₀ → TimerPushed h r → TimerDone us flags line name q w₀ h₀ w r
+  pub timer_checked : {w : List ℕ} {h : Held} → flags / 4 % 2 ≡ 1 → TimeChecked us line q w₁ h₁ w h → TimerPushed h r → TimerDone us flags line name q w₀ h₀ w r
   unfolding timer_findings has_advanced_units
-  timer_checked n l c z p = timer_done (said (rw (eq-eqb (flags / 4 % 2) 1 n)) (reported_seq (l.is line) (c.is flags))) z p
+  timer_checked n c p = timer_done (said (rw (eq-eqb (flags / 4 % 2) 1 n)) (reported_seq (reported_as k (l.is line)) (c.is flags))) z p

@@ -1,5 +1,5 @@
 -- What `timer` lines leave in work memory. Of a timer only that it is there is kept.
-use Rattle.std.specs.Prelude.{ℕ, List, [], ◌∷◌, length, Option, None, Some}
+use Rattle.std.specs.Prelude.{ℕ, ◌≡◌, List, [], ◌∷◌, length, Option, None, Some}
 use Rattle.rules.specs.Basic.{pick}
 use Rattle.rules.specs.Units.{NamedUnit, PhysicalQuantity, time, same_physical}
 use Rattle.rules.specs.Model.{Timer, timer_item}
@@ -9,14 +9,16 @@ use Rattle.rules.specs.Pass.{push_items, push_timer}
 use Rattle.parts.specs.Views.{opt_text_in, opt_quantity_in}
 use Rattle.model.specs.Fits.{AllFit}
 use Rattle.model.specs.declared.Held.{Held}
-use Rattle.checks.specs.Reports.{Reported}
+use Rattle.model.specs.Rows.{if_found}
+use Rattle.model.specs.declared.Noted.{Noted}
+use Rattle.memory.specs.Reports.{Reported}
 use Rattle.blocks.specs.Lined.{Told, Went}
 use Rattle.parts.specs.declared.TextView.{TextView}
 use Rattle.parts.specs.declared.QuantityView.{QuantityView}
 
 -- 6, whatever the line is
-pub record LockChecked (q : Option QuantityView) (w₀ : List ℕ) (h₀ : Held) (w : List ℕ) (h : Held) : Type 0 where
-  pub is : (line : List ℕ) → Reported (lock_findings (opt_quantity_in line q)) w₀ h₀ w h
+pub record LockChecked (q : Option QuantityView) (r : Option Noted) : Type 0 where
+  pub is : (line : List ℕ) → if_found r ≡ lock_findings (opt_quantity_in line q)
 
 -- the code for a timer's unit; none where it is of time
 unfoldable pub time_code : Option PhysicalQuantity → Option ℕ
@@ -24,8 +26,8 @@ time_code None = Some 23
 time_code (Some p) = pick (same_physical p time) None (Some 22)
 
 -- 22 and 23; the flags do not matter here
-pub record UnitChecked (us : List NamedUnit) (line : List ℕ) (u : Option TextView) (w₀ : List ℕ) (h₀ : Held) (w : List ℕ) (h : Held) : Type 0 where
-  pub is : (flags : ℕ) → Reported (timer_unit us flags (opt_text_in line u)) w₀ h₀ w h
+pub record UnitChecked (us : List NamedUnit) (line : List ℕ) (u : Option TextView) (r : Option Noted) : Type 0 where
+  pub is : (flags : ℕ) → if_found r ≡ timer_unit us flags (opt_text_in line u)
 
 -- 21 to 23
 pub record TimeChecked (us : List NamedUnit) (line : List ℕ) (q : Option QuantityView) (w₀ : List ℕ) (h₀ : Held) (w : List ℕ) (h : Held) : Type 0 where

@@ -31,9 +31,10 @@ use Rattle.model.specs.declared.Row.{Row}
 use Rattle.model.specs.declared.Held.{Held}
 use Rattle.model.proofs.Entries.{entry_relation}
 use Rattle.memory.specs.Pushes.{count_of, pairs_of}
-use Rattle.checks.specs.Reports.{Reported, NoteWithin, ReferenceChecked}
-use Rattle.checks.proofs.Reports.{reported_seq, reported_sound, reported_fit, reported_count}
-use Rattle.checks.proofs.Frames.{framed_count, reported_framed}
+use Rattle.checks.specs.Reports.{NoteWithin, ReferenceChecked}
+use Rattle.memory.specs.Reports.{Reported}
+use Rattle.memory.proofs.Reports.{reported_seq, reported_sound, reported_fit, reported_count}
+use Rattle.memory.proofs.Frames.{framed_count, reported_framed}
 use Rattle.checks.proofs.Laws.{none_found, said, note_read}
 use Rattle.lookup.specs.Names.{rows_in, pairs_in, earlier_at}
 use Rattle.recall.specs.Recalls.{Recalled}

@@ -34,7 +34,7 @@ use Rattle.model.specs.declared.Held.{Held}
 use Rattle.model.proofs.Tables.{entries_length, entries_at}
 use Rattle.model.proofs.Entries.{entry_quantity, entry_source}
 use Rattle.memory.specs.Pushes.{count_of, pairs_of}
-use Rattle.checks.proofs.Frames.{Framed, framed_pairs}
+use Rattle.memory.proofs.Frames.{Framed, framed_pairs}
 use Rattle.lookup.specs.Names.{rows_in, pairs_in, earlier_in, earlier_at}
 use Rattle.lookup.proofs.Names.{part_slice}
 use Rattle.recall.specs.Recalls.{Recalled, QuantityRecalled}

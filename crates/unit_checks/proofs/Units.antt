@@ -19,7 +19,7 @@ use Rattle.rules.specs.State.{table_of}
 use Rattle.parts.specs.Views.{opt_quantity_in}
 use Rattle.model.specs.Blank.{blank_span}
 use Rattle.compatible.specs.Fitting.{trimmed_in}
-use Rattle.model.specs.Rows.{row_at, row_of, component_of_line, entry_as, relation_in, relation_as, referrers_in, referrers_from}
+use Rattle.model.specs.Rows.{row_at, row_of, component_of_line, entry_as, relation_in, relation_as, referrers_in, referrers_from, if_found}
 use Rattle.model.specs.Memory.{windows_of, state_in, Sound}
 use Rattle.model.specs.Fits.{Fits, AllFit}
 use Rattle.model.specs.Searches.{NextReferrer, NextAs}
@@ -27,14 +27,16 @@ use Rattle.model.specs.declared.Target.{Target}
 use Rattle.model.specs.declared.Target.TheVariants.{Ingredient, Step, Section}
 use Rattle.model.specs.declared.Relation.TheVariants.{Definition, Reference}
 use Rattle.model.specs.declared.Row.{Row}
+use Rattle.model.specs.declared.Noted.{Noted}
 use Rattle.model.specs.declared.Held.{Held}
 use Rattle.model.proofs.Entries.{entry_relation}
 use Rattle.model.proofs.Searches.{referrers_oldest}
 use Rattle.memory.proofs.Whole.{long_ingredient_pairs}
-use Rattle.checks.specs.Reports.{Reported, UnitsChecked}
-use Rattle.checks.proofs.Reports.{reported_seq, reported_sound, reported_fit, reported_count}
-use Rattle.checks.proofs.Frames.{Framed, framed_none, framed_seq, framed_count, framed_pairs, reported_framed, reported_table}
-use Rattle.checks.proofs.Laws.{none_found, said}
+use Rattle.checks.specs.Reports.{UnitsChecked}
+use Rattle.memory.specs.Reports.{Reported, nothing}
+use Rattle.memory.proofs.Reports.{reported_seq, reported_as, reported_sound, reported_fit, found_count}
+use Rattle.memory.proofs.Frames.{Framed, framed_none, framed_seq, framed_count, framed_pairs, reported_framed, reported_table}
+use Rattle.checks.proofs.Laws.{nothing_found, none_found, said}
 use Rattle.lookup.specs.Names.{rows_in, pairs_in, earlier_in, earlier_at}
 use Rattle.recall.specs.Recalls.{QuantityRecalled}
 use Rattle.unit_checks.specs.Checked.{QuantityOf, UnitKnown, fits_unit, fits_row, RowChecked, ReferrersChecked, UnitChecked}
@@ -65,8 +67,8 @@ module _ (w : List ℕ) (i : ℕ) where
   pub window_fits : {sheet : List ℕ} {h : Held} {r : Row} → AllFit sheet w h → i < h.counts.ingredients → r ≡ row_of (row_at 12 (take 6156 (drop 0 w)) i) → Fits ingredient sheet r
   window_fits a l e = row_fits a ingredient i l (row_window e)
 
-pub row_none : {us : List NamedUnit} {sheet line : List ℕ} {a : Option QuantityView} {i : ℕ} {w : List ℕ} {h : Held} → h.counts.ingredients ≤ i → RowChecked us sheet line a i w h w h
-row_none {us} {sheet} {i = i} {w = w} {h = h} l = record { is = λ new q. none_found (ap (unit_against us new) (entry_past ingredient sheet w h i l) ∙ (unfold unit_against in refl)) }
+pub row_none : {us : List NamedUnit} {sheet line : List ℕ} {a : Option QuantityView} {i : ℕ} {w : List ℕ} {h : Held} → h.counts.ingredients ≤ i → RowChecked us sheet line a i w h None
+row_none {us} {sheet} {i = i} {w = w} {h = h} l = record { is = λ new q. nothing_found (ap (unit_against us new) (entry_past ingredient sheet w h i l) ∙ (unfold unit_against in refl)) }
 
 module _ (i : ℕ) {sheet w₀ : List ℕ} {h₀ : Held} {r : Row} (f : AllFit sheet w₀ h₀) (l : i < h₀.counts.ingredients) (e : r ≡ row_of (row_at 12 (take 6156 (drop 0 w₀)) i)) where
   abbrev by : List ℕ
@@ -87,11 +89,11 @@ module _ (i : ℕ) {sheet w₀ : List ℕ} {h₀ : Held} {r : Row} (f : AllFit s
 
   pub row_fitting : {us vs : List NamedUnit} {line : List ℕ} {a : Option QuantityView} {has : Bool} {g x : List ℕ} {m : ℕ} {t : Bool} → us ≡ vs → UnitKnown us line a has g x m
       → t ≡ fits_unit us (component_of_line ingredient (take (r.line_end - r.line_at) (drop r.line_at sheet))).quantity (pick has (Some (trimmed_in g)) None) → t ≡ true
-      → RowChecked vs sheet line a i w₀ h₀ w₀ h₀
+      → RowChecked vs sheet line a i w₀ h₀ None
   row_fitting {us} {line = line} {a} ev k t z =
       rw (← ev)
       record {
-        is = λ new n. none_found (row_pair us new n ∙ finding_none us new (opt_quantity_in line a) _ _ (λ q o. ap (fits_unit us _) (k.is q o) ∙ sym t ∙ z));
+        is = λ new n. nothing_found (row_pair us new n ∙ finding_none us new (opt_quantity_in line a) _ _ (λ q o. ap (fits_unit us _) (k.is q o) ∙ sym t ∙ z));
       }
 
   pub fits_there : (us : List NamedUnit) (b : Option (List ℕ)) {t : Bool} → t ≡ fits_unit us (component_of_line ingredient (take (r.line_end - r.line_at) (drop r.line_at sheet))).quantity b → t ≡ fits_row us sheet w₀ h₀ i b
@@ -105,15 +107,8 @@ module _ (i : ℕ) {sheet w₀ : List ℕ} {h₀ : Held} {r : Row} (f : AllFit s
     same us {line} {a} new n =
         row_pair us new n ∙ ap (λ (x : Option rules.Quantity). unit_pair us new (on_some (amount_of true) (opt_quantity_in line a)) (on_some (amount_of true) x) (entry_as ingredient sheet r by)) (sym q.is)
 
-    pub row_checked : {us : List NamedUnit} {line : List ℕ} {a : Option QuantityView} {w : List ℕ} {h : Held}
-        → UnitsChecked us line a (take (r.line_end - r.line_at) (drop r.line_at sheet)) b w₀ h₀ w h → RowChecked us sheet line a i w₀ h₀ w h
-    row_checked {us} u =
-        record {
-          is =
-              λ new n.
-              said (same us new n)
-              (u.is true true new (entry_as ingredient sheet r by) n.is_source (quantity_source (window_fits w₀ i f l e) q by));
-        }
+    pub row_checked : {us : List NamedUnit} {line : List ℕ} {a : Option QuantityView} {x : Option Noted} → UnitsChecked us line a (take (r.line_end - r.line_at) (drop r.line_at sheet)) b x → RowChecked us sheet line a i w₀ h₀ x
+    row_checked {us} u = record { is = λ new n. u.is true true new (entry_as ingredient sheet r by) n.is_source (quantity_source (window_fits w₀ i f l e) q by) ∙ sym (same us new n) }
 
 module _ (us : List NamedUnit) (sheet w : List ℕ) (h : Held) (i : ℕ) (b : Option (List ℕ)) where
   pub fits_past : h.counts.ingredients ≤ i → true ≡ fits_row us sheet w h i b
@@ -125,10 +120,10 @@ module _ (us : List NamedUnit) (sheet w : List ℕ) (h : Held) (i : ℕ) (b : Op
 
 -- a row that fits draws nothing
 pub row_skipped : {us vs : List NamedUnit} {sheet line : List ℕ} {a : Option QuantityView} {has : Bool} {g x : List ℕ} {m i : ℕ} {w : List ℕ} {h : Held} {t : Bool} → AllFit sheet w h → us ≡ vs → UnitKnown us line a has g x m
-    → t ≡ fits_row us sheet w h i (pick has (Some (trimmed_in g)) None) → t ≡ true → RowChecked vs sheet line a i w h w h
+    → t ≡ fits_row us sheet w h i (pick has (Some (trimmed_in g)) None) → t ≡ true → RowChecked vs sheet line a i w h None
 row_skipped {us} {vs} {sheet} {line} {a} {has} {g} {i = i} {w} {h} {t} f ev k e z = by_order h.counts.ingredients i row_none there
   where
-    there : i < h.counts.ingredients → RowChecked vs sheet line a i w h w h
+    there : i < h.counts.ingredients → RowChecked vs sheet line a i w h None
     there l = row_fitting i f l refl ev k (e ∙ sym (fits_there i f l refl us (pick has (Some (trimmed_in g)) None) refl)) z
 
 -- ---- what it leaves, whatever the entry is
@@ -165,30 +160,21 @@ pub against_few : (us : List NamedUnit) (new : Entry) (o : Option Entry) → len
 against_few us new None = unfold unit_against in omega arith
 against_few us new (Some old) = unfold unit_against in pair_few us new new.quantity old.quantity old
 
-module _ {us : List NamedUnit} {sheet line : List ℕ} {a : Option QuantityView} {i : ℕ} {w₀ w : List ℕ} {h₀ h : Held} (c : RowChecked us sheet line a i w₀ h₀ w h) where
-  row_told : Reported (unit_against us (sample ingredient line a) (entry_at i (table_of ingredient (state_in sheet w₀ h₀)))) w₀ h₀ w h
-  row_told = c.is (sample ingredient line a) (sample_of ingredient line a)
-
-  pub row_sound : Sound w₀ h₀ → Sound w h
-  row_sound z = reported_sound row_told z
-
-  pub row_fit : AllFit sheet w₀ h₀ → AllFit sheet w h
-  row_fit f = reported_fit row_told sheet f
-
-  pub row_framed : Framed w₀ h₀ w h
-  row_framed = reported_framed row_told
-
-  pub row_table : table_of ingredient (state_in sheet w h) ≡ table_of ingredient (state_in sheet w₀ h₀)
-  row_table = reported_table row_told ingredient sheet
-
-  pub row_few : h.counts.findings ≤ h₀.counts.findings + 1
-  row_few = omega (arith, reported_count row_told, against_few us (sample ingredient line a) (entry_at i (table_of ingredient (state_in sheet w₀ h₀))))
+-- what a row drew, stored
+module _ (x : Option Noted) {w₀ w : List ℕ} {h₀ h : Held} (p : Reported (if_found x) w₀ h₀ w h) where
+  row_told : {us : List NamedUnit} {sheet line : List ℕ} {a : Option QuantityView} {i : ℕ} → RowChecked us sheet line a i w₀ h₀ x → (new : Entry) → QuantityOf new ingredient line a
+      → Reported (unit_against us new (entry_at i (table_of ingredient (state_in sheet w₀ h₀)))) w₀ h₀ w h
+  row_told c new q = reported_as p (c.is new q)
 
   pub row_below : {d : ℕ} → d < h₀.counts.ingredients → d < h.counts.ingredients
-  row_below l = omega (arith, framed_count row_framed ingredient)
+  row_below l = omega (arith, framed_count (reported_framed p) ingredient)
 
   pub row_left : h₀.counts.findings + h₀.counts.ingredient_pairs < 1544 → h.counts.findings + h.counts.ingredient_pairs ≤ 1544
-  row_left l = omega (arith, framed_pairs row_framed ingredient, row_few)
+  row_left l = omega (arith, framed_pairs (reported_framed p) ingredient, found_count x p)
+
+nothing_told : {w : List ℕ} {h : Held} → Reported (if_found None) w h w h
+unfolding if_found
+nothing_told = nothing
 
 -- ---- the referrers
 
@@ -244,20 +230,24 @@ module _ {us : List NamedUnit} {sheet line : List ℕ} {a : Option QuantityView}
         pub going_less : from < next
         going_less = found.0
 
-        pub going_turn : {w₁ : List ℕ} {h₁ : Held} → from < h₀.counts.ingredient_pairs → RowChecked us sheet line a i w h w₁ h₁ → Going us sheet line a d w₀ h₀ w₁ h₁ next
-        going_turn {w₁} {h₁} l c =
+        pub going_turn : {y : Option Noted} {w₁ : List ℕ} {h₁ : Held} → from < h₀.counts.ingredient_pairs → RowChecked us sheet line a i w h y → Reported (if_found y) w h w₁ h₁ → Going us sheet line a d w₀ h₀ w₁ h₁ next
+        going_turn l c p =
             record {
-              sound = row_sound c g.sound;
-              fit = row_fit c g.fit;
-              framed = framed_seq g.framed (row_framed c);
-              table = row_table c ∙ g.table;
-              room = omega (arith, row_few c, g.room, found.0, found.1);
+              sound = reported_sound p g.sound;
+              fit = reported_fit p sheet g.fit;
+              framed = framed_seq g.framed (reported_framed p);
+              table = reported_table p ingredient sheet ∙ g.table;
+              room = omega (arith, found_count _ p, g.room, found.0, found.1);
               is =
                   λ new n w₂ h₂ r.
                   g.is new n w₂ h₂
                   (said (ap (units_against us new (table_of ingredient (state_in sheet w₀ h₀))) found.2 ∙ units_more us new (table_of ingredient (state_in sheet w₀ h₀)) i _)
-                  (reported_seq (said (ap (λ (t : List Entry). unit_against us new (entry_at i t)) (sym g.table)) (c.is new n)) r));
+                  (reported_seq (said (ap (λ (t : List Entry). unit_against us new (entry_at i t)) (sym g.table)) (row_told _ p c new n)) r));
             }
+
+        -- nothing is drawn
+        pub going_skip : from < h₀.counts.ingredient_pairs → RowChecked us sheet line a i w h None → Going us sheet line a d w₀ h₀ w h next
+        going_skip l c = going_turn l c nothing_told
 
 -- ---- the definition, and then its referrers
 
@@ -281,7 +271,7 @@ referrers_none k Step in_step index _ = refl
 referrers_none k Section in_step index _ = refl
 
 module _ {us : List NamedUnit} {sheet line : List ℕ} {a : Option QuantityView} {d : ℕ} {w₀ w₁ : List ℕ} {h₀ h₁ : Held} {r : Row} (e : r ≡ row_of (row_at 12 (take 6156 (drop 0 w₀)) d))
-    (c : RowChecked us sheet line a d w₀ h₀ w₁ h₁) where
+    {y : Option Noted} (c : RowChecked us sheet line a d w₀ h₀ y) (t : Reported (if_found y) w₀ h₀ w₁ h₁) where
   relation_is : (earlier_at ingredient sheet w₀ h₀ d).entry.relation
       ≡ relation_as ingredient r.relation.relation r.relation.in_step r.relation.index (referrers_in (windows_of w₀).ingredient_pairs d h₀.counts.ingredient_pairs)
   relation_is = ap (λ (x : Entry). x.relation) (earlier_row ingredient sheet w₀ h₀ d (row_window w₀ d e)) ∙ entry_relation ingredient sheet r _ ∙ (unfold relation_in in refl)
@@ -304,7 +294,7 @@ module _ {us : List NamedUnit} {sheet line : List ℕ} {a : Option QuantityView}
         is =
             λ new p q.
             said (split new [] (ap referrers relation_is ∙ rw o (referrers_none ingredient x _ _ _)) ∙ alone new)
-            (c.is new (quantity_of new p q));
+            (row_told _ t c new (quantity_of new p q));
       }
 
   pub check_definition : {w : List ℕ} {h : Held} → r.relation.relation ≡ Definition → ReferrersChecked us sheet line a d w₁ h₁ w h → UnitChecked us sheet line a d w₀ h₀ w h
@@ -313,14 +303,14 @@ module _ {us : List NamedUnit} {sheet line : List ℕ} {a : Option QuantityView}
         is =
             λ new p q.
             said (split new (referrers_from (windows_of w₀).ingredient_pairs d 0 h₀.counts.ingredient_pairs) (ap referrers relation_is ∙ rw o (unfold relation_as in referrers_oldest (windows_of w₀).ingredient_pairs d h₀.counts.ingredient_pairs _)))
-            (reported_seq (c.is new (quantity_of new p q)) (later new (quantity_of new p q)));
+            (reported_seq (row_told _ t c new (quantity_of new p q)) (later new (quantity_of new p q)));
       }
     where
       later : (new : Entry) → QuantityOf new ingredient line a
           → Reported (units_against us new (table_of ingredient (state_in sheet w₀ h₀)) (referrers_from (windows_of w₀).ingredient_pairs d 0 h₀.counts.ingredient_pairs)) w₁ h₁ w h
       later new n =
           said
-          (ap (λ (t : List Entry). units_against us new t (referrers_from (windows_of w₀).ingredient_pairs d 0 h₀.counts.ingredient_pairs)) (sym (row_table c))
-          ∙ ap (λ (p : List ℕ). units_against us new (table_of ingredient (state_in sheet w₁ h₁)) (referrers_from p d 0 h₀.counts.ingredient_pairs)) (sym (row_framed c).ingredient_pairs)
-          ∙ ap (λ (m : ℕ). units_against us new (table_of ingredient (state_in sheet w₁ h₁)) (referrers_from (windows_of w₁).ingredient_pairs d 0 m)) (sym (ap (λ (z : Held). z.counts.ingredient_pairs) (row_framed c).held)))
+          (ap (λ (l : List Entry). units_against us new l (referrers_from (windows_of w₀).ingredient_pairs d 0 h₀.counts.ingredient_pairs)) (sym (reported_table t ingredient sheet))
+          ∙ ap (λ (p : List ℕ). units_against us new (table_of ingredient (state_in sheet w₁ h₁)) (referrers_from p d 0 h₀.counts.ingredient_pairs)) (sym (reported_framed t).ingredient_pairs)
+          ∙ ap (λ (m : ℕ). units_against us new (table_of ingredient (state_in sheet w₁ h₁)) (referrers_from (windows_of w₁).ingredient_pairs d 0 m)) (sym (ap (λ (z : Held). z.counts.ingredient_pairs) (reported_framed t).held)))
           (g.is new n)

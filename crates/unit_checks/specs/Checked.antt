@@ -15,13 +15,14 @@ use Rattle.compatible.specs.Fitting.{unit_code, trimmed_in}
 use Rattle.parts.specs.Views.{opt_quantity_in, OptQuantityWithin}
 use Rattle.components.specs.declared.ComponentView.{ComponentView}
 use Rattle.components.specs.Views.{component_in}
-use Rattle.model.specs.Rows.{row_at, row_of, component_of_line, referrers_from, relation_in}
+use Rattle.model.specs.Rows.{row_at, row_of, component_of_line, referrers_from, relation_in, if_found}
 use Rattle.model.specs.Memory.{windows_of, state_in}
 use Rattle.model.specs.declared.RelationRecord.{RelationRecord}
 use Rattle.model.specs.declared.Row.{Row}
+use Rattle.model.specs.declared.Noted.{Noted}
 use Rattle.model.specs.declared.Held.{Held}
 use Rattle.memory.specs.Pushes.{count_of}
-use Rattle.checks.specs.Reports.{Reported}
+use Rattle.memory.specs.Reports.{Reported}
 use Rattle.lookup.specs.Names.{rows_in, earlier_at}
 use Rattle.parts.specs.declared.QuantityView.{QuantityView}
 
@@ -65,8 +66,8 @@ unfoldable pub fits_row : List NamedUnit → List ℕ → List ℕ → Held → 
 fits_row us sheet w h i b = pick (ltb i h.counts.ingredients) (fits_unit us (component_of_line ingredient (row_line sheet (row_of (row_at 12 (rows_in ingredient w) i)))).quantity b) true
 
 -- whatever else the new entry is: its unit against that of the row i, where there is one
-pub record RowChecked (us : List NamedUnit) (sheet line : List ℕ) (a : Option QuantityView) (i : ℕ) (w₀ : List ℕ) (h₀ : Held) (w : List ℕ) (h : Held) : Type 0 where
-  pub is : (new : Entry) → QuantityOf new ingredient line a → Reported (unit_against us new (entry_at i (table_of ingredient (state_in sheet w₀ h₀)))) w₀ h₀ w h
+pub record RowChecked (us : List NamedUnit) (sheet line : List ℕ) (a : Option QuantityView) (i : ℕ) (w : List ℕ) (h : Held) (r : Option Noted) : Type 0 where
+  pub is : (new : Entry) → QuantityOf new ingredient line a → if_found r ≡ unit_against us new (entry_at i (table_of ingredient (state_in sheet w h)))
 
 -- against those of all rows that refer to the row d
 pub record ReferrersChecked (us : List NamedUnit) (sheet line : List ℕ) (a : Option QuantityView) (d : ℕ) (w₀ : List ℕ) (h₀ : Held) (w : List ℕ) (h : Held) : Type 0 where

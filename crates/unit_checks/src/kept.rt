@@ -3,8 +3,6 @@ ghost use Rattle.std.specs.Prelude.{◌≡◌, true, ◌&&◌, ◌+◌, ◌-◌,
 ghost use Rattle.rules.specs.Basic.{pick, eq_list};
 ghost use Rattle.rules.specs.Read.{parse_line};
 ghost use Rattle.rules.specs.Model.{ingredient};
-ghost use Rattle.unit_index.specs.Index.{Indexed};
-ghost use Rattle.letters.specs.Tables.{unicode_tables};
 ghost use Rattle.content.specs.Contents.{kept_in};
 ghost use Rattle.text.specs.Trims.{TrimmedTo};
 ghost use Rattle.units.specs.Lists.{units_from};
@@ -16,6 +14,7 @@ ghost use Rattle.unit_checks.specs.Codes.{code_in, UnitPlaced, LineWord, PlaceWo
 
 use parts::Part;
 use recall::UnitPlace;
+use unit_index::UnitList;
 
 // The word of a unit that is not in the list: its place where that fits in 32 bits, else the code 6.
 fn place_word(p: Part) -> u32
@@ -35,16 +34,16 @@ fn place_word(p: Part) -> u32
 
 // The word of an earlier ingredient's line: 1 to 5 for its unit's physical quantity, that of its place for a unit that is not in
 // the list, 7 for none, 8 where there is no quantity.
-fn line_word(t: &[u32], units: &[u8], index: &[u32], old: &[u8]) -> u32
-    requires { (t.now ≡ unicode_tables) × Indexed units.now index.now × (is_of_kind ingredient (parse_line old.now) ≡ true) }
-    ensures { LineWord units.now old.now result }
+fn line_word(units: &UnitList, old: &[u8]) -> u32
+    requires { is_of_kind ingredient (parse_line old.now) ≡ true }
+    ensures { LineWord units.now.lines.now old.now result }
 {
     match recall::unit_in(old) {
         UnitPlace::NoQuantity => 8,
         UnitPlace::NoUnit => 7,
         UnitPlace::At(p) => {
-            let y = text::text_outer_trimmed(t, parts::part_of(old, p));
-            let m = compatible::unit_code(units, index, y);
+            let y = text::text_outer_trimmed(parts::part_of(old, p));
+            let m = compatible::unit_code(units, y);
             if m == 5 {
                 return place_word(p);
             }
@@ -80,18 +79,9 @@ fn kept_word(codes: &[u32], i: usize, at: u32, end: u32) -> u32
 }
 
 // The word of that line, from then on kept.
-fn row_word(
-    t: &[u32],
-    units: &[u8],
-    index: &[u32],
-    codes: &mut [u32],
-    sheet: &[u8],
-    at: u32,
-    end: u32,
-    i: usize,
-) -> u32
-    requires { (t.now ≡ unicode_tables) × Indexed units.now index.now × CodesKept units.now sheet.now codes.old × (at ≤ end) × (end ≤ length sheet.now) × (is_of_kind ingredient (parse_line (take (end - at) (drop at sheet.now))) ≡ true) × (i < 513) }
-    ensures { LineWord units.now (take (end - at) (drop at sheet.now)) result × CodesKept units.now sheet.now codes.new }
+fn row_word(units: &UnitList, codes: &mut [u32], sheet: &[u8], at: u32, end: u32, i: usize) -> u32
+    requires { CodesKept units.now.lines.now sheet.now codes.old × (at ≤ end) × (end ≤ length sheet.now) × (is_of_kind ingredient (parse_line (take (end - at) (drop at sheet.now))) ≡ true) × (i < 513) }
+    ensures { LineWord units.now.lines.now (take (end - at) (drop at sheet.now)) result × CodesKept units.now.lines.now sheet.now codes.new }
 {
     let known = kept_word(codes, i, at, end);
     if known != 0 {
@@ -99,37 +89,37 @@ fn row_word(
     }
     let from = at as usize;
     let to = end as usize;
-    let w = line_word(t, units, index, &sheet[from..to]);
+    let w = line_word(units, &sheet[from..to]);
     keep_word(codes, i, at, end, w);
     w
 }
 
 // Whether the units of two fields are written alike, without the white space around them: `x` is `f` trimmed.
-fn same_written(t: &[u32], a: &[u8], f: &[u8], x: &[u8]) -> bool
-    requires { (t.now ≡ unicode_tables) × TrimmedTo f.now x.now }
+fn same_written(a: &[u8], f: &[u8], x: &[u8]) -> bool
+    requires { TrimmedTo f.now x.now }
     ensures { result ≡ eq_list (trimmed_in a.now) (trimmed_in f.now) }
 {
     if sheet::same_bytes(a, f) {
         return true;
     }
-    let y = text::text_outer_trimmed(t, a);
+    let y = text::text_outer_trimmed(a);
     content::same_parts(y, x)
 }
 
 // Whether the unit of an earlier ingredient's line is that of the field `f`: w is the line's word, `x` is `f` trimmed.
-fn same_unit(t: &[u32], old: &[u8], w: u32, f: &[u8], x: &[u8]) -> bool
-    requires { (t.now ≡ unicode_tables) × (is_of_kind ingredient (parse_line old.now) ≡ true) × (16 ≤ w → UnitPlaced old.now w) × TrimmedTo f.now x.now }
+fn same_unit(old: &[u8], w: u32, f: &[u8], x: &[u8]) -> bool
+    requires { (is_of_kind ingredient (parse_line old.now) ≡ true) × (16 ≤ w → UnitPlaced old.now w) × TrimmedTo f.now x.now }
     ensures { SameUnit old.now f.now result }
 {
     if 16 <= w {
         let from = (w / 65536) as usize;
         let to = (w % 65536) as usize;
-        return same_written(t, &old[from..to], f, x);
+        return same_written(&old[from..to], f, x);
     }
     match recall::unit_in(old) {
         UnitPlace::NoQuantity => false,
         UnitPlace::NoUnit => false,
-        UnitPlace::At(p) => same_written(t, parts::part_of(old, p), f, x),
+        UnitPlace::At(p) => same_written(parts::part_of(old, p), f, x),
     }
 }
 
@@ -178,9 +168,7 @@ pub(crate) fn known_fits(codes: &[u32], i: usize, at: u32, end: u32, has: bool, 
 // Whether the line of the row i draws nothing beside the unit of the field `f`, or beside none: `x` is `f` trimmed, and m the
 // number of its physical quantity.
 pub(crate) fn line_fits(
-    t: &[u32],
-    units: &[u8],
-    index: &[u32],
+    units: &UnitList,
     codes: &mut [u32],
     sheet: &[u8],
     at: u32,
@@ -191,10 +179,10 @@ pub(crate) fn line_fits(
     x: &[u8],
     m: u32,
 ) -> bool
-    requires { (t.now ≡ unicode_tables) × Indexed units.now index.now × CodesKept units.now sheet.now codes.old × (at ≤ end) × (end ≤ length sheet.now) × (is_of_kind ingredient (parse_line (take (end - at) (drop at sheet.now))) ≡ true) × (i < 513) × TrimmedTo f.now x.now × (m ≡ unit_code (units_from units.now 0) (kept_in x.now)) }
-    ensures { (result ≡ fits_unit (units_from units.now 0) (component_of_line ingredient (take (end - at) (drop at sheet.now))).quantity (pick has (Some (trimmed_in f.now)) None)) × CodesKept units.now sheet.now codes.new }
+    requires { CodesKept units.now.lines.now sheet.now codes.old × (at ≤ end) × (end ≤ length sheet.now) × (is_of_kind ingredient (parse_line (take (end - at) (drop at sheet.now))) ≡ true) × (i < 513) × TrimmedTo f.now x.now × (m ≡ unit_code (units_from units.now.lines.now 0) (kept_in x.now)) }
+    ensures { (result ≡ fits_unit (units_from units.now.lines.now 0) (component_of_line ingredient (take (end - at) (drop at sheet.now))).quantity (pick has (Some (trimmed_in f.now)) None)) × CodesKept units.now.lines.now sheet.now codes.new }
 {
-    let w = row_word(t, units, index, codes, sheet, at, end, i);
+    let w = row_word(units, codes, sheet, at, end, i);
     let o = code_in(w);
     if o == 8 {
         return true;
@@ -202,7 +190,7 @@ pub(crate) fn line_fits(
     if both_unknown(o, has, m) {
         let from = at as usize;
         let to = end as usize;
-        return same_unit(t, &sheet[from..to], w, f, x);
+        return same_unit(&sheet[from..to], w, f, x);
     }
     code_fits(o, has, m)
 }

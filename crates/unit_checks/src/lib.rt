@@ -8,8 +8,6 @@ ghost use Rattle.std.specs.Prelude.{◌≡◌, true, ◌+◌, ◌-◌, ◌<◌, 
 ghost use Rattle.rules.specs.Basic.{pick};
 ghost use Rattle.rules.specs.Units.{read_units};
 ghost use Rattle.rules.specs.Answer.{units_or};
-ghost use Rattle.unit_index.specs.Index.{Indexed};
-ghost use Rattle.letters.specs.Tables.{unicode_tables};
 ghost use Rattle.content.specs.Contents.{kept_in};
 ghost use Rattle.text.specs.Trims.{TrimmedTo};
 ghost use Rattle.units.specs.Lists.{units_from};
@@ -26,8 +24,9 @@ ghost use Rattle.unit_checks.specs.Checked.{InStep, SameBelow, HasUnit, UnitFiel
 ghost use Rattle.model.specs.Kinds.{kind_of, room_of};
 
 use components::ComponentView;
-use model::{Held, Kind, Relation, RelationRecord, Row};
+use model::{Held, Kind, Noted, Relation, RelationRecord, Row};
 use parts::{QuantityView, TextView};
+use unit_index::UnitList;
 
 // ---- rows
 
@@ -88,9 +87,7 @@ fn unit_field<'a>(line: &'a [u8], a: Option<QuantityView>) -> &'a [u8]
 // Whether the row i draws nothing beside the unit of the field `f`, or beside none: `x` is `f` trimmed, and m the number of its
 // physical quantity. A row that is not there draws nothing.
 fn row_fits(
-    t: &[u32],
-    units: &[u8],
-    index: &[u32],
+    units: &UnitList,
     codes: &mut [u32],
     words: &[u32],
     h: Held,
@@ -101,8 +98,8 @@ fn row_fits(
     m: u32,
     i: usize,
 ) -> bool
-    requires { (t.now ≡ unicode_tables) × Indexed units.now index.now × CodesKept units.now sheet.now codes.old × Sound words.now h × AllFit sheet.now words.now h × TrimmedTo f.now x.now × (m ≡ unit_code (units_from units.now 0) (kept_in x.now)) }
-    ensures { (result ≡ fits_row (units_from units.now 0) sheet.now words.now h i (pick has (Some (trimmed_in f.now)) None)) × CodesKept units.now sheet.now codes.new }
+    requires { CodesKept units.now.lines.now sheet.now codes.old × Sound words.now h × AllFit sheet.now words.now h × TrimmedTo f.now x.now × (m ≡ unit_code (units_from units.now.lines.now 0) (kept_in x.now)) }
+    ensures { (result ≡ fits_row (units_from units.now.lines.now 0) sheet.now words.now h i (pick has (Some (trimmed_in f.now)) None)) × CodesKept units.now.lines.now sheet.now codes.new }
 {
     let n = h.counts.ingredients;
     if n <= i {
@@ -112,38 +109,34 @@ fn row_fits(
     let at = r.line_at;
     let end = r.line_end;
     kept::known_fits(codes, i, at, end, has, m)
-        || kept::line_fits(t, units, index, codes, sheet, at, end, i, has, f, x, m)
+        || kept::line_fits(units, codes, sheet, at, end, i, has, f, x, m)
 }
 
 // The unit of a new ingredient's quantity `a`, of its line, against that of the row i.
 fn row_against(
-    t: &[u32],
-    units: &[u8],
-    index: &[u32],
-    words: &mut [u32],
+    units: &UnitList,
+    words: &[u32],
     h: Held,
     sheet: &[u8],
     line: &[u8],
     a: Option<QuantityView>,
     i: usize,
-) -> Held
-    requires { (t.now ≡ unicode_tables) × Indexed units.now index.now × OptQuantityWithin line.now a × Sound words.old h × AllFit sheet.now words.old h × (h.counts.findings < 1544) × (i < h.counts.ingredients) }
-    ensures { RowChecked (units_or (read_units units.now)) sheet.now line.now a i words.old h words.new result }
+) -> Option<Noted>
+    requires { OptQuantityWithin line.now a × Sound words.now h × AllFit sheet.now words.now h × (i < h.counts.ingredients) }
+    ensures { RowChecked (units_or (read_units units.now.lines.now)) sheet.now line.now a i words.now h result }
 {
     let r = model::row_at(&words[0..6156], i);
     let at = r.line_at as usize;
     let end = r.line_end as usize;
     let b = recall::quantity_in(&sheet[at..end]);
-    checks::unit_pair(t, units, index, words, h, line, a, &sheet[at..end], b)
+    checks::unit_pair(units, line, a, &sheet[at..end], b)
 }
 
 // The same where they do not fit; nothing where there is no such row.
 fn unit_against(
-    t: &[u32],
-    units: &[u8],
-    index: &[u32],
+    units: &UnitList,
     codes: &mut [u32],
-    words: &mut [u32],
+    words: &[u32],
     h: Held,
     sheet: &[u8],
     line: &[u8],
@@ -153,21 +146,19 @@ fn unit_against(
     x: &[u8],
     m: u32,
     i: usize,
-) -> Held
-    requires { (t.now ≡ unicode_tables) × Indexed units.now index.now × OptQuantityWithin line.now a × UnitKnown (units_from units.now 0) line.now a has f.now x.now m × Sound words.old h × AllFit sheet.now words.old h × (h.counts.findings < 1544) × CodesKept units.now sheet.now codes.old }
-    ensures { RowChecked (units_or (read_units units.now)) sheet.now line.now a i words.old h words.new result × CodesKept units.now sheet.now codes.new }
+) -> Option<Noted>
+    requires { OptQuantityWithin line.now a × UnitKnown (units_from units.now.lines.now 0) line.now a has f.now x.now m × Sound words.now h × AllFit sheet.now words.now h × CodesKept units.now.lines.now sheet.now codes.old }
+    ensures { RowChecked (units_or (read_units units.now.lines.now)) sheet.now line.now a i words.now h result × CodesKept units.now.lines.now sheet.now codes.new }
 {
-    if row_fits(t, units, index, codes, words, h, sheet, has, f, x, m, i) {
-        return h;
+    if row_fits(units, codes, words, h, sheet, has, f, x, m, i) {
+        return None;
     }
-    row_against(t, units, index, words, h, sheet, line, a, i)
+    row_against(units, words, h, sheet, line, a, i)
 }
 
 // Against those of all rows that refer to the row d, oldest first.
 fn referrer_check(
-    t: &[u32],
-    units: &[u8],
-    index: &[u32],
+    units: &UnitList,
     codes: &mut [u32],
     words: &mut [u32],
     h: Held,
@@ -180,8 +171,8 @@ fn referrer_check(
     m: u32,
     d: usize,
 ) -> Held
-    requires { (t.now ≡ unicode_tables) × Indexed units.now index.now × OptQuantityWithin line.now a × UnitKnown (units_from units.now 0) line.now a has f.now x.now m × Sound words.old h × AllFit sheet.now words.old h × (d < h.counts.ingredients) × (h.counts.findings + h.counts.ingredient_pairs ≤ 1544) × CodesKept units.now sheet.now codes.old }
-    ensures { ReferrersChecked (units_or (read_units units.now)) sheet.now line.now a d words.old h words.new result × CodesKept units.now sheet.now codes.new }
+    requires { OptQuantityWithin line.now a × UnitKnown (units_from units.now.lines.now 0) line.now a has f.now x.now m × Sound words.old h × AllFit sheet.now words.old h × (d < h.counts.ingredients) × (h.counts.findings + h.counts.ingredient_pairs ≤ 1544) × CodesKept units.now.lines.now sheet.now codes.old }
+    ensures { ReferrersChecked (units_or (read_units units.now.lines.now)) sheet.now line.now a d words.old h words.new result × CodesKept units.now.lines.now sheet.now codes.new }
 {
     let n = h.counts.ingredient_pairs;
     let definition = d as u32;
@@ -192,8 +183,9 @@ fn referrer_check(
             return k;
         };
         let j = i as usize;
-        if !row_fits(t, units, index, codes, words, k, sheet, has, f, x, m, j) {
-            k = row_against(t, units, index, words, k, sheet, line, a, j);
+        if !row_fits(units, codes, words, k, sheet, has, f, x, m, j) {
+            let found = row_against(units, words, k, sheet, line, a, j);
+            k = memory::push_found(words, k, found);
         }
         from = next;
     }
@@ -202,9 +194,7 @@ fn referrer_check(
 
 // Against that of the definition at d, then those of all that refer to it; nothing where there is no quantity.
 fn unit_check(
-    t: &[u32],
-    units: &[u8],
-    index: &[u32],
+    units: &UnitList,
     codes: &mut [u32],
     words: &mut [u32],
     h: Held,
@@ -213,8 +203,8 @@ fn unit_check(
     a: Option<QuantityView>,
     d: usize,
 ) -> Held
-    requires { (t.now ≡ unicode_tables) × Indexed units.now index.now × OptQuantityWithin line.now a × Sound words.old h × AllFit sheet.now words.old h × (d < h.counts.ingredients) × (h.counts.findings + h.counts.ingredient_pairs < 1544) × CodesKept units.now sheet.now codes.old }
-    ensures { UnitChecked (units_or (read_units units.now)) sheet.now line.now a d words.old h words.new result × CodesKept units.now sheet.now codes.new }
+    requires { OptQuantityWithin line.now a × Sound words.old h × AllFit sheet.now words.old h × (d < h.counts.ingredients) × (h.counts.findings + h.counts.ingredient_pairs < 1544) × CodesKept units.now.lines.now sheet.now codes.old }
+    ensures { UnitChecked (units_or (read_units units.now.lines.now)) sheet.now line.now a d words.old h words.new result × CodesKept units.now.lines.now sheet.now codes.new }
 {
     let Some(_) = a else {
         return h;
@@ -224,14 +214,13 @@ fn unit_check(
     let e = g.relation;
     let has = has_unit(a);
     let f = unit_field(line, a);
-    let x = text::text_outer_trimmed(t, f);
-    let m = compatible::unit_code(units, index, x);
-    let k = unit_against(
-        t, units, index, codes, words, h, sheet, line, a, has, f, x, m, d,
-    );
+    let x = text::text_outer_trimmed(f);
+    let m = compatible::unit_code(units, x);
+    let found = unit_against(units, codes, words, h, sheet, line, a, has, f, x, m, d);
+    let k = memory::push_found(words, h, found);
     match e {
         Relation::Definition => referrer_check(
-            t, units, index, codes, words, k, sheet, line, a, has, f, x, m, d,
+            units, codes, words, k, sheet, line, a, has, f, x, m, d,
         ),
         Relation::Reference(y) => k,
     }
@@ -241,9 +230,7 @@ fn unit_check(
 
 // The unit check is for ingredients, with flag 4.
 fn units_after(
-    t: &[u32],
-    units: &[u8],
-    index: &[u32],
+    units: &UnitList,
     flags: u32,
     codes: &mut [u32],
     words: &mut [u32],
@@ -254,15 +241,15 @@ fn units_after(
     a: Option<QuantityView>,
     d: usize,
 ) -> Held
-    requires { (t.now ≡ unicode_tables) × Indexed units.now index.now × OptQuantityWithin line.now a × Sound words.old h × AllFit sheet.now words.old h × (d < count_of (kind_of kind) h) × (h.counts.findings + h.counts.ingredient_pairs < 1544) × CodesKept units.now sheet.now codes.old }
-    ensures { UnitsAfter (units_or (read_units units.now)) flags (kind_of kind) sheet.now line.now a d words.old h words.new result × CodesKept units.now sheet.now codes.new }
+    requires { OptQuantityWithin line.now a × Sound words.old h × AllFit sheet.now words.old h × (d < count_of (kind_of kind) h) × (h.counts.findings + h.counts.ingredient_pairs < 1544) × CodesKept units.now.lines.now sheet.now codes.old }
+    ensures { UnitsAfter (units_or (read_units units.now.lines.now)) flags (kind_of kind) sheet.now line.now a d words.old h words.new result × CodesKept units.now.lines.now sheet.now codes.new }
 {
     match kind {
         Kind::Cookware => h,
         Kind::Ingredient => {
             let bit = flags / 4 % 2;
             if bit == 1 {
-                return unit_check(t, units, index, codes, words, h, sheet, line, a, d);
+                return unit_check(units, codes, words, h, sheet, line, a, d);
             }
             h
         }
@@ -298,9 +285,7 @@ fn entry_check(
 
 // All checks after a reference to the row `to`, or none.
 pub fn checks_after(
-    t: &[u32],
-    units: &[u8],
-    index: &[u32],
+    units: &UnitList,
     flags: u32,
     codes: &mut [u32],
     words: &mut [u32],
@@ -311,16 +296,14 @@ pub fn checks_after(
     v: ComponentView,
     to: Option<usize>,
 ) -> Held
-    requires { (t.now ≡ unicode_tables) × Indexed units.now index.now × ComponentWithin line.now v × Sound words.old h × AllFit sheet.now words.old h × SameBelow (kind_of kind) h to × (h.counts.findings + h.counts.ingredient_pairs + 3 < 1544) × CodesKept units.now sheet.now codes.old }
-    ensures { ChecksDone (units_or (read_units units.now)) flags (kind_of kind) sheet.now line.now v to words.old h words.new result × CodesKept units.now sheet.now codes.new }
+    requires { ComponentWithin line.now v × Sound words.old h × AllFit sheet.now words.old h × SameBelow (kind_of kind) h to × (h.counts.findings + h.counts.ingredient_pairs + 3 < 1544) × CodesKept units.now.lines.now sheet.now codes.old }
+    ensures { ChecksDone (units_or (read_units units.now.lines.now)) flags (kind_of kind) sheet.now line.now v to words.old h words.new result × CodesKept units.now.lines.now sheet.now codes.new }
 {
     match to {
         None => h,
         Some(d) => {
             let a = v.quantity;
-            let k = units_after(
-                t, units, index, flags, codes, words, h, sheet, line, kind, a, d,
-            );
+            let k = units_after(units, flags, codes, words, h, sheet, line, kind, a, d);
             entry_check(words, k, sheet, line, kind, v, d)
         }
     }

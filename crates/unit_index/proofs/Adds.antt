@@ -2,14 +2,14 @@
 use Prim.Native.Nat.{ℕ, suc, ◌+◌, ◌*◌, ◌≤◌, ◌<◌}
 use mathlib.Core.Path.{◌≡◌, refl, ap, sym, ◌∙◌}
 use mathlib.Core.Bool.{Bool, true, false}
-use mathlib.Core.List.{List, [], ◌∷◌}
+use mathlib.Core.List.{List, [], ◌∷◌, ◌++◌}
 use Rattle.std.specs.Prelude.{Option, None, Some, Ok, Err}
 use native.Mathlib.Omega.{arith}
 use native.Mathlib.Numerals.{add-one}
 use borrow.Author.Tests.{eqb-true, eqb-false, leb-true, lt-ltb, le-ltb, ltb-true, ltb-false}
 use lib.Dec.{eqb, leb, ltb}
-use lib.ListN.{length, set, drop, length-set, length-drop}
-use lib.Seq.{get_or-set_same, get_or-set_other}
+use lib.ListN.{length, get_or, set, take, drop, replicate, length-set, length-append, length-drop, length-replicate, get_or-append, get_or-replicate}
+use lib.Seq.{get_or-set_same, get_or-set_other, length-take-le}
 use Rattle.rules.specs.Basic.{pick, is_some}
 use Rattle.rules.specs.Utf8.{chars, encode}
 use Rattle.rules.specs.Sheet.{lines}
@@ -29,25 +29,16 @@ use Rattle.unit_index.proofs.Searches.{bucket_small}
 
 -- ---- no lines
 
-pub record Clearing (index₀ index : List ℕ) (b : ℕ) : Type 0 where
-  pub most : b ≤ 256
-  pub long : length index ≡ length index₀
-  pub heads : (d : ℕ) → d < b → head index d ≡ 0
+module _ (m : List ℕ) {p : List ℕ} (h : length m ≡ 2305) (e : p ≡ replicate (length (take 256 m)) 0) where
+  heads_length : length p ≡ 256
+  heads_length = ap (λ (l : List ℕ). length l) e ∙ length-replicate _ 0 ∙ length-take-le 256 m (omega arith)
 
-pub clear_starts : (m : List ℕ) → Clearing m m 0
-clear_starts m = record { most = omega arith; long = refl; heads = λ d l. absurd (omega arith) }
-
-module _ {m₀ m : List ℕ} {b : ℕ} (v : Clearing m₀ m b) where
-  pub clear_on : b < 256 → length m₀ ≡ 2305 → Clearing m₀ (set m b 0) (b + 1)
-  clear_on l h =
+  pub heads_cleared : Cleared (p ++ drop 256 m)
+  heads_cleared =
       record {
-        most = omega arith;
-        long = length-set m b 0 ∙ v.long;
-        heads = λ d g. by_order b d (λ k. let e : d ≡ b = omega arith in rw e (get_or-set_same m b 0 0 (omega (arith, v.long)))) (λ k. get_or-set_other m b d 0 0 (λ q. omega arith) ∙ v.heads d k);
+        long = length-append p (drop 256 m) ∙ omega (arith, heads_length, length-drop 256 m);
+        heads = λ b l. get_or-append p (drop 256 m) 0 b (omega (arith, heads_length)) ∙ ap (λ (w : List ℕ). get_or w b 0) e ∙ get_or-replicate _ b 0 0 (omega (arith, length-take-le 256 m (omega arith)));
       }
-
-  pub clear_ends : 256 ≤ b → length m₀ ≡ 2305 → Cleared m
-  clear_ends h l = record { long = v.long ∙ l; heads = λ d g. v.heads d (omega arith) }
 
 -- ---- the longest name
 

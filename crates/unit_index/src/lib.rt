@@ -16,6 +16,14 @@ ghost use Rattle.unit_index.specs.Index.{names, bucket, head, start, next, longe
 use refusals::Reason;
 use units::{Physical, UnitAt};
 
+// A well-formed unit list in which no name stands twice, with its index.
+#[derive(Clone, Copy)]
+pub struct UnitList<'a> {
+    pub lines: &'a [u8],
+    pub words: &'a [u32],
+    ghost indexed: { Indexed lines.now words.now },
+}
+
 fn head_at(index: &[u32], b: usize) -> usize
     requires { (b < 256) × (length index.now ≡ 2305) }
     ensures { result ≡ head index.now b }
@@ -54,21 +62,20 @@ fn line_at(units: &[u8], from: usize) -> UnitAt
 // ---- the names of a list
 
 // What the content of a field, its blanks collapsed, stands for.
-pub fn find_named(units: &[u8], index: &[u32], name: &[u8]) -> Option<Physical>
-    requires { Indexed units.now index.now }
-    ensures { on_some physical_in result ≡ find_unit (kept_in name.now) (units_from units.now 0) }
+pub fn find_named(units: &UnitList, name: &[u8]) -> Option<Physical>
+    ensures { on_some physical_in result ≡ find_unit (kept_in name.now) (units_from units.now.lines.now 0) }
 {
     let h = chains::hash_kept(name) % 256;
-    let mut p = head_at(index, h);
+    let mut p = head_at(units.words, h);
     while p != 0 {
         let i = p - 1;
-        let from = start_at(index, i);
-        let u = line_at(units, from);
+        let from = start_at(units.words, i);
+        let u = line_at(units.lines, from);
         let to = u.name_end;
-        if content::same_content(name, &units[from..to]) {
+        if content::same_content(name, &units.lines[from..to]) {
             return Some(u.physical);
         }
-        p = next_at(index, i);
+        p = next_at(units.words, i);
     }
     None
 }
@@ -87,15 +94,15 @@ pub fn first_of(index: &[u32], name: &[u8]) -> usize
 }
 
 // Whether such a line's name is the content.
-pub fn is_named(units: &[u8], index: &[u32], p: usize, name: &[u8]) -> bool
-    requires { Indexed units.now index.now × Linked units.now p }
-    ensures { result ≡ eq_list (content_in name.now) (names units.now (p - 1)) }
+pub fn is_named(units: &UnitList, p: usize, name: &[u8]) -> bool
+    requires { Linked units.now.lines.now p }
+    ensures { result ≡ eq_list (content_in name.now) (names units.now.lines.now (p - 1)) }
 {
     let i = p - 1;
-    let from = start_at(index, i);
-    let u = line_at(units, from);
+    let from = start_at(units.words, i);
+    let u = line_at(units.lines, from);
     let to = u.name_end;
-    content::same_chars(name, &units[from..to])
+    content::same_chars(name, &units.lines[from..to])
 }
 
 // The next line of its chain.
@@ -113,11 +120,7 @@ fn clear_heads(index: &mut [u32])
     requires { length index.old ≡ 2305 }
     ensures { Cleared index.new }
 {
-    let mut b = 0;
-    while b < 256 {
-        index[b] = 0;
-        b += 1;
-    }
+    index[..256].fill(0);
 }
 
 // Whether a name in UTF-8 of the chain b is that of one of the first n lines.

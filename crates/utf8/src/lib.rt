@@ -1,7 +1,7 @@
 #![tactic(auto)]
 
-ghost use Rattle.std.specs.Prelude.{◌≡◌, [], ◌∷◌, ◌+◌, ◌≤◌, ◌<◌, length, drop, get_or};
-ghost use Rattle.rules.specs.Utf8.{second, later, sized, first_fault, is_inside};
+ghost use Rattle.std.specs.Prelude.{◌≡◌, true, [], ◌∷◌, ◌+◌, ◌≤◌, ◌<◌, length, drop, get_or};
+ghost use Rattle.rules.specs.Utf8.{second, later, sized, first_fault, is_inside, is_utf8};
 ghost use Rattle.utf8.specs.Decoding.{decoded_as, decoded_of, decoded_size};
 ghost use Rattle.utf8.specs.Reading.{char_of};
 ghost use Rattle.utf8.specs.Checking.{ascii_for, AsciiTo};
@@ -11,6 +11,13 @@ ghost use Rattle.utf8.specs.Checking.{ascii_for, AsciiTo};
 pub struct Char {
     pub code: u32,
     pub size: usize,
+}
+
+// Bytes that are UTF-8.
+#[derive(Clone, Copy)]
+pub struct Utf8<'a> {
+    pub bytes: &'a [u8],
+    ghost utf8: { is_utf8 bytes.now ≡ true },
 }
 
 // The byte at a place; past the end 0.

@@ -1,8 +1,8 @@
-use Rattle.blocks.proofs.Lines.{found_mild, found_one, found_severe}
+use Rattle.blocks.proofs.Lines.{severe_is, mild_is, found_one, found_parsed}
 use Rattle.blocks.proofs.on_finding.Goals as goal
+use Rattle.blocks.proofs.on_finding.Goals.{in-Severe, in_default}
 
-pub returns-in-Severe : goal.returns-in-Severe
-returns-in-Severe c = found_one c.requires.0 c.push_finding.ensures (found_severe _ _ c.in-Severe.is c.of_parser-x.ensures)
-
-pub returns-in-Mild : goal.returns-in-Mild
-returns-in-Mild c = found_one c.requires.0 c.push_finding-in-Mild.ensures (found_mild _ _ c.in-Mild.is c.of_parser-x-in-Mild.ensures)
+pub returns : goal.returns
+returns c =
+    found_one c.requires.0 c.push_finding.ensures
+    (found_parsed _ _ (elim c.match-matches.branch [ in-Severe w ↦ severe_is _ w.in-Severe.is w.matches-is | in_default w ↦ mild_is _ w.in_default.not-Severe w.matches-is ]) c.of_parser-x.ensures)

@@ -1,8 +1,5 @@
-use Prim.Native.Nat.{◌≤◌, ◌-◌}
+use Prim.Native.Nat.{◌≤◌}
 use Rattle.classes.proofs.changed.Given as goal
 
 abbrev pub invariant-loop-c : goal.invariant-loop-c
-invariant-loop-c l = (l.n ≤ l.c) × (l.c ≤ 1114112)
-
-abbrev pub decreases-loop-c : goal.decreases-loop-c
-decreases-loop-c l = 1114112 - l.c
+invariant-loop-c l = l.n ≤ l.c

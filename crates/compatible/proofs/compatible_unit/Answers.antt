@@ -5,19 +5,10 @@ use Rattle.compatible.specs.Fitting.{told, unit_in}
 use Rattle.compatible.proofs.Laws.{within_present, both_present, list_read}
 use Rattle.compatible.proofs.compatible_unit.Goals as goal
 
-pub text_part-x-requires : goal.text_part-x-requires
-text_part-x-requires c = c.requires.0
-
-pub text_part-y-requires : goal.text_part-y-requires
-text_part-y-requires c = c.requires.0
-
-pub known_units-requires : goal.known_units-requires
-known_units-requires c = c.requires.1
-
 pub returns-in-Some-Some : goal.returns-in-Some-Some
 returns-in-Some-Some c =
     rw (c.in-Some-Some.is-0, c.in-Some-Some.is-1)
-    (both_present _ _ _ (within_present _ _ _ c.requires.2 c.in-Some-Some.is-0) (within_present _ _ _ c.requires.3 c.in-Some-Some.is-1) c.text_part-x.ensures c.text_part-y.ensures (list_read _ _ _ c.requires.1.list c.known_units.ensures))
+    (both_present _ _ _ (within_present _ _ _ c.requires.0 c.in-Some-Some.is-0) (within_present _ _ _ c.requires.1 c.in-Some-Some.is-1) c.text_part-x.ensures c.text_part-y.ensures (list_read _ _ _ c.args.units.now.indexed.list c.known_units.ensures))
 
 pub returns-in-None-None : goal.returns-in-None-None
 unfolding told compatible_unit unit_in opt_text_in on_some

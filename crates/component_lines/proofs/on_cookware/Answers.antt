@@ -3,7 +3,7 @@ use Rattle.component_lines.proofs.Ends.{kept_roomy, cookware_done}
 use Rattle.component_lines.proofs.on_cookware.Goals as goal
 
 pub named_line-k-requires : goal.named_line-k-requires
-named_line-k-requires c = let p = c.requires in let q = kept_roomy p.5 in (p.0, p.1, cookware_here p.2 p.3 p.4, p.5.sound, p.5.fit, q.0, q.1, p.6)
+named_line-k-requires c = let p = c.requires in let q = kept_roomy p.3 in (cookware_here p.0 p.1 p.2, p.3.sound, p.3.fit, q.0, q.1, p.4)
 
 pub returns : goal.returns
-returns c = (cookware_done c.requires.5 c.named_line-k.ensures.0, c.named_line-k.ensures.1)
+returns c = (cookware_done c.requires.3 c.named_line-k.ensures.0, c.named_line-k.ensures.1)

@@ -11,7 +11,7 @@ pub loop-i-init : goal.loop-i-init
 loop-i-init c = lined_none _ _ _ _ _ c.if-out-at.false
 
 pub put_entry-next-requires : goal.put_entry-next-requires
-put_entry-next-requires c = (c.requires.0, row_ready _ c.requires.1 c.loop-i-test.true)
+put_entry-next-requires c = row_ready _ c.requires c.loop-i-test.true
 
 pub loop-i-preserved : goal.loop-i-preserved
 loop-i-preserved c = lined_more _ _ _ _ _ c.loop-i.invariant c.put_entry-next.ensures

@@ -1,20 +1,12 @@
 use mathlib.Core.List.{List}
-use mathlib.Core.Path.{sym}
 use Prim.Native.Nat.{ℕ}
+use Rattle.std.proofs.Common.{rules}
 use Rattle.rules.specs.Read.{word}
 use Rattle.rules.specs.Words.{block_kinds}
-use Rattle.rules.specs.Basic.{on_some, word_in}
-use Rattle.parts.proofs.Leaves.{leaf_past, leaf_bad, leaf_got}
+use Rattle.rules.specs.Basic.{word_in}
+use Rattle.parts.proofs.Generic.{word_as}
 use Rattle.events.proofs.read_block.Goals as goal
 
-pub returns-then-line-at : goal.returns-then-line-at
-unfolding word
-returns-then-line-at c = leaf_past (λ (f : List ℕ). word_in f block_kinds) c.if-line-at.true
-
-pub returns-in_err-kind : goal.returns-in_err-kind
-unfolding word on_some
-returns-in_err-kind c = rw c.from_residual.ensures (leaf_bad (λ (f : List ℕ). word_in f block_kinds) c.if-line-at.false c.field-f.ensures (sym c.in_err-kind.ensures))
-
 pub returns : goal.returns
-unfolding word on_some
-returns c = leaf_got (λ (f : List ℕ). word_in f block_kinds) c.if-line-at.false c.field-f.ensures (sym c.in_ok-kind.ensures) tt
+unfolding word
+returns c = word_as (λ (f : List ℕ). word_in f block_kinds) (λ v e. tt) c.read_word.ensures (λ w e. search rules)

@@ -4,7 +4,7 @@ use Rattle.finding_lines.proofs.Parsers.{write_starts, write_cut, write_ill, wri
 use Rattle.finding_lines.proofs.parsed_lines.Goals as goal
 
 pub loop-from-init : goal.loop-from-init
-loop-from-init c = write_starts _ _ c.requires
+loop-from-init c = write_starts _ _ c.args.sheet.now.read
 
 pub returns-in_default : goal.returns-in_default
 returns-in_default c = write_cut c.loop-from.invariant c.line_end.ensures c.loop-from-test.true c.in_default.is

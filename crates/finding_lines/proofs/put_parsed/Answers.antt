@@ -1,16 +1,13 @@
-use native.Mathlib.Omega.{arith}
-use Prim.Native.Nat.{◌+◌, ◌^◌, ◌<◌}
-use lib.ListN.{length}
-use Rattle.finding_lines.proofs.Texts.{parse_past, parse_rest, parse_fits}
+use Rattle.std.proofs.Common.{rules}
+use Rattle.rules.specs.Basic.{pick}
+use Rattle.rules.specs.Words.{severe, mild}
+use Rattle.rules.specs.Finding.{parsed}
+use Rattle.rules.specs.Page.{finding_line}
+use Rattle.output.proofs.Writes.{writer}
 use Rattle.finding_lines.proofs.put_parsed.Goals as goal
 
-pub returns-then-out-at : goal.returns-then-out-at
-returns-then-out-at c = parse_past _ _ c.if-out-at.true
-
-pub overflow_add-result-2 : goal.overflow_add-result-2
-overflow_add-result-2 c =
-    let b : length c.args.out.now + 1 < 2 ^ 64 = omega arith in
-    record { fits = parse_fits c.args.out.now _ b c.if-out-at.false c.parse_line.ensures }
+pub put_line-requires : goal.put_line-requires
+put_line-requires c = writer (finding_line 0 (parsed (pick c.args.error severe mild) c.args.number)) (λ p e. tt) (λ n o' e. search rules)
 
 pub returns : goal.returns
-returns c = parse_rest _ _ c.if-out-at.false c.parse_line.ensures
+returns c = record { is = λ k. c.put_line.ensures.put (λ n o' e. search rules) }

@@ -2,7 +2,7 @@ use Rattle.following.proofs.Follows.{within_meta, between_meta, between_bare, be
 use Rattle.following.proofs.after_between.Goals as goal
 
 pub meta_of-m-requires : goal.meta_of-m-requires
-meta_of-m-requires c = let w = within_meta _ _ _ c.in-Meta.is c.requires.1 in (c.requires.0, w.0, w.1)
+meta_of-m-requires c = let w = within_meta _ _ _ c.in-Meta.is c.requires in (w.0, w.1)
 
 pub returns-in-Meta : goal.returns-in-Meta
 returns-in-Meta c = between_meta _ _ c.in-Meta.is c.meta_of-m.ensures c.after_meta.ensures

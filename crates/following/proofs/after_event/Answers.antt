@@ -2,7 +2,7 @@ use Rattle.following.proofs.Follows.{within_between, event_between, event_inside
 use Rattle.following.proofs.after_event.Goals as goal
 
 pub after_between-requires : goal.after_between-requires
-after_between-requires c = (c.requires.0, within_between _ _ c.in-Between.is c.requires.1)
+after_between-requires c = within_between _ _ c.in-Between.is c.requires.0
 
 pub returns-in-Between : goal.returns-in-Between
 returns-in-Between c = event_between _ c.in-Between.is c.after_between.ensures

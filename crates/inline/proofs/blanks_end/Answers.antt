@@ -9,7 +9,7 @@ use Rattle.rules.specs.Unicode.{is_white_space}
 use Rattle.inline.proofs.blanks_end.Goals as goal
 
 pub loop-i-init : goal.loop-i-init
-loop-i-init c = going_start _ _ _ c.requires.1 c.requires.2
+loop-i-init c = going_start _ _ _ c.requires.0 c.requires.1
 
 pub returns-then-is_solid : goal.returns-then-is_solid
 returns-then-is_solid c = solid_stops c.loop-i.invariant c.loop-i-test.true c.is_solid.ensures c.if-is_solid.true

@@ -5,10 +5,10 @@ use Rattle.inline.proofs.Items.{counting_start, counting_end, counting_fits, cou
 use Rattle.inline.proofs.count_items.Goals as goal
 
 pub loop-q-init : goal.loop-q-init
-loop-q-init c = counting_start _ _ c.requires.2
+loop-q-init c = counting_start _ _ c.requires
 
 pub find_inline_quantity-requires : goal.find_inline_quantity-requires
-find_inline_quantity-requires c = (c.requires.0, c.requires.1, c.loop-q.invariant.to, c.loop-q.invariant.left)
+find_inline_quantity-requires c = (c.loop-q.invariant.to, c.loop-q.invariant.left)
 
 pub overflow_add-items : goal.overflow_add-items
 overflow_add-items c = omega (arith, counting_fits c.loop-q.invariant c.in-Some.ensures c.text_items.ensures, c.in-Some.ensures.end)

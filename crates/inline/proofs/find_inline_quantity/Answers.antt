@@ -5,7 +5,7 @@ use Rattle.inline.proofs.Lists.{along_first, along_end, along_linked, along_few,
 use Rattle.inline.proofs.find_inline_quantity.Goals as goal
 
 pub loop-from-init : goal.loop-from-init
-loop-from-init c = sought_start _ _ _ c.requires.2 c.requires.3
+loop-from-init c = sought_start _ _ _ c.requires.0 c.requires.1
 
 pub next_digit-digit-requires : goal.next_digit-digit-requires
 next_digit-digit-requires c = (c.loop-from.invariant.end, c.loop-from.invariant.left)
@@ -17,13 +17,13 @@ pub number_end-number_to-requires : goal.number_end-number_to-requires
 number_end-number_to-requires c = (c.next_digit-digit.ensures.to, c.next_digit-digit.ensures.left)
 
 pub blanks_end-word-requires : goal.blanks_end-word-requires
-blanks_end-word-requires c = (c.requires.0, c.number_end-number_to.ensures.to, c.number_end-number_to.ensures.left)
+blanks_end-word-requires c = (c.number_end-number_to.ensures.to, c.number_end-number_to.ensures.left)
 
 pub word_end-after-requires : goal.word_end-after-requires
-word_end-after-requires c = (c.requires.0, c.blanks_end-word.ensures.to, c.blanks_end-word.ensures.left)
+word_end-after-requires c = (c.blanks_end-word.ensures.to, c.blanks_end-word.ensures.left)
 
 pub unit_part-span-requires : goal.unit_part-span-requires
-unit_part-span-requires c = (c.requires.0, c.word_end-after.ensures.from, c.word_end-after.ensures.to, c.word_end-after.ensures.whole)
+unit_part-span-requires c = (c.word_end-after.ensures.from, c.word_end-after.ensures.to, c.word_end-after.ensures.whole)
 
 pub slice_bounds-points-count : goal.slice_bounds-points-count
 slice_bounds-points-count c = c.number_end-number_to.ensures.from
@@ -44,28 +44,28 @@ pub slice_bounds-name-end : goal.slice_bounds-name-end
 slice_bounds-name-end c = omega (arith, c.unit_part-span.ensures.to, c.word_end-after.ensures.to)
 
 pub first_of-p-requires : goal.first_of-p-requires
-first_of-p-requires c = c.requires.1.filled.long
+first_of-p-requires c = c.args.units.now.indexed.filled.long
 
 pub loop-p-init : goal.loop-p-init
-loop-p-init c = along_first _ c.requires.1 c.first_of-p.ensures
+loop-p-init c = along_first _ c.args.units.now.indexed c.first_of-p.ensures
 
 pub is_named-requires : goal.is_named-requires
-is_named-requires c = (c.requires.1, along_linked _ c.requires.1 c.loop-p.invariant c.loop-p-test.true)
+is_named-requires c = along_linked _ c.args.units.now.indexed c.loop-p.invariant c.loop-p-test.true
 
 pub next_of-p-requires : goal.next_of-p-requires
-next_of-p-requires c = ((along_few _ c.requires.1 c.loop-p.invariant c.loop-p-test.true).0, (along_few _ c.requires.1 c.loop-p.invariant c.loop-p-test.true).1, c.requires.1.filled.long)
+next_of-p-requires c = ((along_few _ c.args.units.now.indexed c.loop-p.invariant c.loop-p-test.true).0, (along_few _ c.args.units.now.indexed c.loop-p.invariant c.loop-p-test.true).1, c.args.units.now.indexed.filled.long)
 
 pub loop-p-smaller : goal.loop-p-smaller
-loop-p-smaller c = along_less _ c.requires.1 c.loop-p.invariant c.loop-p-test.true c.next_of-p.ensures
+loop-p-smaller c = along_less _ c.args.units.now.indexed c.loop-p.invariant c.loop-p-test.true c.next_of-p.ensures
 
 pub loop-p-preserved : goal.loop-p-preserved
-loop-p-preserved c = along_on _ c.requires.1 c.loop-p.invariant c.loop-p-test.true c.is_named.ensures c.if-is_named.false c.next_of-p.ensures
+loop-p-preserved c = along_on _ c.args.units.now.indexed c.loop-p.invariant c.loop-p-test.true c.is_named.ensures c.if-is_named.false c.next_of-p.ensures
 
 pub loop-from-smaller-after-loop-p : goal.loop-from-smaller-after-loop-p
 loop-from-smaller-after-loop-p c = omega (arith, turn_less c.loop-from.invariant c.next_digit-digit.ensures c.if-digit-s.false c.sign_start-number_from.ensures c.number_end-number_to.ensures c.blanks_end-word.ensures c.if-word-s.false c.word_end-after.ensures c.unit_part-span.ensures, c.word_end-after.ensures.to)
 
 pub loop-from-preserved-after-loop-p : goal.loop-from-preserved-after-loop-p
-loop-from-preserved-after-loop-p c = turn_unknown c.loop-from.invariant c.next_digit-digit.ensures c.if-digit-s.false c.sign_start-number_from.ensures c.number_end-number_to.ensures c.blanks_end-word.ensures c.if-word-s.false c.word_end-after.ensures c.unit_part-span.ensures c.points.ensures (omega (arith, c.if-points-le1.true)) (along_end _ c.requires.1 c.loop-p.invariant c.loop-p-test.false)
+loop-from-preserved-after-loop-p c = turn_unknown c.loop-from.invariant c.next_digit-digit.ensures c.if-digit-s.false c.sign_start-number_from.ensures c.number_end-number_to.ensures c.blanks_end-word.ensures c.if-word-s.false c.word_end-after.ensures c.unit_part-span.ensures c.points.ensures (omega (arith, c.if-points-le1.true)) (along_end _ c.args.units.now.indexed c.loop-p.invariant c.loop-p-test.false)
 
 pub loop-from-smaller : goal.loop-from-smaller
 loop-from-smaller c = omega (arith, turn_less c.loop-from.invariant c.next_digit-digit.ensures c.if-digit-s.false c.sign_start-number_from.ensures c.number_end-number_to.ensures c.blanks_end-word.ensures c.if-word-s.false c.word_end-after.ensures c.unit_part-span.ensures, c.word_end-after.ensures.to)
@@ -80,4 +80,4 @@ pub returns-then-word-s : goal.returns-then-word-s
 returns-then-word-s c = turn_last c.loop-from.invariant c.next_digit-digit.ensures c.if-digit-s.false c.sign_start-number_from.ensures c.number_end-number_to.ensures c.blanks_end-word.ensures c.if-word-s.true
 
 pub returns-then-is_named : goal.returns-then-is_named
-returns-then-is_named c = turn_found c.loop-from.invariant c.next_digit-digit.ensures c.if-digit-s.false c.sign_start-number_from.ensures c.number_end-number_to.ensures c.blanks_end-word.ensures c.if-word-s.false c.word_end-after.ensures c.unit_part-span.ensures c.points.ensures (omega (arith, c.if-points-le1.true)) (along_hit _ c.requires.1 c.loop-p.invariant c.loop-p-test.true c.is_named.ensures c.if-is_named.true)
+returns-then-is_named c = turn_found c.loop-from.invariant c.next_digit-digit.ensures c.if-digit-s.false c.sign_start-number_from.ensures c.number_end-number_to.ensures c.blanks_end-word.ensures c.if-word-s.false c.word_end-after.ensures c.unit_part-span.ensures c.points.ensures (omega (arith, c.if-points-le1.true)) (along_hit _ c.args.units.now.indexed c.loop-p.invariant c.loop-p-test.true c.is_named.ensures c.if-is_named.true)

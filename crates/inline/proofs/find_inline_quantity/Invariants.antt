@@ -8,13 +8,13 @@ use Rattle.inline.proofs.Lists.{Along}
 use Rattle.inline.proofs.find_inline_quantity.Given as goal
 
 abbrev pub invariant-loop-p : goal.invariant-loop-p
-invariant-loop-p l = Along l.units l.index (part l.unit_from l.unit_to l.s) l.p
+invariant-loop-p l = Along l.units.lines.now l.units.words.now (part l.unit_from l.unit_to l.s) l.p
 
 abbrev pub decreases-loop-p : goal.decreases-loop-p
 decreases-loop-p l = l.p
 
 abbrev pub invariant-loop-from : goal.invariant-loop-from
-invariant-loop-from l = Sought (units_or (read_units l.units)) l.s l.from l.i
+invariant-loop-from l = Sought (units_or (read_units l.units.lines.now)) l.s l.from l.i
 
 abbrev pub decreases-loop-from : goal.decreases-loop-from
 decreases-loop-from l = length l.s - l.i

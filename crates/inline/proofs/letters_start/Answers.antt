@@ -5,7 +5,7 @@ use Rattle.inline.proofs.Scans.{going_start, going_stop, going_on, going_end, le
 use Rattle.inline.proofs.letters_start.Goals as goal
 
 pub loop-i-init : goal.loop-i-init
-loop-i-init c = going_start _ _ _ (omega arith) c.requires.1
+loop-i-init c = going_start _ _ _ (omega arith) c.requires
 
 pub returns-then-is_alphabetic : goal.returns-then-is_alphabetic
 returns-then-is_alphabetic c = going_stop c.loop-i.invariant _ c.loop-i-test.true c.char_in-c.ensures (letter_stops _ c.is_alphabetic.ensures c.if-is_alphabetic.true)

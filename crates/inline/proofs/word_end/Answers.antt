@@ -6,7 +6,7 @@ use Rattle.inline.proofs.Wide.{solid_passed, e3_passed}
 use Rattle.inline.proofs.word_end.Goals as goal
 
 pub loop-i-init : goal.loop-i-init
-loop-i-init c = going_start _ _ _ c.requires.1 c.requires.2
+loop-i-init c = going_start _ _ _ c.requires.0 c.requires.1
 
 pub overflow_add-i : goal.overflow_add-i
 overflow_add-i c = omega (arith, (solid_passed c.loop-i.invariant c.loop-i-test.true c.is_solid.ensures c.if-is_solid.true c.lead_size-i.ensures).most)

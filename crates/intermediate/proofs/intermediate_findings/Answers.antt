@@ -1,11 +1,12 @@
-use Rattle.intermediate.proofs.Laws.{findings_zero, findings_none, findings_bounds}
+use Rattle.intermediate.proofs.Laws.{findings_none, findings_one, code_zero, code_bounds}
 use Rattle.intermediate.proofs.intermediate_findings.Goals as goal
+use Rattle.intermediate.proofs.intermediate_findings.Goals.{then-i-eq0, else-i-eq0}
 
-pub returns-then-i-eq0 : goal.returns-then-i-eq0
-returns-then-i-eq0 c = findings_zero _ c.in-None.is c.if-i-eq0.true c.push_one.ensures
+pub returns-then-is_some : goal.returns-then-is_some
+returns-then-is_some c = findings_none _ _ c.is_some.ensures c.if-is_some.true
 
-pub returns-in-Some : goal.returns-in-Some
-returns-in-Some c = findings_none _ _ c.in-Some.is
-
-pub returns-else-i-eq0 : goal.returns-else-i-eq0
-returns-else-i-eq0 c = findings_bounds _ c.in-None.is c.if-i-eq0.false c.push_one-in-None.ensures
+pub returns : goal.returns
+returns c =
+    findings_one _ _ _ c.is_some.ensures c.if-is_some.false
+    (elim c.if-i-eq0.branch [ then-i-eq0 w ↦ code_zero w.if-i-eq0.true w.code-is | else-i-eq0 w ↦ code_bounds w.if-i-eq0.false w.code-is ])
+    c.one_span.ensures

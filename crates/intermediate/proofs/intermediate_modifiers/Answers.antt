@@ -8,7 +8,7 @@ returns-then-m c =
       | then-m-via-then-m w ↦ rw w.if-m.true
       | then-m-via-else-m+then-m-2 w ↦ rw (w.if-m.false, w.if-m-2.true)
       | then-m-via-else-m+else-m-2+then-m-3 w ↦ rw (w.if-m.false, w.if-m-2.false, w.if-m-3.true)
-    ]) c.push_one.ensures
+    ]) c.one_span.ensures
 
 pub returns : goal.returns
 returns c = modifiers_none (rw (c.if-m.false, c.if-m-2.false, c.if-m-3.false))

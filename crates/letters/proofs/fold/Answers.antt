@@ -33,7 +33,7 @@ pub overflow_cast-c-then-is_within-2 : goal.overflow_cast-c-then-is_within-2
 overflow_cast-c-then-is_within-2 c = let k = within_to 0x1e00 0x1fff c.args.c (sym c.is_within-2.ensures ∙ c.if-is_within-2.true) in search rules
 
 pub fold_near-requires-then-is_within-2 : goal.fold_near-requires-then-is_within-2
-fold_near-requires-then-is_within-2 c = (c.requires, omega (arith, within_to 0x1e00 0x1fff c.args.c (sym c.is_within-2.ensures ∙ c.if-is_within-2.true), within_from 0x1e00 0x1fff c.args.c (sym c.is_within-2.ensures ∙ c.if-is_within-2.true)))
+fold_near-requires-then-is_within-2 c = omega (arith, within_to 0x1e00 0x1fff c.args.c (sym c.is_within-2.ensures ∙ c.if-is_within-2.true), within_from 0x1e00 0x1fff c.args.c (sym c.is_within-2.ensures ∙ c.if-is_within-2.true))
 
 pub returns-then-is_within-2 : goal.returns-then-is_within-2
 returns-then-is_within-2 c = c.fold_near-then-is_within-2.ensures ∙ ap fold (near_second _ (within_from 0x1e00 0x1fff c.args.c (sym c.is_within-2.ensures ∙ c.if-is_within-2.true)))

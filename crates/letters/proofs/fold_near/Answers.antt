@@ -6,18 +6,18 @@ use Rattle.letters.proofs.Near.{near_one, near_few, near_row}
 use Rattle.letters.proofs.Windows.{columns}
 use Rattle.letters.proofs.fold_near.Goals as goal
 
-pub bounds-t-i : goal.bounds-t-i
-bounds-t-i c = omega (arith, (columns c.requires.0).long, c.requires.1)
+pub bounds-unicode_tables-i : goal.bounds-unicode_tables-i
+bounds-unicode_tables-i c = omega (arith, (columns c.unicode_tables.ensures).long, c.requires)
 
 pub returns-then-x-lt1114112 : goal.returns-then-x-lt1114112
 unfolding folded_of
-returns-then-x-lt1114112 c = near_one _ c.requires.0 _ c.requires.1 refl c.if-x-lt1114112.true
+returns-then-x-lt1114112 c = near_one _ c.unicode_tables.ensures _ c.requires refl c.if-x-lt1114112.true
 
 pub overflow_cast-k : goal.overflow_cast-k
-overflow_cast-k c = let k = near_few _ c.requires.0 _ c.requires.1 refl c.if-x-lt1114112.false in search rules
+overflow_cast-k c = let k = near_few _ c.unicode_tables.ensures _ c.requires refl c.if-x-lt1114112.false in search rules
 
 pub row_at-requires : goal.row_at-requires
-row_at-requires c = (c.requires.0, near_few _ c.requires.0 _ c.requires.1 refl c.if-x-lt1114112.false)
+row_at-requires c = near_few _ c.unicode_tables.ensures _ c.requires refl c.if-x-lt1114112.false
 
 pub returns : goal.returns
-returns c = near_row _ c.requires.0 _ c.requires.1 refl c.if-x-lt1114112.false _ c.row_at.ensures
+returns c = near_row _ c.unicode_tables.ensures _ c.requires refl c.if-x-lt1114112.false _ c.row_at.ensures

@@ -23,14 +23,14 @@ pub returns-else-not-is_mark : goal.returns-else-not-is_mark
 returns-else-not-is_mark c = c.if-not-is_mark.false-raw ∙ (c.is_mark.ensures (not-false _ c.if-not-is_mark.false-raw)).0
 
 pub slice_bounds-in_ranges-end : goal.slice_bounds-in_ranges-end
-slice_bounds-in_ranges-end c = omega (arith, (columns c.requires).long)
+slice_bounds-in_ranges-end c = omega (arith, (columns c.unicode_tables-t.ensures).long)
 
 pub slice_bounds-in_ranges-end-then-not-is_mark : goal.slice_bounds-in_ranges-end-then-not-is_mark
-slice_bounds-in_ranges-end-then-not-is_mark c = omega (arith, (columns c.requires).long)
+slice_bounds-in_ranges-end-then-not-is_mark c = omega (arith, (columns c.unicode_tables-t.ensures).long)
 
 pub in_ranges-requires : goal.in_ranges-requires
-in_ranges-requires c = lent_ready alphabetic _ _ (columns c.requires).alphabetic_starts (columns c.requires).alphabetic_ends alphabetic_ascends
+in_ranges-requires c = lent_ready alphabetic _ _ (columns c.unicode_tables-t.ensures).alphabetic_starts (columns c.unicode_tables-t.ensures).alphabetic_ends alphabetic_ascends
 
 pub returns-then-not-is_mark : goal.returns-then-not-is_mark
 unfolding is_alphabetic
-returns-then-not-is_mark c = lent_member alphabetic _ _ (columns c.requires).alphabetic_starts (columns c.requires).alphabetic_ends _ _ c.in_ranges.ensures
+returns-then-not-is_mark c = lent_member alphabetic _ _ (columns c.unicode_tables-t.ensures).alphabetic_starts (columns c.unicode_tables-t.ensures).alphabetic_ends _ _ c.in_ranges.ensures

@@ -21,14 +21,14 @@ returns-then-c-gt12288 c =
     elim c.if-c-gt12288.either [ inl l ↦ no_white _ c.if-c-gt160.true l | inr g ↦ past_white _ g.1 (omega (arith, c.ranges.c)) ]
 
 pub slice_bounds-in_ranges-end : goal.slice_bounds-in_ranges-end
-slice_bounds-in_ranges-end c = omega (arith, (columns c.requires).long)
+slice_bounds-in_ranges-end c = omega (arith, (columns c.unicode_tables-t.ensures).long)
 
 pub slice_bounds-in_ranges-end-2 : goal.slice_bounds-in_ranges-end-2
-slice_bounds-in_ranges-end-2 c = omega (arith, (columns c.requires).long)
+slice_bounds-in_ranges-end-2 c = omega (arith, (columns c.unicode_tables-t.ensures).long)
 
 pub in_ranges-requires : goal.in_ranges-requires
-in_ranges-requires c = lent_ready white_space _ _ (columns c.requires).white_starts (columns c.requires).white_ends white_ascends
+in_ranges-requires c = lent_ready white_space _ _ (columns c.unicode_tables-t.ensures).white_starts (columns c.unicode_tables-t.ensures).white_ends white_ascends
 
 pub returns : goal.returns
 unfolding is_white_space
-returns c = lent_member white_space _ _ (columns c.requires).white_starts (columns c.requires).white_ends _ _ c.in_ranges.ensures
+returns c = lent_member white_space _ _ (columns c.unicode_tables-t.ensures).white_starts (columns c.unicode_tables-t.ensures).white_ends _ _ c.in_ranges.ensures

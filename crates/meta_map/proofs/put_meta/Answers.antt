@@ -1,16 +1,11 @@
-use native.Mathlib.Omega.{arith}
-use Prim.Native.Nat.{◌+◌, ◌^◌, ◌<◌}
-use lib.ListN.{length}
-use Rattle.meta_map.proofs.Printed.{meta_past, meta_rest, meta_fits}
+use Rattle.std.proofs.Common.{rules}
+use Rattle.rules.specs.Page.{meta_line}
+use Rattle.output.proofs.Writes.{writer}
+use Rattle.content.specs.Contents.{content_in, kept_in}
 use Rattle.meta_map.proofs.put_meta.Goals as goal
 
-pub returns-then-out-at : goal.returns-then-out-at
-returns-then-out-at c = meta_past _ _ c.if-out-at.true
-
-pub overflow_add-result-2 : goal.overflow_add-result-2
-overflow_add-result-2 c =
-    let b : length c.args.out.now + 1 < 2 ^ 64 = omega arith in
-    record { fits = meta_fits c.args.out.now _ b c.if-out-at.false c.meta_line.ensures }
+pub put_line-requires : goal.put_line-requires
+put_line-requires c = writer (meta_line 0 (record { key = kept_in c.args.key.now; value = content_in c.args.value.now })) (λ p e. search rules) (λ n o' e. search rules)
 
 pub returns : goal.returns
-returns c = meta_rest _ _ c.if-out-at.false c.meta_line.ensures
+returns c = record { is = λ k. c.put_line.ensures.put (λ n o' e. search rules) }

@@ -3,6 +3,3 @@ use Rattle.model.proofs.step_back.Given as goal
 
 abbrev pub invariant-loop-i : goal.invariant-loop-i
 invariant-loop-i l = Backing l.kinds l.n l.value l.i l.v
-
-abbrev pub decreases-loop-i : goal.decreases-loop-i
-decreases-loop-i l = l.i

@@ -2,7 +2,7 @@ use Rattle.page_parts.proofs.Sections.{between_meta, between_section, between_st
 use Rattle.page_parts.proofs.between_line.Goals as goal
 
 pub named_line-requires : goal.named_line-requires
-named_line-requires c = (c.requires.0, section_field _ _ c.in-Section.is c.requires.1)
+named_line-requires c = section_field _ _ c.in-Section.is c.requires
 
 pub returns-in-Meta : goal.returns-in-Meta
 returns-in-Meta c = between_meta _ c.args.f _ _ c.in-Meta.is

@@ -5,7 +5,7 @@ pub returns-then-is_components : goal.returns-then-is_components
 returns-then-is_components c = component_dropped _ c.args.f c.is_components.ensures c.if-is_components.true c.in-Step.is
 
 pub source_piece-requires : goal.source_piece-requires
-source_piece-requires c = (c.requires.0, span_good _ _ c.component_span-s.ensures c.requires.1)
+source_piece-requires c = span_good _ _ c.component_span-s.ensures c.requires
 
 pub returns-in-Nothing : goal.returns-in-Nothing
 returns-in-Nothing c = component_nothing _ c.args.f c.in-Nothing.is

@@ -3,7 +3,7 @@ use Rattle.following.specs.Drawn.{section_line}
 use Rattle.page_parts.proofs.named_line.Goals as goal
 
 pub section_line-requires : goal.section_line-requires
-section_line-requires c = (c.requires.0, named_field _ _ c.in-Some.is c.requires.1)
+section_line-requires c = named_field _ _ c.in-Some.is c.requires
 
 pub returns-in-None : goal.returns-in-None
 returns-in-None c = named_none _ c.in-None.is

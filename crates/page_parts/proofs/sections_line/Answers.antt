@@ -2,10 +2,10 @@ use Rattle.page_parts.proofs.Sections.{sections_between, sections_inside, sectio
 use Rattle.page_parts.proofs.sections_line.Goals as goal
 
 pub between_line-count-requires : goal.between_line-count-requires
-between_line-count-requires c = (c.requires.0, between_field _ _ c.in-Between.is c.requires.3)
+between_line-count-requires c = between_field _ _ c.in-Between.is c.requires.0
 
 pub inside_line-requires : goal.inside_line-requires
-inside_line-requires c = (c.requires.0, c.requires.1, c.requires.2, inside_field _ _ c.in-Inside.is c.requires.3, inside_spans _ _ _ c.in-Inside.is c.requires.4, c.requires.5)
+inside_line-requires c = (inside_field _ _ c.in-Inside.is c.requires.0, inside_spans _ _ _ c.in-Inside.is c.requires.1, c.requires.2)
 
 pub returns-in-Between : goal.returns-in-Between
 returns-in-Between c = sections_between _ _ _ _ c.args.f _ c.in-Between.is c.between_line-count.ensures

@@ -2,16 +2,16 @@ use Rattle.part_lines.proofs.Parts.{line_sections, line_timers, line_inline, lin
 use Rattle.part_lines.proofs.draw_line.Goals as goal
 
 pub sections_line-requires : goal.sections_line-requires
-sections_line-requires c = (c.requires.0, c.requires.1, c.requires.2, c.requires.3.fields, c.requires.4, c.requires.5)
+sections_line-requires c = (c.requires.0.fields, c.requires.1, c.requires.2)
 
 pub timers_line-count-requires : goal.timers_line-count-requires
-timers_line-count-requires c = (c.requires.0, c.requires.3.fields)
+timers_line-count-requires c = c.requires.0.fields
 
 pub inline_line-requires : goal.inline_line-requires
-inline_line-requires c = (c.requires.0, c.requires.2, c.requires.3.fields, c.requires.5)
+inline_line-requires c = (c.requires.0.fields, c.requires.2)
 
 pub old_line-count-requires : goal.old_line-count-requires
-old_line-count-requires c = (c.requires.0, c.requires.3.within)
+old_line-count-requires c = c.requires.0.within
 
 pub returns-in-Sections : goal.returns-in-Sections
 returns-in-Sections c = line_sections c.in-Sections.is c.sections_line.ensures

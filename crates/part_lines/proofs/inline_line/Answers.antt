@@ -2,7 +2,7 @@ use Rattle.part_lines.proofs.Timers.{inline_between, inline_end, inline_text_lem
 use Rattle.part_lines.proofs.inline_line.Goals as goal
 
 pub quantities_of-requires : goal.quantities_of-requires
-quantities_of-requires c = (c.requires.0, c.requires.1, body_field _ _ _ c.in-Inside.is c.in-Text.is c.requires.2, c.requires.3)
+quantities_of-requires c = (body_field _ _ _ c.in-Inside.is c.in-Text.is c.requires.0, c.requires.1)
 
 pub returns-in-Between : goal.returns-in-Between
 returns-in-Between c = inline_between c.args.f _ c.in-Between.is

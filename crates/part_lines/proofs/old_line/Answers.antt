@@ -2,7 +2,7 @@ use Rattle.part_lines.proofs.Timers.{meta_within, old_meta, old_section, old_sta
 use Rattle.part_lines.proofs.old_line.Goals as goal
 
 pub meta_line-requires : goal.meta_line-requires
-meta_line-requires c = let w = meta_within _ _ _ _ c.in-Between.is c.in-Meta.is c.requires.1 in (c.requires.0, w.0, w.1)
+meta_line-requires c = let w = meta_within _ _ _ _ c.in-Between.is c.in-Meta.is c.requires in (w.0, w.1)
 
 pub returns-in-Meta : goal.returns-in-Meta
 returns-in-Meta c = old_meta c.args.f _ _ _ c.in-Between.is c.in-Meta.is c.meta_line.ensures

@@ -2,7 +2,7 @@ use Rattle.part_lines.proofs.Timers.{timer_ingredient, timer_cookware, timer_not
 use Rattle.part_lines.proofs.timer_of.Goals as goal
 
 pub timer_line-requires : goal.timer_line-requires
-timer_line-requires c = let w = timer_fields _ _ _ _ c.in-Timer.is c.requires.1 in (c.requires.0, w.0, w.1)
+timer_line-requires c = let w = timer_fields _ _ _ _ c.in-Timer.is c.requires in (w.0, w.1)
 
 pub returns-in-Ingredient : goal.returns-in-Ingredient
 returns-in-Ingredient c = timer_ingredient _ c.args.f _ _ c.in-Ingredient.is

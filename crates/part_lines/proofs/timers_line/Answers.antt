@@ -2,7 +2,7 @@ use Rattle.part_lines.proofs.Timers.{timers_between, timers_end, timers_text, ti
 use Rattle.part_lines.proofs.timers_line.Goals as goal
 
 pub timer_of-requires : goal.timer_of-requires
-timer_of-requires c = (c.requires.0, component_field _ _ _ c.in-Inside.is c.in-Component.is c.requires.1)
+timer_of-requires c = component_field _ _ _ c.in-Inside.is c.in-Component.is c.requires
 
 pub returns-in-Between : goal.returns-in-Between
 returns-in-Between c = timers_between _ c.args.f _ c.in-Between.is

@@ -1,20 +1,10 @@
+use Rattle.std.proofs.Common.{refl}
+use Rattle.std.proofs.Common.{rules}
+use Rattle.rules.specs.Read.{read_quantity}
 use Rattle.parts.specs.Views.{opt_quantity_in, OptQuantityWithin}
-use Rattle.parts.specs.Got.{dash_as}
-use Rattle.parts.proofs.Sequence.{opt_absent, opt_present, opt_ill, opt_bad, reads, fails, failed, got, ill, good_of}
+use Rattle.parts.proofs.Generic.{opt_as}
 use Rattle.parts.proofs.read_opt_quantity.Goals as goal
 
-pub returns-in-Absent : goal.returns-in-Absent
-unfolding dash_as opt_quantity_in OptQuantityWithin
-returns-in-Absent c = reads (opt_absent _ _ c.in-Absent.ensures) tt
-
-pub returns-in-Ill : goal.returns-in-Ill
-unfolding dash_as
-returns-in-Ill c = fails (opt_ill _ _ c.in-Ill.ensures)
-
-pub returns-in_err-quantity-in-Present : goal.returns-in_err-quantity-in-Present
-unfolding dash_as
-returns-in_err-quantity-in-Present c = failed c.from_residual.ensures (opt_bad _ _ c.in-Present.ensures (ill c.in_err-quantity-in-Present.ensures))
-
-pub returns-in_ok-quantity-in-Present : goal.returns-in_ok-quantity-in-Present
-unfolding dash_as opt_quantity_in OptQuantityWithin
-returns-in_ok-quantity-in-Present c = reads (opt_present _ _ c.in-Present.ensures (got c.in_ok-quantity-in-Present.ensures)) (good_of c.in_ok-quantity-in-Present.ensures)
+pub returns : goal.returns
+unfolding opt_quantity_in OptQuantityWithin
+returns c = opt_as (record { none = (refl, tt, refl); some = λ v. (refl, (λ g. g), refl) }) read_quantity c.read_opt.ensures (λ p o q e. search rules)

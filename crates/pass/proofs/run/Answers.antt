@@ -6,7 +6,7 @@ use Rattle.pass.proofs.Loops.{passing_starts, passing_cut, line_ready, event_her
 use Rattle.pass.proofs.run.Goals as goal
 
 pub loop-at-init : goal.loop-at-init
-loop-at-init c = (passing_starts c.first_held-h.ensures c.requires.1 c.requires.2 c.requires.3, codes_none)
+loop-at-init c = (passing_starts c.first_held-h.ensures c.requires.0 c.requires.1 c.args.sheet.now.read, codes_none)
 
 pub returns-in_default : goal.returns-in_default
 returns-in_default c = passing_cut c.loop-at.invariant.0 c.line_end.ensures c.loop-at-test.true c.in_default.is
@@ -27,7 +27,7 @@ pub slice_bounds-step-end : goal.slice_bounds-step-end
 slice_bounds-step-end c = sym c.loop-at.invariant.1.long
 
 pub step-requires : goal.step-requires
-step-requires c = (c.requires.0, event_here c.loop-at.invariant.0 c.line_end.ensures c.in-Some.is c.event_of-v.ensures, c.loop-at.invariant.0.running, c.loop-at.invariant.1)
+step-requires c = (event_here c.loop-at.invariant.0 c.line_end.ensures c.in-Some.is c.event_of-v.ensures, c.loop-at.invariant.0.running, c.loop-at.invariant.1)
 
 pub returns-in-Ok-None : goal.returns-in-Ok-None
 returns-in-Ok-None c = passing_failed c.loop-at.invariant.0 c.line_end.ensures c.in-Some.is c.event_of-v.ensures c.words-1.given c.step.ensures.0 (rw c.in-Ok-None.field-0-is at c.in-Ok-None.is)

@@ -7,7 +7,7 @@ use Rattle.pass.proofs.Loops.{Passing}
 use Rattle.pass.proofs.run.Given as goal
 
 abbrev pub invariant-loop-at : goal.invariant-loop-at
-invariant-loop-at l = Passing (units_or (read_units l.units)) l.flags l.sheet l.text l.initial.words l.words l.h l.at l.number × CodesKept l.units l.sheet l.codes
+invariant-loop-at l = Passing (units_or (read_units l.units.lines.now)) l.flags l.sheet.bytes.now l.sheet.text.now l.initial.words l.words l.h l.at l.number × CodesKept l.units.lines.now l.sheet.bytes.now l.codes
 
 abbrev pub decreases-loop-at : goal.decreases-loop-at
-decreases-loop-at l = length l.sheet - l.at
+decreases-loop-at l = length l.sheet.bytes.now - l.at

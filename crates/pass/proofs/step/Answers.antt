@@ -3,7 +3,7 @@ use Rattle.pass.proofs.Steps.{step_failed, step_over, step_stopped, step_going}
 use Rattle.pass.proofs.step.Goals as goal
 
 pub returns-then-is_error : goal.returns-then-is_error
-returns-then-is_error c = (step_failed c.is_error.ensures c.if-is_error.true, c.requires.3)
+returns-then-is_error c = (step_failed c.is_error.ensures c.if-is_error.true, c.requires.2)
 
 pub on_event-requires : goal.on_event-requires
 on_event-requires c = c.requires
@@ -15,4 +15,4 @@ pub returns-then-over_limits : goal.returns-then-over_limits
 returns-then-over_limits c = (step_over c.is_error.ensures c.if-is_error.false c.on_event.ensures.0 _ c.in_ok-k.was c.over_limits.ensures c.if-over_limits.true, c.on_event.ensures.1)
 
 pub returns : goal.returns
-returns c = (step_going c.is_error.ensures c.if-is_error.false c.on_event.ensures.0 _ c.in_ok-k.was c.over_limits.ensures c.if-over_limits.false c.requires.1 c.requires.2, c.on_event.ensures.1)
+returns c = (step_going c.is_error.ensures c.if-is_error.false c.on_event.ensures.0 _ c.in_ok-k.was c.over_limits.ensures c.if-over_limits.false c.requires.0 c.requires.1, c.on_event.ensures.1)

@@ -2,7 +2,7 @@ use Rattle.plain_walk.proofs.Becomes.{meta_within, meta_dropped, meta_kept, sect
 use Rattle.plain_walk.proofs.between_plain.Goals as goal
 
 pub is_mode_line-requires : goal.is_mode_line-requires
-is_mode_line-requires c = (c.requires.0, meta_within _ _ _ c.in-Meta.is c.requires.1)
+is_mode_line-requires c = meta_within _ _ _ c.in-Meta.is c.requires
 
 pub returns-then-is_mode_line : goal.returns-then-is_mode_line
 returns-then-is_mode_line c = meta_dropped _ _ c.args.f _ _ c.in-Meta.is c.is_mode_line.ensures c.if-is_mode_line.true

@@ -5,7 +5,7 @@ pub returns-then-is_components : goal.returns-then-is_components
 returns-then-is_components c = component_listed _ c.args.words.now c.args.f _ c.in-Component.is c.in-Step.is c.is_components.ensures c.if-is_components.true
 
 pub check_mark-requires : goal.check_mark-requires
-check_mark-requires c = (c.requires.0, c.requires.1, ready_step _ c.args.words.now c.args.f _ c.in-Component.is c.in-Step.is c.requires.2)
+check_mark-requires c = (c.requires.0, ready_step _ c.args.words.now c.args.f _ c.in-Component.is c.in-Step.is c.requires.1)
 
 pub returns-in-End : goal.returns-in-End
 returns-in-End c = inside_end _ c.args.words.now c.args.f _ c.in-End.is

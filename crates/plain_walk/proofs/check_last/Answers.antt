@@ -3,22 +3,22 @@ use Rattle.plain_walk.proofs.Faults.{last_part_lem, last_none, last_same, last_o
 use Rattle.plain_walk.proofs.check_last.Goals as goal
 
 pub slice_bounds-same_name_before-count : goal.slice_bounds-same_name_before-count
-slice_bounds-same_name_before-count c = omega (arith, (last_part_lem c.requires.1 c.wide-a.ensures c.wide-e.ensures).0)
+slice_bounds-same_name_before-count c = omega (arith, (last_part_lem c.requires).0)
 
 pub slice_bounds-same_name_before-start : goal.slice_bounds-same_name_before-start
-slice_bounds-same_name_before-start c = omega (arith, (last_part_lem c.requires.1 c.wide-a.ensures c.wide-e.ensures).0, (last_part_lem c.requires.1 c.wide-a.ensures c.wide-e.ensures).1)
+slice_bounds-same_name_before-start c = omega (arith, (last_part_lem c.requires).0, (last_part_lem c.requires).1)
 
 pub slice_bounds-same_name_before-end : goal.slice_bounds-same_name_before-end
-slice_bounds-same_name_before-end c = omega (arith, (last_part_lem c.requires.1 c.wide-a.ensures c.wide-e.ensures).0, (last_part_lem c.requires.1 c.wide-a.ensures c.wide-e.ensures).1)
+slice_bounds-same_name_before-end c = omega (arith, (last_part_lem c.requires).0, (last_part_lem c.requires).1)
 
 pub same_name_before-requires : goal.same_name_before-requires
-same_name_before-requires c = (c.requires.0, omega (arith, c.requires.1.below), omega (arith, c.requires.1.long), record { at = λ i l. c.requires.1.names.at i (omega (arith, l)) })
+same_name_before-requires c = (omega (arith, c.requires.below), omega (arith, c.requires.long), record { at = λ i l. c.requires.names.at i (omega (arith, l)) })
 
 pub returns-then-l-d : goal.returns-then-l-d
-returns-then-l-d c = last_same c.requires.1 c.wide-a.ensures c.wide-e.ensures _ c.same_name_before.ensures _ c.in-Some.is c.if-l-d.true
+returns-then-l-d c = last_same c.requires _ c.same_name_before.ensures _ c.in-Some.is c.if-l-d.true
 
 pub returns-in-None : goal.returns-in-None
-returns-in-None c = last_none c.requires.1 c.wide-a.ensures c.wide-e.ensures _ c.same_name_before.ensures c.in-None.is
+returns-in-None c = last_none c.requires _ c.same_name_before.ensures c.in-None.is
 
 pub returns-else-l-d : goal.returns-else-l-d
-returns-else-l-d c = last_other c.requires.1 c.wide-a.ensures c.wide-e.ensures _ c.same_name_before.ensures _ c.in-Some.is c.if-l-d.false
+returns-else-l-d c = last_other c.requires _ c.same_name_before.ensures _ c.in-Some.is c.if-l-d.false

@@ -2,7 +2,7 @@ use Rattle.plain_walk.proofs.FaultLines.{ready_inside, event_between, event_insi
 use Rattle.plain_walk.proofs.check_marks.Goals as goal
 
 pub check_inside-requires : goal.check_inside-requires
-check_inside-requires c = (c.requires.0, c.requires.1, ready_inside _ c.args.words.now c.args.f _ c.in-Inside.is c.requires.2)
+check_inside-requires c = (c.requires.0, ready_inside _ c.args.words.now c.args.f _ c.in-Inside.is c.requires.1)
 
 pub returns-in-Between : goal.returns-in-Between
 returns-in-Between c = event_between _ c.args.words.now c.args.f _ c.in-Between.is

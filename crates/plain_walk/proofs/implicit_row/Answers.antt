@@ -5,7 +5,7 @@ pub returns-then-reference : goal.returns-then-reference
 returns-then-reference c = implicit_marked c.if-reference.true
 
 pub returns-then-rows-at-eq1 : goal.returns-then-rows-at-eq1
-returns-then-rows-at-eq1 c = implicit_at_lem c.if-reference.false c.if-rows-at-eq1.true c.wide.ensures
+returns-then-rows-at-eq1 c = implicit_at_lem c.if-reference.false c.if-rows-at-eq1.true
 
 pub returns : goal.returns
 returns c = implicit_none c.if-reference.false c.if-rows-at-eq1.false

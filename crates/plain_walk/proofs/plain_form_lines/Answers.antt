@@ -5,7 +5,7 @@ use Rattle.plain_walk.proofs.Turns.{form_starts, form_ends, form_kept, form_long
 use Rattle.plain_walk.proofs.plain_form_lines.Goals as goal
 
 pub loop-at-init : goal.loop-at-init
-loop-at-init c = form_starts c.first_follow-f.ensures c.requires.4 c.requires.3
+loop-at-init c = form_starts c.first_follow-f.ensures c.requires.2 c.args.sheet.now.read
 
 pub shape_of-out-in_default : goal.shape_of-out-in_default
 shape_of-out-in_default c = search (rules, form_kept c.loop-at.invariant)
@@ -26,7 +26,7 @@ pub event_of-e-requires : goal.event_of-e-requires
 event_of-e-requires c = form_line c.loop-at.invariant c.line_end.ensures c.in-Some.is
 
 pub check_marks-requires : goal.check_marks-requires
-check_marks-requires c = (c.requires.0, form_long c.loop-at.invariant, form_ready c.loop-at.invariant c.line_end.ensures c.in-Some.is c.event_of-e.ensures)
+check_marks-requires c = (form_long c.loop-at.invariant, form_ready c.loop-at.invariant c.line_end.ensures c.in-Some.is c.event_of-e.ensures)
 
 pub shape_of-out-in-Err : goal.shape_of-out-in-Err
 shape_of-out-in-Err c = search (rules, form_kept c.loop-at.invariant)
@@ -35,19 +35,19 @@ pub returns-in-Err : goal.returns-in-Err
 returns-in-Err c = form_fault c.loop-at.invariant c.line_end.ensures c.in-Some.is c.event_of-e.ensures c.check_marks.ensures c.in-Err.is
 
 pub plain_of-p-requires : goal.plain_of-p-requires
-plain_of-p-requires c = (c.requires.0, c.event_of-e.ensures.within, form_long c.loop-at.invariant, form_few c.loop-at.invariant)
+plain_of-p-requires c = (c.event_of-e.ensures.within, form_long c.loop-at.invariant, form_few c.loop-at.invariant)
 
 pub put_plain-n-requires : goal.put_plain-n-requires
-put_plain-n-requires c = (c.requires.2, form_fit c.loop-at.invariant c.line_end.ensures c.in-Some.is c.event_of-e.ensures c.plain_of-p.ensures)
+put_plain-n-requires c = form_fit c.loop-at.invariant c.line_end.ensures c.in-Some.is c.event_of-e.ensures c.plain_of-p.ensures
 
 pub follow_event-f-requires : goal.follow_event-f-requires
-follow_event-f-requires c = (c.requires.0, c.event_of-e.ensures.within, form_room c.loop-at.invariant (omega (arith, c.loop-at-test.true, c.requires.1)), form_inline c.loop-at.invariant)
+follow_event-f-requires c = (c.event_of-e.ensures.within, form_room c.loop-at.invariant (omega (arith, c.loop-at-test.true, c.requires.0)), form_inline c.loop-at.invariant)
 
 pub overflow_add-at : goal.overflow_add-at
-overflow_add-at c = omega (arith, c.requires.1, (c.line_end.ensures.inside _ c.in-Some.is).1)
+overflow_add-at c = omega (arith, c.requires.0, (c.line_end.ensures.inside _ c.in-Some.is).1)
 
 pub overflow_add-number : goal.overflow_add-number
-overflow_add-number c = omega (arith, c.requires.1, form_number c.loop-at.invariant, c.loop-at-test.true)
+overflow_add-number c = omega (arith, c.requires.0, form_number c.loop-at.invariant, c.loop-at-test.true)
 
 pub loop-at-smaller : goal.loop-at-smaller
 loop-at-smaller c = omega (arith, (c.line_end.ensures.inside _ c.in-Some.is).0, (c.line_end.ensures.inside _ c.in-Some.is).1)

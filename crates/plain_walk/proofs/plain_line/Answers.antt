@@ -2,10 +2,10 @@ use Rattle.plain_walk.proofs.Writes.{write_dropped, write_copied, write_start, w
 use Rattle.plain_walk.proofs.plain_line.Goals as goal
 
 pub source_line-requires : goal.source_line-requires
-source_line-requires c = (c.requires.0, fit_source _ _ _ c.in-Source.is c.requires.1)
+source_line-requires c = fit_source _ _ _ c.in-Source.is c.requires
 
 pub marked_line-requires : goal.marked_line-requires
-marked_line-requires c = fit_marked _ _ _ _ c.in-Marked.is c.requires.1
+marked_line-requires c = fit_marked _ _ _ _ c.in-Marked.is c.requires
 
 pub returns-in-Dropped : goal.returns-in-Dropped
 returns-in-Dropped c = write_dropped _ _ c.in-Dropped.is

@@ -2,7 +2,7 @@ use Rattle.plain_walk.proofs.Becomes.{told_between, told_inside, told_finding, w
 use Rattle.plain_walk.proofs.plain_of.Goals as goal
 
 pub between_plain-requires : goal.between_plain-requires
-between_plain-requires c = (c.requires.0, within_between _ _ c.in-Between.is c.requires.1)
+between_plain-requires c = within_between _ _ c.in-Between.is c.requires.0
 
 pub returns-in-Between : goal.returns-in-Between
 returns-in-Between c = told_between _ _ _ c.args.f _ c.in-Between.is c.between_plain.ensures

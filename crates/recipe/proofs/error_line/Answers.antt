@@ -6,7 +6,7 @@ use Rattle.recipe.proofs.Errors.{seeking_starts, seeking_ends, seeking_cut, seek
 use Rattle.recipe.proofs.error_line.Goals as goal
 
 pub loop-at-init : goal.loop-at-init
-loop-at-init c = (seeking_starts c.requires.1, c.requires.0)
+loop-at-init c = (seeking_starts c.args.sheet.now.read, c.requires)
 
 pub returns-in_default : goal.returns-in_default
 returns-in_default c = seeking_cut c.loop-at.invariant.0 c.line_end.ensures c.loop-at-test.true c.in_default.is

@@ -1,17 +1,23 @@
 use mathlib.Core.Path.{refl}
 use Rattle.std.proofs.result.Match.{err_is}
-use Rattle.recipe.proofs.Passes.{inputs_good}
+use Rattle.inputs.proofs.Answers.{told_good}
 use Rattle.recipe.proofs.Forms.{plain_refused}
 use Rattle.recipe.proofs.formed.Goals as goal
 
 pub check_inputs-requires : goal.check_inputs-requires
-check_inputs-requires c = c.requires.1
+check_inputs-requires c = c.requires
 
 pub returns-in_err-check_inputs : goal.returns-in_err-check_inputs
 returns-in_err-check_inputs c = rw (err_is _ _ c.from_residual.ensures.1) (plain_refused _ c.check_inputs.ensures.0 _ refl c.in_err-check_inputs.was)
 
+pub invariant_of-read : goal.invariant_of-read
+invariant_of-read c = record { read = (told_good (rw c.in_ok-check_inputs.was at c.check_inputs.ensures.0)).sheet_read }
+
+pub invariant_of-list : goal.invariant_of-list
+invariant_of-list c = record { indexed = c.check_inputs.ensures.1.indexed c.in_ok-check_inputs.was }
+
 pub pass_and_form-requires : goal.pass_and_form-requires
-pass_and_form-requires c = inputs_good _ c.check_inputs.ensures.0 c.requires.0 c.check_inputs.ensures.1 c.in_ok-check_inputs.was
+pass_and_form-requires c = told_good (rw c.in_ok-check_inputs.was at c.check_inputs.ensures.0)
 
 pub returns : goal.returns
 returns c = c.pass_and_form.ensures

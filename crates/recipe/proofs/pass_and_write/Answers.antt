@@ -1,16 +1,14 @@
 use mathlib.Core.Path.{refl}
 use Rattle.std.proofs.result.Match.{err_is}
-use Rattle.recipe.proofs.Passes.{run_given, page_given, recipe_answered, failed_answered, refused_answered}
+use Rattle.pass.proofs.Given.{run_ready}
+use Rattle.recipe.proofs.Passes.{page_given, recipe_answered, failed_answered, refused_answered}
 use Rattle.recipe.proofs.pass_and_write.Goals as goal
 
 pub run-requires : goal.run-requires
-run-requires c = run_given c.requires
+run-requires c = run_ready c.requires
 
 pub recipe_page-n-requires : goal.recipe_page-n-requires
 recipe_page-n-requires c = page_given c.requires c.run.ensures refl (rw c.in-Some.is at c.in_ok-h.was)
-
-pub failed_page-n-requires : goal.failed_page-n-requires
-failed_page-n-requires c = c.requires.inputs.sheet_read
 
 pub returns-in-Some : goal.returns-in-Some
 returns-in-Some c = recipe_answered c.requires c.run.ensures refl (rw c.in-Some.is at c.in_ok-h.was) c.recipe_page-n.ensures c.hand_out.ensures

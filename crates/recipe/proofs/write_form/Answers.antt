@@ -18,7 +18,7 @@ pub slice_bounds-give_form-end : goal.slice_bounds-give_form-end
 slice_bounds-give_form-end c = form_within c.requires.0 c.plain_form_lines.ensures c.in_ok-n.was (length-take-le 65536 c.args.bytes.now c.requires.1) c.if-n-gt65536.false _
 
 pub give_form-requires : goal.give_form-requires
-give_form-requires c = form_given_lem c.requires.0 c.plain_form_lines.ensures c.in_ok-n.was (length-take-le 65536 c.args.bytes.now c.requires.1) c.if-n-gt65536.false _ c.args.out.now
+give_form-requires c = form_given_lem c.requires.0 c.plain_form_lines.ensures c.in_ok-n.was (length-take-le 65536 c.args.bytes.now c.requires.1) c.if-n-gt65536.false _
 
 pub returns-in_err-n : goal.returns-in_err-n
 returns-in_err-n c = rw (err_is _ _ c.from_residual.ensures.1) (fault_told c.requires.0 c.plain_form_lines.ensures _ refl c.in_err-n.was)

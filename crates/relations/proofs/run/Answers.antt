@@ -3,10 +3,10 @@ use Rattle.pass.proofs.Given.{run_ready}
 use Rattle.relations.proofs.run.Goals as goal
 
 pub run-requires : goal.run-requires
-run-requires g c = run_ready c.requires.0 c.requires.1 c.requires.2
+run-requires g c = run_ready c.requires
 
 pub show_counts-requires : goal.show_counts-requires
-show_counts-requires g c = recipe_counts c.run.ensures (rw c.in-Ok-Some.field-0-is at c.in-Ok-Some.is) c.requires.1.sheet_short
+show_counts-requires g c = recipe_counts c.run.ensures (rw c.in-Ok-Some.field-0-is at c.in-Ok-Some.is) c.requires.sheet_short
 
 pub show_both-requires : goal.show_both-requires
 show_both-requires g c = recipe_sound c.run.ensures (rw c.in-Ok-Some.field-0-is at c.in-Ok-Some.is)

@@ -1,14 +1,11 @@
-use native.Mathlib.Omega.{arith}
-use Prim.Native.Nat.{◌+◌, ◌^◌, ◌<◌}
-use lib.ListN.{length}
-use Rattle.output.proofs.Puts.{put_past, put_rest, rest_fits}
+use Rattle.std.proofs.Common.{rules}
+use Rattle.rules.specs.Page.{item_line}
+use Rattle.output.proofs.Writes.{writer}
+use Rattle.step_lines.specs.Lines.{item_as}
 use Rattle.step_lines.proofs.put_item.Goals as goal
 
-pub returns-then-out-at : goal.returns-then-out-at
-returns-then-out-at c = put_past _ _ _ c.if-out-at.true
-
-pub overflow_add-result-2 : goal.overflow_add-result-2
-overflow_add-result-2 c = let b : length c.args.out.now + 1 < 2 ^ 64 = omega arith in record { fits = rest_fits c.args.out.now _ b c.if-out-at.false (c.item_line.ensures.line 0) }
+pub put_line-requires : goal.put_line-requires
+put_line-requires c = writer (item_line 0 (item_as c.args.kind c.args.index)) (λ p e. tt) (λ n o' e. search rules)
 
 pub returns : goal.returns
-returns c = put_rest _ _ c.if-out-at.false (c.item_line.ensures.line 0)
+returns c = c.put_line.ensures.put (λ n o' e. search rules)

@@ -1,12 +1,14 @@
-use Rattle.checks.proofs.Laws.{none_found, said}
-use Rattle.timers.proofs.Timers.{kind_number, kind_range, kind_textual}
+use Rattle.checks.proofs.Laws.{nothing_found, one_found}
+use Rattle.timers.proofs.Timers.{textual_is, textual_else, when_found, when_none}
 use Rattle.timers.proofs.text_finding.Goals as goal
+use Rattle.timers.proofs.text_finding.Goals.{in-Textual, in_default}
 
-pub returns-in-Number : goal.returns-in-Number
-returns-in-Number c = none_found (kind_number _ c.in-Number.is)
+pub returns-then-matches : goal.returns-then-matches
+returns-then-matches c =
+    one_found _ c.one_span.ensures
+    (when_found _ (elim c.match-matches.branch [ in-Textual w ↦ textual_is w.in-Textual.is w.matches-is | in_default w ↦ textual_else w.in_default.not-Textual w.matches-is ]) c.if-matches.true)
 
-pub returns-in-Range : goal.returns-in-Range
-returns-in-Range c = none_found (kind_range _ c.in-Range.is)
-
-pub returns-in-Textual : goal.returns-in-Textual
-returns-in-Textual c = said (kind_textual _ c.in-Textual.is) c.push_one.ensures
+pub returns : goal.returns
+returns c =
+    nothing_found
+    (when_none _ (elim c.match-matches.branch [ in-Textual w ↦ textual_is w.in-Textual.is w.matches-is | in_default w ↦ textual_else w.in_default.not-Textual w.matches-is ]) c.if-matches.false)

@@ -6,7 +6,7 @@ use Rattle.rules.specs.Units.{read_units}
 use Rattle.unit_checks.proofs.referrer_check.Given as goal
 
 abbrev pub invariant-loop-from : goal.invariant-loop-from
-invariant-loop-from l = Going (units_or (read_units l.units)) l.sheet l.line l.a l.d l.initial.words l.initial.k l.words l.k l.from × CodesKept l.units l.sheet l.codes
+invariant-loop-from l = Going (units_or (read_units l.units.lines.now)) l.sheet l.line l.a l.d l.initial.words l.initial.k l.words l.k l.from × CodesKept l.units.lines.now l.sheet l.codes
 
 abbrev pub decreases-loop-from : goal.decreases-loop-from
 decreases-loop-from l = l.n - l.from

@@ -7,16 +7,16 @@ use Rattle.unit_checks.proofs.Units.{window_fits, fits_there, fits_past}
 use Rattle.unit_checks.proofs.row_fits.Goals as goal
 
 pub returns-then-n-i : goal.returns-then-n-i
-returns-then-n-i c = (fits_past _ _ _ _ _ _ c.if-n-i.true, c.requires.2)
+returns-then-n-i c = (fits_past _ _ _ _ _ _ c.if-n-i.true, c.requires.0)
 
 pub known_fits-requires : goal.known_fits-requires
-known_fits-requires c = (omega (arith, c.if-n-i.false, c.requires.3.room.ingredients), c.requires.2.long, up_to_five _ _ c.requires.6)
+known_fits-requires c = (omega (arith, c.if-n-i.false, c.requires.1.room.ingredients), c.requires.0.long, up_to_five _ _ c.requires.4)
 
 pub returns-then-known_fits : goal.returns-then-known_fits
-returns-then-known_fits c = (c.if-known_fits.true ∙ fits_there c.args.i c.requires.4 c.if-n-i.false c.row_at-r.ensures _ _ (fits_kept c.requires.2 c.args.i (omega (arith, c.if-n-i.false, c.requires.3.room.ingredients)) c.requires.5 c.requires.6 _ _ _ c.known_fits.ensures c.if-known_fits.true), c.requires.2)
+returns-then-known_fits c = (c.if-known_fits.true ∙ fits_there c.args.i c.requires.2 c.if-n-i.false c.row_at-r.ensures _ _ (fits_kept c.requires.0 c.args.i (omega (arith, c.if-n-i.false, c.requires.1.room.ingredients)) c.requires.3 c.requires.4 _ _ _ c.known_fits.ensures c.if-known_fits.true), c.requires.0)
 
 pub line_fits-requires : goal.line_fits-requires
-line_fits-requires c = let f = window_fits _ c.args.i c.requires.4 c.if-n-i.false c.row_at-r.ensures in (c.requires.0, c.requires.1, c.requires.2, f.line.order, f.line.most, line_kind ingredient f, omega (arith, c.if-n-i.false, c.requires.3.room.ingredients), c.requires.5, c.requires.6)
+line_fits-requires c = let f = window_fits _ c.args.i c.requires.2 c.if-n-i.false c.row_at-r.ensures in (c.requires.0, f.line.order, f.line.most, line_kind ingredient f, omega (arith, c.if-n-i.false, c.requires.1.room.ingredients), c.requires.3, c.requires.4)
 
 pub returns-else-known_fits : goal.returns-else-known_fits
-returns-else-known_fits c = (fits_there c.args.i c.requires.4 c.if-n-i.false c.row_at-r.ensures _ _ c.line_fits.ensures.0, c.line_fits.ensures.1)
+returns-else-known_fits c = (fits_there c.args.i c.requires.2 c.if-n-i.false c.row_at-r.ensures _ _ c.line_fits.ensures.0, c.line_fits.ensures.1)

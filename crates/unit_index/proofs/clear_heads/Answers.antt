@@ -1,18 +1,11 @@
+use mathlib.Core.Path.{sym}
 use native.Mathlib.Omega.{arith}
-use Rattle.unit_index.proofs.Adds.{clear_starts, clear_on, clear_ends}
+use lib.Seq.{length-take-le}
+use Rattle.unit_index.proofs.Adds.{heads_cleared}
 use Rattle.unit_index.proofs.clear_heads.Goals as goal
 
-pub loop-b-init : goal.loop-b-init
-loop-b-init c = clear_starts _
-
-pub bounds-index-b : goal.bounds-index-b
-bounds-index-b c = omega (arith, c.loop-b.invariant.long, c.requires)
-
-pub loop-b-preserved : goal.loop-b-preserved
-loop-b-preserved c = clear_on c.loop-b.invariant c.loop-b-test.true c.requires
-
-pub shape_of-index : goal.shape_of-index
-shape_of-index c = c.loop-b.invariant.long
+pub slice_bounds-fill-end-2 : goal.slice_bounds-fill-end-2
+slice_bounds-fill-end-2 c = sym (length-take-le 256 c.args.index.now (omega (arith, c.requires)))
 
 pub returns : goal.returns
-returns c = clear_ends c.loop-b.invariant c.loop-b-test.false c.requires
+returns c = heads_cleared c.args.index.now c.requires (c.fill.ensures.after (λ y e. e))

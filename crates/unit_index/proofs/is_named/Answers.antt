@@ -6,10 +6,10 @@ use Rattle.unit_index.proofs.Searches.{linked_below, line_few, line_in, line_nam
 use Rattle.unit_index.proofs.is_named.Goals as goal
 
 pub start_at-from-requires : goal.start_at-from-requires
-start_at-from-requires c = (line_few c.requires.0.filled (linked_below c.requires.1), c.requires.0.filled.long)
+start_at-from-requires c = (line_few c.args.units.now.indexed.filled (linked_below c.requires), c.args.units.now.indexed.filled.long)
 
 pub line_at-u-requires : goal.line_at-u-requires
-line_at-u-requires c = rw c.start_at-from.ensures (line_in c.requires.0.filled (linked_below c.requires.1))
+line_at-u-requires c = rw c.start_at-from.ensures (line_in c.args.units.now.indexed.filled (linked_below c.requires))
 
 pub slice_bounds-same_chars-count : goal.slice_bounds-same_chars-count
 slice_bounds-same_chars-count c = omega (arith, c.line_at-u.ensures.named)
@@ -21,4 +21,4 @@ pub slice_bounds-same_chars-end : goal.slice_bounds-same_chars-end
 slice_bounds-same_chars-end c = omega (arith, c.line_at-u.ensures.ended, c.line_at-u.ensures.within)
 
 pub returns : goal.returns
-returns c = c.same_chars.ensures ∙ ap (eq_list (content_in c.args.name.now)) (sym (line_name c.requires.0.filled (linked_below c.requires.1) c.start_at-from.ensures c.line_at-u.ensures))
+returns c = c.same_chars.ensures ∙ ap (eq_list (content_in c.args.name.now)) (sym (line_name c.args.units.now.indexed.filled (linked_below c.requires) c.start_at-from.ensures c.line_at-u.ensures))

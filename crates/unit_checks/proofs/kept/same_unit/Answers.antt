@@ -5,19 +5,19 @@ use Rattle.unit_checks.proofs.kept.same_unit.Goals as goal
 
 pub slice_bounds-same_written-count : goal.slice_bounds-same_written-count
 unfolding start_in end_in
-slice_bounds-same_written-count c = let u = c.requires.2 c.if-w-ge16.true in omega (arith, u.order, u.ends)
+slice_bounds-same_written-count c = let u = c.requires.1 c.if-w-ge16.true in omega (arith, u.order, u.ends)
 
 pub slice_bounds-same_written-start : goal.slice_bounds-same_written-start
 unfolding start_in end_in
-slice_bounds-same_written-start c = let u = c.requires.2 c.if-w-ge16.true in omega (arith, u.order, u.ends)
+slice_bounds-same_written-start c = let u = c.requires.1 c.if-w-ge16.true in omega (arith, u.order, u.ends)
 
 pub slice_bounds-same_written-end : goal.slice_bounds-same_written-end
 unfolding start_in end_in
-slice_bounds-same_written-end c = let u = c.requires.2 c.if-w-ge16.true in omega (arith, u.order, u.ends)
+slice_bounds-same_written-end c = let u = c.requires.1 c.if-w-ge16.true in omega (arith, u.order, u.ends)
 
 pub returns-then-w-ge16 : goal.returns-then-w-ge16
 unfolding start_in end_in
-returns-then-w-ge16 c = same_placed (c.requires.2 c.if-w-ge16.true) c.same_written.ensures
+returns-then-w-ge16 c = same_placed (c.requires.1 c.if-w-ge16.true) c.same_written.ensures
 
 pub returns-in-NoQuantity : goal.returns-in-NoQuantity
 returns-in-NoQuantity c = same_absent c.unit_in.ensures c.in-NoQuantity.is
