@@ -7,7 +7,6 @@ ghost use Rattle.rules.specs.Basic.{pick};
 ghost use Rattle.rules.specs.Words.{severe, mild};
 ghost use Rattle.rules.specs.Finding.{is_error};
 ghost use Rattle.rules.specs.Page.{severity_word, span_word};
-ghost use Rattle.rules.specs.Answer.{events};
 ghost use Rattle.output.specs.Put.{Put, tabbed};
 ghost use Rattle.parts.specs.Views.{span_in};
 ghost use Rattle.events.specs.Views.{severity_in};

@@ -63,7 +63,7 @@ near_told_lem i h = told_tells (near_code i) (fold (near_code i)) (go (ltb i 128
     go true e = below (λ k. near_told (0x80 + k)) 1288 first_told i (ltb-true i 1288 e)
     go false e = below (λ k. near_told (0x1e00 + k)) 512 second_told (i - 1288) (omega (arith, ltb-false i 1288 e))
 
--- ---- in the lent tables
+-- ---- in the tables
 
 module _ (t : List ℕ) (e : t ≡ unicode_tables) (i : ℕ) (h : i < 1800) where
   word_is : get_or t (8050 + i) 0 ≡ near_word (near_code i)

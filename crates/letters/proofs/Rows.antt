@@ -62,7 +62,7 @@ missing ((x folds_to m) ∷ ls) c (suc k) low f =
     rw (le-ltb c x (omega arith), ne_eqb c x (λ q. omega arith))
     (missing ls c k (λ j g. low (suc j) (suc-le-suc g)) (λ g. f (suc-le-suc g)))
 
--- ---- the same of the lent tables
+-- ---- the same of the tables
 
 module _ (t : List ℕ) (e : t ≡ unicode_tables) where
   keys_are : take 1557 (drop 1822 t) ≡ keys folding

@@ -1,4 +1,4 @@
--- What the columns of the lent tables are.
+-- What the columns of the tables are.
 use Prim.Native.Nat.{ℕ, ◌<◌, ◌+◌}
 use mathlib.Core.Path.{◌≡◌, refl, sym, ◌∙◌}
 use mathlib.Core.List.{List}

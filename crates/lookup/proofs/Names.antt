@@ -206,15 +206,12 @@ module _ (sheet w : List ℕ) (h : Held) (name : List ℕ) (any_opt is_opt : Boo
   same_found k r z e =
       record {
         is = λ new en eo. ap (on_some (earlier_at k sheet w h)) e ∙ rows_search k sheet (rows_in k w) (pairs_in k w) (pairs_of k h) (fold_name (kept_in name)) any_opt is_opt (count_of k h) z ∙ said new en eo;
-        below = λ i q. same_below sheet (fold_name (kept_in name)) any_opt is_opt (rows_in k w) (count_of k h) i (sym e ∙ at i q);
+        below = λ i q. same_below sheet (fold_name (kept_in name)) any_opt is_opt (rows_in k w) (count_of k h) i (sym e ∙ q);
       }
     where
       said : (new : Entry) → new.name ≡ kept_in name → new.modifiers.opt ≡ is_opt
           → same_name_in (fold_name (kept_in name)) any_opt is_opt (entries_in k sheet (rows_in k w) (pairs_in k w) (pairs_of k h) (count_of k h)) ≡ same_name_of any_opt new (table_of k (state_in sheet w h))
       said new en eo = rw (en, eo, table_rows k)
-
-      at : (i : ℕ) → r ≡ Some i → r ≡ Some i
-      at i q = rw q
 
 module _ {w : List ℕ} {h : Held} (z : Sound w h) (sheet : List ℕ) where
   pub ingredient_ready : AllFit sheet w h

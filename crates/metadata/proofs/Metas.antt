@@ -11,7 +11,7 @@ use Rattle.rules.specs.Basic.{on_some}
 use Rattle.rules.specs.Words.{DefineMode, DuplicateMode}
 use Rattle.rules.specs.Event as rules
 use Rattle.rules.specs.Finding.{found, found_two}
-use Rattle.rules.specs.Modes.{Modes, key_text, value_text, ordinary}
+use Rattle.rules.specs.Modes.{Modes, key_text, value_text, ordinary, unknown_config}
 use Rattle.rules.specs.State.{State, set_modes, set_metadata}
 use Rattle.rules.specs.Metadata.{store_meta, bad_value, on_define, on_duplicate, on_key}
 use Rattle.sheet.specs.Words.{define_of, duplicate_of}
@@ -28,8 +28,23 @@ use Rattle.model.specs.declared.Held.{Held}
 use Rattle.memory.specs.Pushes.{FindingPushed}
 use Rattle.memory.proofs.Smalls.{state_blank, with_define_lem, with_duplicate_lem, with_old_lem}
 use Rattle.memory.proofs.Bounds.{sound_define, sound_duplicate, sound_old, fit_define, fit_duplicate, fit_old}
+use Rattle.blocks.specs.Lined.{Went}
 use Rattle.blocks.proofs.Lines.{found_one, went_found}
-use Rattle.metadata.specs.Metas.{DefineSet, DuplicateSet, UnknownNoted, OrdinaryCounted}
+use Rattle.metadata.specs.Metas.{OrdinaryCounted}
+
+-- ---- what the cases of a line in brackets leave
+
+-- `[mode]`, `[define]`: m is what the value chooses
+pub record DefineSet (key value : Span) (m : Option Define) (w₀ : List ℕ) (h₀ : Held) (w : List ℕ) (h : Held) : Type 0 where
+  pub by : (k v : rules.Text) → k.span ≡ span_in key → v.span ≡ span_in value → Went (on_define k v (on_some define_of m)) w₀ h₀ w h
+
+-- `[duplicate]`
+pub record DuplicateSet (key value : Span) (m : Option Duplicate) (w₀ : List ℕ) (h₀ : Held) (w : List ℕ) (h : Held) : Type 0 where
+  pub by : (k v : rules.Text) → k.span ≡ span_in key → v.span ≡ span_in value → Went (on_duplicate k v (on_some duplicate_of m)) w₀ h₀ w h
+
+-- another key in brackets
+pub record UnknownNoted (key : Span) (w₀ : List ℕ) (h₀ : Held) (w : List ℕ) (h : Held) : Type 0 where
+  pub by : (k v : rules.Text) → k.span ≡ span_in key → Went (on_key unknown_config k v) w₀ h₀ w h
 
 -- ---- modes
 

@@ -28,7 +28,8 @@ use Rattle.model.specs.Memory.{Sound}
 use Rattle.model.specs.declared.Held.{Held}
 use Rattle.blocks.specs.Lined.{Went}
 use Rattle.blocks.proofs.Lines.{went_told}
-use Rattle.metadata.specs.Metas.{DefineSet, DuplicateSet, UnknownNoted, OrdinaryCounted, MetaDone}
+use Rattle.metadata.specs.Metas.{OrdinaryCounted, MetaDone}
+use Rattle.metadata.proofs.Metas.{DefineSet, DuplicateSet, UnknownNoted}
 
 pub text_content : (line : List ℕ) (v : TextView) → TextWithin line v → {b : List ℕ} → b ≡ part_of line v.content → contents.content_in b ≡ (text_in line v).content
 unfolding text_in content_in contents.content_in

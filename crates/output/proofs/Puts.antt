@@ -157,12 +157,21 @@ put_fits {w} {o₀} {o} {at} {r} p h =
     p.bytes ∙ rw (over_fits w (drop at o₀) k, drop-drop, append_assoc)
 
 -- past the buffer nothing is written
-pub put_past : (w o : List ℕ) (at : ℕ) → length o < at → Put w o at o (length o + 1)
+pub put_full : (w o : List ℕ) (at : ℕ) → length o ≤ at → length o < at + length w → Put w o at o (length o + 1)
 unfolding over_at
-put_past w o at h =
-    let k : length o < at + length w = omega arith in
-    let l : length o ≤ at = omega arith in
-    record { bytes = rw (drop_of_length-le o l, take_all at o l, over_none w, append-nil); next = sym (after_out at (length w) (length o) k) }
+put_full w o at l k = record { bytes = rw (drop_of_length-le o l, take_all at o l, over_none w, append-nil); next = sym (after_out at (length w) (length o) k) }
+
+pub put_past : (w o : List ℕ) (at : ℕ) → length o < at → Put w o at o (length o + 1)
+put_past w o at h = put_full w o at (omega arith) (omega arith)
+
+-- as much of a text as there is room for
+pub put_short : {w o o' : List ℕ} {at r : ℕ} → length o < at + length w → Put (take (length o - at) w) o at o' r → Put w o at o' (length o + 1)
+unfolding over_at
+put_short {w} {o} {at = at} h p =
+    let n = length o - at in
+    let e : take n w ++ drop n w ≡ w = take-append-drop n w in
+    let l : length (drop at o) ≤ length (take n w) = omega (arith, length-drop at o, length-take n w) in
+    record { bytes = p.bytes ∙ ap (λ (x : List ℕ). take at o ++ x) (sym (over_full (take n w) (drop n w) (drop at o) l) ∙ ap (λ (x : List ℕ). over x (drop at o)) e); next = sym (after_out at (length w) (length o) h) }
 
 -- a writer that was lent the rest of the buffer from `at` on: o' is what it left there
 module _ {w o' : List ℕ} {n : ℕ} (o : List ℕ) (at : ℕ) where

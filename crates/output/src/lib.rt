@@ -39,17 +39,6 @@ fn copy_in(out: &mut [u8], at: usize, w: &[u8])
     }
 }
 
-// A text as far as there is room.
-fn put_each(out: &mut [u8], at: usize, w: &[u8]) -> usize
-    ensures { Put w.now out.old at out.new result }
-{
-    let mut n = at;
-    for &b in w {
-        n = put_byte(out, n, b);
-    }
-    if n <= out.len() { n } else { out.len() + 1 }
-}
-
 pub fn put_bytes(out: &mut [u8], at: usize, w: &[u8]) -> usize
     ensures { Put w.now out.old at out.new result }
 {
@@ -58,7 +47,12 @@ pub fn put_bytes(out: &mut [u8], at: usize, w: &[u8]) -> usize
         copy_in(out, at, w);
         return end;
     }
-    put_each(out, at, w)
+    // as far as there is room
+    if at < out.len() {
+        let room = out.len() - at;
+        copy_in(out, at, &w[..room]);
+    }
+    out.len() + 1
 }
 
 // The number in decimal.

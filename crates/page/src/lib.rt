@@ -2,7 +2,6 @@
 // length, or one more than the output's where the page does not fit.
 #![tactic(auto)]
 
-ghost use Rattle.std.specs.Prelude.{◌≡◌};
 ghost use Rattle.output.specs.Put.{Put};
 ghost use Rattle.finding_lines.specs.Lines.{old_open, old_close};
 ghost use Rattle.page_walk.specs.Walk.{PassInputs};

@@ -1,7 +1,7 @@
 // The pass over the lines of a sheet (`RecipeCollector::parse_events`): which line does what, the refusals 11, 12, 17 and 19.
 #![tactic(auto)]
 
-ghost use Rattle.std.specs.Prelude.{◌≡◌, ◌≤◌, ◌<◌, length};
+ghost use Rattle.std.specs.Prelude.{◌≤◌, ◌<◌, length};
 ghost use Rattle.rules.specs.Units.{read_units};
 ghost use Rattle.rules.specs.Answer.{units_or, events_or, read_sheet};
 ghost use Rattle.events.specs.Views.{BetweenWithin};

@@ -1,4 +1,4 @@
--- What the findings 10 to 14 of a new component leave in work memory.
+-- What the checks for 10 to 14 of a new component answer, and all of them leave in work memory.
 use Rattle.std.specs.Prelude.{ℕ, ◌≡◌, Bool, List, Option}
 use Rattle.rules.specs.Basic.{is_some, on_some}
 use Rattle.rules.specs.Event as rules

@@ -33,7 +33,7 @@ pub enum Reason {
     OtherEnd,
     // 14: a component in a text block outside text mode.
     ComponentInText,
-    // 15: an intermediate reference to a step that its modifiers do not mark.
+    // 15: an intermediate reference that the modifiers do not mark.
     NotMarked,
     // 16: a negative one.
     Negative,

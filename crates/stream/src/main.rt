@@ -8,7 +8,6 @@
 ghost use Rattle.std.specs.Prelude.{◌≤◌, length};
 
 use std::io;
-use text::Cursor;
 
 #[derive(Clone, Copy)]
 struct Counts {

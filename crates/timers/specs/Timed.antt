@@ -1,4 +1,4 @@
--- What `timer` lines leave in work memory. Of a timer only that it is there is kept.
+-- What the checks of `timer` lines answer, and such lines leave in work memory. Of a timer only that it is there is kept.
 use Rattle.std.specs.Prelude.{ℕ, ◌≡◌, List, [], ◌∷◌, length, Option, None, Some}
 use Rattle.rules.specs.Basic.{pick}
 use Rattle.rules.specs.Units.{NamedUnit, PhysicalQuantity, time, same_physical}

@@ -1,4 +1,4 @@
--- What the unit check, and all checks after a reference, leave in work memory.
+-- What the unit check of a row answers, and all checks after a reference leave in work memory.
 use Rattle.std.specs.Prelude.{ℕ, ◌-◌, ◌<◌, ◌≡◌, List, [], Bool, true, ◌&&◌, not, eqb, ltb, take, drop, Option, None, Some}
 use Rattle.rules.specs.Basic.{pick, is_some, on_some}
 use Rattle.rules.specs.Units.{NamedUnit}

@@ -25,7 +25,7 @@ ghost use Rattle.model.specs.Kinds.{kind_of, room_of};
 
 use components::ComponentView;
 use model::{Held, Kind, Noted, Relation, RelationRecord, Row};
-use parts::{QuantityView, TextView};
+use parts::QuantityView;
 use unit_index::UnitList;
 
 // ---- rows
