@@ -17,7 +17,7 @@ use Rattle.output.proofs.Puts.{keeps, put_room, put_fits}
 use Rattle.output.proofs.Texts.{line_tabbed}
 use Rattle.refusals.specs.Told.{number_of}
 use Rattle.refusals.specs.declared.Refusal.{Refusal}
-use Rattle.recipe.specs.Answers.{answer_of, used_of, PrintedAt}
+use Rattle.recipe.specs.Answers.{answer_of, used_of, PrintedAt, told_answer, told_used, ToldPrinted}
 
 -- ---- the line of a refusal is short
 digits_short : (k n : ℕ) → length (digits k n) ≤ k
@@ -46,24 +46,32 @@ refused_short n l =
     ))
 
 -- ---- the two ways
+module _ {r : Result ℕ (ℕ × ℕ)} {o₀ : List ℕ} where
+  pub page_told : {n : ℕ} → told_used r ≤ length o₀ → r ≡ Ok n → ToldPrinted r o₀ o₀ n
+  unfolding told_used told_answer printed
+  page_told {n} h q = rw q record { is = refl; rest = refl; fits = rw q at h }
+
+  pub refusal_told : {m l k : ℕ} {o : List ℕ} → 30 ≤ length o₀ → r ≡ Err (m, l) → Put (refused_line m l) o₀ 0 o k → ToldPrinted r o₀ o k
+  unfolding told_answer printed
+  refusal_told {m} {l} {k} {o} h q p =
+      let s : List ℕ = refused_line m l in
+      let z : 0 + length s ≤ length o₀ = omega (arith, refused_short m l) in
+      let e : k ≡ length s = omega (arith, put_room p z) in
+      let i : k ≤ length o₀ = omega arith in
+      rw q
+      record {
+        is = ap (take k) (put_fits p i) ∙ take_at s (drop (0 + length s) o₀) k (sym e);
+        rest =
+            ap (drop k) (put_fits p i) ∙ drop_at s (drop (0 + length s) o₀) k (sym e)
+            ∙ ap (λ (j : ℕ). drop j o₀) (let x : 0 + length s ≡ k = omega (arith, e) in x);
+        fits = omega (arith, keeps p);
+      }
+
 module _ {r : Result ℕ Refusal} {o₀ : List ℕ} where
   pub page_printed : {n : ℕ} → used_of r ≤ length o₀ → r ≡ Ok n → PrintedAt r o₀ o₀ n
   unfolding used_of answer_of printed
   page_printed {n} h q = rw q record { is = refl; rest = refl; fits = rw q at h }
 
-  pub refusal_printed : {f : Refusal} {n k : ℕ} {o : List ℕ} → 30 ≤ length o₀ → r ≡ Err f → n ≡ number_of f.reason → Put (refused_line n f.line) o₀ 0 o k → PrintedAt r o₀ o k
-  unfolding answer_of printed
-  refusal_printed {f} {n} {k} {o} h q i t =
-      let s : List ℕ = refused_line (number_of f.reason) f.line in
-      let p : Put s o₀ 0 o k = rw i at t in
-      let z : 0 + length s ≤ length o₀ = omega (arith, refused_short (number_of f.reason) f.line) in
-      let e : k ≡ length s = omega (arith, put_room p z) in
-      let l : k ≤ length o₀ = omega arith in
-      rw q
-      record {
-        is = ap (take k) (put_fits p l) ∙ take_at s (drop (0 + length s) o₀) k (sym e);
-        rest =
-            ap (drop k) (put_fits p l) ∙ drop_at s (drop (0 + length s) o₀) k (sym e)
-            ∙ ap (λ (j : ℕ). drop j o₀) (let x : 0 + length s ≡ k = omega (arith, e) in x);
-        fits = omega (arith, keeps p);
-      }
+  pub refusal_printed : {f : Refusal} {n k : ℕ} {o : List ℕ} → r ≡ Err f → n ≡ number_of f.reason → ToldPrinted (Err (n, f.line)) o₀ o k → PrintedAt r o₀ o k
+  unfolding answer_of told_answer printed
+  refusal_printed {f} {n} {k} {o} q i t = let u : ToldPrinted (Err (number_of f.reason, f.line)) o₀ o k = rw i at t in rw q record { is = u.is; rest = u.rest; fits = u.fits }

@@ -93,3 +93,18 @@ pub record PrintedAt (r : Result ℕ Refusal) (o₀ o : List ℕ) (n : ℕ) : Ty
   pub is : take n o ≡ printed (answer_of r o₀)
   pub rest : drop n o ≡ drop n o₀
   pub fits : n ≤ length o
+
+-- an answer whose refusal is told by any number and line
+unfoldable pub told_answer : Result ℕ (ℕ × ℕ) → List ℕ → rules.Answer
+told_answer (Ok n) out = answered (take n out)
+told_answer (Err f) out = declined f.0 f.1
+
+unfoldable pub told_used : Result ℕ (ℕ × ℕ) → ℕ
+told_used (Ok n) = n
+told_used (Err f) = 0
+
+-- the same of such an answer. Ruled out: a program that prints the line before the number (`is`).
+pub record ToldPrinted (r : Result ℕ (ℕ × ℕ)) (o₀ o : List ℕ) (n : ℕ) : Type 0 where
+  pub is : take n o ≡ printed (told_answer r o₀)
+  pub rest : drop n o ≡ drop n o₀
+  pub fits : n ≤ length o

@@ -6,7 +6,7 @@ ghost use Rattle.std.specs.Prelude.{◌≡◌, ◌≤◌, length};
 ghost use Rattle.rules.specs.Answer.{words_needed, bytes_needed, events_or, read_sheet, collect_answer, error_line, form_answer, plain_answer};
 ghost use Rattle.page.specs.Pages.{RecipeGiven};
 ghost use Rattle.inputs.specs.Inputs.{GoodInputs};
-ghost use Rattle.recipe.specs.Answers.{used_of, answer_code, usable_of, usable_lent, lengths, lent_of, page_or20, Answered, Collected, PlainFormed, Coded, PrintedAt};
+ghost use Rattle.recipe.specs.Answers.{used_of, answer_code, usable_of, usable_lent, lengths, lent_of, page_or20, Answered, Collected, PlainFormed, Coded, PrintedAt, told_used, ToldPrinted};
 ghost use Rattle.recipe.specs.Forms.{tells17, form_given};
 
 use model::Held;
@@ -266,15 +266,26 @@ pub fn plain_form(
 
 // ---- printed
 
-// What the programs print of an answer, put at the front of the output: the page or the form, which is there already, or the
-// line of the refusal.
+// What is printed of an answer whose refusal is told by any number and line, put at the front of the output: the page or the
+// form, which is there already, or the line of the refusal.
+pub fn print_told(r: Result<usize, (u32, u32)>, out: &mut [u8]) -> usize
+    requires { (told_used r ≤ length out.old) × (30 ≤ length out.old) }
+    ensures { ToldPrinted r out.old out.new result }
+{
+    match r {
+        Ok(n) => n,
+        Err((number, line)) => output::write_refusal(out, number, line),
+    }
+}
+
+// What the programs print of an answer.
 pub fn print_answer(r: Answer, out: &mut [u8]) -> usize
     requires { (used_of r ≤ length out.old) × (30 ≤ length out.old) }
     ensures { PrintedAt r out.old out.new result }
 {
     match r {
         Ok(n) => n,
-        Err(f) => output::write_refusal(out, f.reason.number(), f.line),
+        Err(f) => print_told(Err((f.reason.number(), f.line)), out),
     }
 }
 
