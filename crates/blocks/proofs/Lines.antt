@@ -1,7 +1,7 @@
 -- From what the functions on work memory leave to the rules' lines.
 use Rattle.std.specs.Prelude.{None, Option, Some, Ok, Err}
 use Rattle.std.specs.Option as option
-use Prim.Native.Nat.{ℕ, suc, ◌+◌, ◌≤◌, ◌<◌}
+use Prim.Native.Nat.{ℕ, suc, ◌+◌, ◌≤◌}
 use mathlib.Core.Path.{◌≡◌, refl, sym, ap, ◌∙◌}
 use mathlib.Core.List.{List, [], ◌∷◌}
 use mathlib.Core.Bool.{Bool, true, false}
@@ -336,9 +336,6 @@ module _ {c : ComponentEvent} {s : Span} where
 pub found_at : (x : Noted) (s : Span) {n : ℕ} → finding_of x ≡ found n (record { start = s.start; end = s.end }) → finding_of x ≡ found n (span_in s)
 unfolding span_in
 found_at x s e = e
-
-pub room_pushed : {w : List ℕ} {h₀ h : Held} (b : Open) → Sound w h₀ → h₀.counts.findings < 1544 → h ≡ with_block b h₀ → Sound w h × (h.counts.findings < 1544)
-room_pushed b z l q = rw q (sound_block z b, l)
 
 -- 5
 pub mode_found : {w₀ w : List ℕ} {h₀ h₁ h : Held} {x : Noted} {s : Span} {c : ComponentEvent} → Sound w₀ h₀ → SpanOf c s → h₁ ≡ with_block TextMode h₀ → FindingPushed w₀ h₁ x w h → finding_of x ≡ found 5 (span_in s) → ComponentInText c w₀ h₀ w h

@@ -35,6 +35,11 @@ pub record Went (f : State → State) (w₀ : List ℕ) (h₀ : Held) (w : List 
   pub sound : Sound w h
   pub fit : (sheet : List ℕ) → AllFit sheet w₀ h₀ → AllFit sheet w h
 
+-- what a line leaves where the rules may refuse: the small state, or why it is refused
+abbrev pub left : Held → Result (Unit {0}) Reason → Result Held Reason
+left h (Ok u) = Ok h
+left h (Err r) = Err r
+
 -- the same where the rules may refuse
 unfoldable pub step_in : List ℕ → List ℕ → Result Held Reason → Step
 step_in sheet w (Ok h) = next (state_in sheet w h)

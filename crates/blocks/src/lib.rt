@@ -9,12 +9,12 @@ ghost use Rattle.rules.specs.Modes.{is_components, is_text};
 ghost use Rattle.rules.specs.State.{report};
 ghost use Rattle.rules.specs.Pass.{close_step, close_text};
 ghost use Rattle.events.specs.Views.{severity_in};
-ghost use Rattle.model.specs.Memory.{Sound};
 ghost use Rattle.model.specs.Small.{with_block};
-ghost use Rattle.blocks.specs.Lined.{Told, Went, start_block, kind_open, OpenNow, SectionDone, ItemsPushed, SpanOf, InTextBlock, InTextMode, StepEnded, ComponentInText};
+ghost use Rattle.blocks.specs.Lined.{Told, Went, left, start_block, kind_open, OpenNow, SectionDone, ItemsPushed, SpanOf, InTextBlock, InTextMode, StepEnded, ComponentInText};
 ghost use Rattle.sheet.specs.Words.{define_of};
 
 use events::{ComponentEvent, Inside, Severity};
+use memory::Memory;
 use model::{Held, Open};
 use parts::{Span, TextView};
 use refusals::Reason;
@@ -74,12 +74,13 @@ pub fn on_section(h: Held, name: Option<TextView>) -> Held
 }
 
 // An `error` or `warning` of the parser.
-pub fn on_finding(words: &mut [u32], h: Held, severity: Severity, number: u32) -> Held
-    requires { Sound words.old h × (h.counts.findings < 1544) }
-    ensures { Went (report (parsed (severity_in severity) number ∷ [])) words.old h words.new result }
+pub fn on_finding(memory: &mut Memory, severity: Severity, number: u32)
+    requires { memory.old.held.counts.findings < 1544 }
+    ensures done { Went (report (parsed (severity_in severity) number ∷ [])) memory.old.words.now memory.old.held memory.new.words.now memory.new.held }
+    ensures lent { memory.new.words.ghost_name ≡ memory.old.words.ghost_name }
 {
     let x = model::of_parser(matches!(severity, Severity::Severe), number);
-    memory::push_finding(words, h, x)
+    memory.push_finding(x);
 }
 
 // The number of items, of which `more` are there with a step's new ones; those of components mode do not count.
@@ -100,52 +101,56 @@ pub fn push_items(mut h: Held, n: usize) -> Held
 }
 
 // A step closed: components mode drops it.
-fn close_step(words: &mut [u32], h: Held) -> Held
-    requires { Sound words.old h × (h.counts.here < 1025) × (h.counts.blocks < 100000) × (h.counts.counter < 100000) }
-    ensures { Went (close_step []) words.old h words.new result }
+fn close_step(memory: &mut Memory)
+    requires { (memory.old.held.counts.here < 1025) × (memory.old.held.counts.blocks < 100000) × (memory.old.held.counts.counter < 100000) }
+    ensures done { Went (close_step []) memory.old.words.now memory.old.held memory.new.words.now memory.new.held }
+    ensures lent { memory.new.words.ghost_name ≡ memory.old.words.ghost_name }
 {
-    let define = h.define;
-    if is_components(define) {
-        return with_block(h, Open::Nothing);
+    if is_components(memory.held.define) {
+        memory.held = with_block(memory.held, Open::Nothing);
+    } else {
+        memory.keep_step();
     }
-    memory::keep_step(words, h)
 }
 
-pub fn end_step(words: &mut [u32], h: Held, kind: BlockKind) -> Result<Held, Reason>
-    requires { Sound words.old h × (h.counts.here < 1025) × (h.counts.blocks < 100000) × (h.counts.counter < 100000) }
-    ensures { StepEnded kind words.old h words.new result }
+pub fn end_step(memory: &mut Memory, kind: BlockKind) -> Result<(), Reason>
+    requires { (memory.old.held.counts.here < 1025) × (memory.old.held.counts.blocks < 100000) × (memory.old.held.counts.counter < 100000) }
+    ensures done { StepEnded kind memory.old.words.now memory.old.held memory.new.words.now (left memory.new.held result) }
+    ensures lent { memory.new.words.ghost_name ≡ memory.old.words.ghost_name }
 {
     match kind {
         BlockKind::Step => {
-            let n = close_step(words, h);
-            Ok(n)
+            close_step(memory);
+            Ok(())
         }
         BlockKind::Text => Err(Reason::OtherEnd),
     }
 }
 
-fn close_text(words: &mut [u32], h: Held) -> Held
-    requires { Sound words.old h × (h.counts.here < 1025) × (h.counts.blocks < 100000) }
-    ensures { Went (close_text []) words.old h words.new result }
+fn close_text(memory: &mut Memory)
+    requires { (memory.old.held.counts.here < 1025) × (memory.old.held.counts.blocks < 100000) }
+    ensures done { Went (close_text []) memory.old.words.now memory.old.held memory.new.words.now memory.new.held }
+    ensures lent { memory.new.words.ghost_name ≡ memory.old.words.ghost_name }
 {
-    memory::keep_text(words, h)
+    memory.keep_text();
 }
 
-pub fn in_text_block(words: &mut [u32], h: Held, e: Inside) -> Result<Held, Reason>
-    requires { Sound words.old h × (h.counts.here < 1025) × (h.counts.blocks < 100000) }
-    ensures { InTextBlock e words.old h words.new result }
+pub fn in_text_block(memory: &mut Memory, e: Inside) -> Result<(), Reason>
+    requires { (memory.old.held.counts.here < 1025) × (memory.old.held.counts.blocks < 100000) }
+    ensures done { InTextBlock e memory.old.words.now memory.old.held memory.new.words.now (left memory.new.held result) }
+    ensures lent { memory.new.words.ghost_name ≡ memory.old.words.ghost_name }
 {
     match e {
         Inside::End(kind) => match kind {
             BlockKind::Step => Err(Reason::OtherEnd),
             BlockKind::Text => {
-                let n = close_text(words, h);
-                Ok(n)
+                close_text(memory);
+                Ok(())
             }
         },
         Inside::Text(t) => {
-            let n = with_block(h, Open::Text);
-            Ok(n)
+            memory.held = with_block(memory.held, Open::Text);
+            Ok(())
         }
         Inside::Component(c) => Err(Reason::ComponentInText),
     }
@@ -163,32 +168,34 @@ pub fn component_span(c: ComponentEvent) -> Span
 }
 
 // 5, component in text mode.
-fn component_in_text(words: &mut [u32], h: Held, c: ComponentEvent) -> Held
-    requires { Sound words.old h × (h.counts.findings < 1544) }
-    ensures { ComponentInText c words.old h words.new result }
+fn component_in_text(memory: &mut Memory, c: ComponentEvent)
+    requires { memory.old.held.counts.findings < 1544 }
+    ensures done { ComponentInText c memory.old.words.now memory.old.held memory.new.words.now memory.new.held }
+    ensures lent { memory.new.words.ghost_name ≡ memory.old.words.ghost_name }
 {
     let s = component_span(c);
     let x = model::one_span(5, s.start, s.end, false);
-    let n = with_block(h, Open::TextMode);
-    memory::push_finding(words, n, x)
+    memory.held = with_block(memory.held, Open::TextMode);
+    memory.push_finding(x);
 }
 
-pub fn in_text_mode(words: &mut [u32], h: Held, e: Inside) -> Result<Held, Reason>
-    requires { Sound words.old h × (h.counts.here < 1025) × (h.counts.blocks < 100000) × (h.counts.findings < 1544) }
-    ensures { InTextMode e words.old h words.new result }
+pub fn in_text_mode(memory: &mut Memory, e: Inside) -> Result<(), Reason>
+    requires { (memory.old.held.counts.here < 1025) × (memory.old.held.counts.blocks < 100000) × (memory.old.held.counts.findings < 1544) }
+    ensures done { InTextMode e memory.old.words.now memory.old.held memory.new.words.now (left memory.new.held result) }
+    ensures lent { memory.new.words.ghost_name ≡ memory.old.words.ghost_name }
 {
     match e {
         Inside::End(kind) => {
-            let n = close_text(words, h);
-            Ok(n)
+            close_text(memory);
+            Ok(())
         }
         Inside::Text(t) => {
-            let n = with_block(h, Open::TextMode);
-            Ok(n)
+            memory.held = with_block(memory.held, Open::TextMode);
+            Ok(())
         }
         Inside::Component(c) => {
-            let n = component_in_text(words, h, c);
-            Ok(n)
+            component_in_text(memory, c);
+            Ok(())
         }
     }
 }

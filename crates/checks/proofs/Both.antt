@@ -11,13 +11,12 @@ use Rattle.rules.specs.Model.{Source}
 use Rattle.rules.specs.Checks.{note_check, reference_checks}
 use Rattle.parts.specs.declared.Span.{Span}
 use Rattle.parts.specs.Views.{span_in, opt_text_in}
-use Rattle.model.specs.Memory.{Sound}
 use Rattle.model.specs.Rows.{if_found}
 use Rattle.model.specs.declared.Noted.{Noted}
 use Rattle.model.specs.declared.Held.{Held}
 use Rattle.checks.specs.Reports.{NoteChecked, QuantityChecked, ReferenceChecked}
 use Rattle.memory.specs.Reports.{Reported}
-use Rattle.memory.proofs.Reports.{reported_seq, reported_as, reported_count, reported_sound}
+use Rattle.memory.proofs.Reports.{reported_seq, reported_as, reported_count}
 use Rattle.checks.proofs.Laws.{said}
 use Rattle.parts.specs.declared.QuantityView.{QuantityView}
 use Rattle.parts.specs.declared.TextView.{TextView}
@@ -35,9 +34,6 @@ module _ {implicit : Bool} {note : Option TextView} {s : Span} {old : Option Tex
   noted : Reported (note_check implicit (opt_text_in [] note) plain) w₀ h₀ w h
   unfolding plain
   noted = reported_as l (k.is [] [] plain refl refl)
-
-  pub note_sound : Sound w₀ h₀ → Sound w h
-  note_sound i = reported_sound l i
 
   pub note_room : h₀.counts.findings + 2 < 1544 → h.counts.findings + 1 < 1544
   note_room z = let c = reported_count noted in let m = note_one implicit (opt_text_in [] note) plain in omega arith

@@ -10,12 +10,12 @@ ghost use Rattle.rules.specs.Finding.{found_two};
 ghost use Rattle.rules.specs.Model.{is_textual};
 ghost use Rattle.rules.specs.Checks.{text_check, widened};
 ghost use Rattle.parts.specs.Views.{span_in, SpanWithin, OptQuantityWithin};
-ghost use Rattle.model.specs.Memory.{Sound};
 ghost use Rattle.model.specs.Rows.{finding_of, if_found};
 ghost use Rattle.checks.specs.Reports.{place_of, NoteWithin, NoteChecked, PairChecked, QuantityChecked, UnitsChecked, ReferenceChecked};
 ghost use Rattle.sheet.specs.Words.{kind_in};
 
-use model::{Held, Noted};
+use memory::Memory;
+use model::Noted;
 use parts::{QuantityView, Span, TextView};
 use sheet::ValueKind;
 use unit_index::UnitList;
@@ -92,46 +92,44 @@ fn text_check(implicit: bool, a: bool, b: bool, s: Span, t: Span) -> Option<Note
 }
 
 fn pair_check(
-    words: &mut [u32],
-    h: Held,
+    memory: &mut Memory,
     implicit: bool,
     in_step: bool,
     a: QuantityView,
     span: Span,
     b: QuantityView,
-) -> Held
-    requires { Sound words.old h × (h.counts.findings + 1 < 1544) }
-    ensures { PairChecked implicit in_step a span b words.old h words.new result }
+)
+    requires { memory.old.held.counts.findings + 1 < 1544 }
+    ensures done { PairChecked implicit in_step a span b memory.old.words.now memory.old.held memory.new.words.now memory.new.held }
+    ensures lent { memory.new.words.ghost_name ≡ memory.old.words.ghost_name }
 {
     let m = a.kind;
     let n = b.kind;
     let x = is_textual(m);
     let y = is_textual(n);
     let conflict = conflict_check(implicit, in_step, a.span, span);
-    let k = memory::push_found(words, h, conflict);
+    memory.push_found(conflict);
     let text = text_check(implicit, x, y, a.span, b.span);
-    memory::push_found(words, k, text)
+    memory.push_found(text);
 }
 
 // A quantity of a component that refers to one of the span and the quantity `b`, which is defined in a step or not.
 fn quantity_check(
-    words: &mut [u32],
-    h: Held,
+    memory: &mut Memory,
     implicit: bool,
     in_step: bool,
     a: Option<QuantityView>,
     span: Span,
     b: Option<QuantityView>,
-) -> Held
-    requires { Sound words.old h × (h.counts.findings + 1 < 1544) }
-    ensures { QuantityChecked implicit in_step a span b words.old h words.new result }
+)
+    requires { memory.old.held.counts.findings + 1 < 1544 }
+    ensures done { QuantityChecked implicit in_step a span b memory.old.words.now memory.old.held memory.new.words.now memory.new.held }
+    ensures lent { memory.new.words.ghost_name ≡ memory.old.words.ghost_name }
 {
-    match a {
-        None => h,
-        Some(x) => match b {
-            None => h,
-            Some(y) => pair_check(words, h, implicit, in_step, x, span, y),
-        },
+    if let Some(x) = a {
+        if let Some(y) = b {
+            pair_check(memory, implicit, in_step, x, span, y);
+        }
     }
 }
 
@@ -168,8 +166,7 @@ pub fn unit_pair(
 
 // The checks of notes and quantities, in this order.
 pub fn reference_checks(
-    words: &mut [u32],
-    h: Held,
+    memory: &mut Memory,
     implicit: bool,
     in_step: bool,
     note: Option<TextView>,
@@ -177,11 +174,12 @@ pub fn reference_checks(
     span: Span,
     old: Option<TextView>,
     b: Option<QuantityView>,
-) -> Held
-    requires { Sound words.old h × (h.counts.findings + 2 < 1544) × NoteWithin note }
-    ensures { ReferenceChecked implicit in_step note a span old b words.old h words.new result }
+)
+    requires { (memory.old.held.counts.findings + 2 < 1544) × NoteWithin note }
+    ensures done { ReferenceChecked implicit in_step note a span old b memory.old.words.now memory.old.held memory.new.words.now memory.new.held }
+    ensures lent { memory.new.words.ghost_name ≡ memory.old.words.ghost_name }
 {
     let found = note_check(implicit, note, span, old);
-    let k = memory::push_found(words, h, found);
-    quantity_check(words, k, implicit, in_step, a, span, b)
+    memory.push_found(found);
+    quantity_check(memory, implicit, in_step, a, span, b);
 }

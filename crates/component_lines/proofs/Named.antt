@@ -29,7 +29,7 @@ use Rattle.lookup.specs.Names.{earlier_at, SameFound}
 use Rattle.lookup.specs.References.{modes_of, Marked, Refers}
 use Rattle.lookup.proofs.Names.{part_slice}
 use Rattle.memory.specs.Reports.{Reported}
-use Rattle.memory.proofs.Reports.{reported_seq, reported_sound, reported_fit, found_count}
+use Rattle.memory.proofs.Reports.{reported_seq, reported_fit, found_count}
 use Rattle.memory.proofs.Frames.{Framed, reported_framed, framed_pairs, reported_table}
 use Rattle.unit_checks.specs.Checked.{SameBelow, ChecksDone}
 use Rattle.timers.specs.Timed.{LockChecked}
@@ -111,11 +111,11 @@ module _ {k : Kind} (line : List ℕ) (v : ComponentView) {o : Option Modifiers}
   both_count = omega (arith, found_count _ p, short_count (reference_short (modes_of h₀.define h₀.duplicate) (entry_of k true (component_in line v)) (inherits k) any) (referred true any any_as))
 
   checks_ready : {sheet : List ℕ} {to : Option ℕ} → Sound w₀ h₀ → AllFit sheet w₀ h₀ → Roomy h₀ → h₀.counts.findings ≤ 1024 → SameBelow k h₀ to
-      → Sound w₂ h₂ × AllFit sheet w₂ h₂ × SameBelow k h₂ to × (h₂.counts.findings + h₂.counts.ingredient_pairs + 3 < 1544)
+      → AllFit sheet w₂ h₂ × SameBelow k h₂ to × (h₂.counts.findings + h₂.counts.ingredient_pairs + 3 < 1544)
   checks_ready {sheet} z a y n s =
       let q = both true any any_as in
       let m : h₂.counts.ingredient_pairs ≡ h₀.counts.ingredient_pairs = framed_pairs both_framed ingredient in
-      (reported_sound q z, reported_fit q sheet a, below_kept both_framed k s, omega (arith, both_count, z.room.ingredient_pairs, y.ingredients))
+      (reported_fit q sheet a, below_kept both_framed k s, omega (arith, both_count, z.room.ingredient_pairs, y.ingredients))
 
   module _ {us : List NamedUnit} {flags : ℕ} {sheet : List ℕ} {to : Option ℕ} {w : List ℕ} {h : Held} (d : ChecksDone us flags k sheet line v to w₂ h₂ w h) where
     checked : (in_step : Bool) (same : Option Earlier) → SameAs same o
@@ -141,7 +141,7 @@ module _ {k : Kind} {sheet : List ℕ} {at end : ℕ} {v : ComponentView} (x : C
 
 pub checks_ready_at : {k : Kind} {sheet : List ℕ} {at end : ℕ} {v : ComponentView} {o : Option Modifiers} {to : Option ℕ} {y : Option Noted} {w₀ w₁ w₂ : List ℕ} {h₀ h₁ h₂ : Held} → ComponentHere k sheet at end v → LockChecked v.quantity y → Reported (if_found y) w₀ h₀ w₁ h₁
     → ReferenceReported k v.modifiers v.span v.modifiers_span o w₁ h₁ w₂ h₂ → Sound w₀ h₀ → AllFit sheet w₀ h₀ → Roomy h₀ → h₀.counts.findings ≤ 1024 → SameBelow k h₀ to
-    → Sound w₂ h₂ × AllFit sheet w₂ h₂ × SameBelow k h₂ to × (h₂.counts.findings + h₂.counts.ingredient_pairs + 3 < 1544)
+    → AllFit sheet w₂ h₂ × SameBelow k h₂ to × (h₂.counts.findings + h₂.counts.ingredient_pairs + 3 < 1544)
 checks_ready_at {sheet = sheet} {at} {end} {v} x l p r z a y n s = checks_ready (slice at end sheet) v l p r z a y n s
 
 pub named_found : {k : Kind} {sheet : List ℕ} {at end : ℕ} {v : ComponentView} {o : Option Modifiers} {us : List NamedUnit} {flags : ℕ} {to : Option ℕ} {y : Option Noted} {w₀ w₁ w₂ w : List ℕ} {h₀ h₁ h₂ h : Held} → ComponentHere k sheet at end v
@@ -208,10 +208,9 @@ module _ {k : Kind} {sheet : List ℕ} {at end : ℕ} {v : ComponentView} {p : N
         w₀ h₀ w₁ h₁
     found_named in_step = f.is in_step (on_some (earlier_at k sheet w₀ h₀) same) (d.is sheet) (to_is in_step)
 
-    pub put_ready : {r : Option ℕ} → r ≡ to → Sound w₀ h₀ → Roomy h₀ → Sound w₁ h₁ × Roomy h₁ × ReferredBelow k h₁ r
-    put_ready g z y =
-        let q = reported_roomy (found_named true) z y in
-        (q.0, q.1, found_below g (below_kept (reported_framed (found_named true)) k to_there))
+    pub put_ready : {r : Option ℕ} → r ≡ to → Roomy h₀ → Roomy h₁ × ReferredBelow k h₁ r
+    put_ready g y =
+        (reported_roomy (found_named true) y, found_below g (below_kept (reported_framed (found_named true)) k to_there))
 
     module _ {b : Bool} {row : Row} {g : Option ℕ} {w : List ℕ} {h : Held} (a : AllFit sheet w₀ h₀) (e : b ≡ is_components (define_of h₀.define)) (y : RowNamed k at end p (not b) v.modifiers to o row) (u : g ≡ to)
         (q : RowPut k w₁ h₁ row g w h) where

@@ -22,7 +22,7 @@ use Rattle.components.specs.Views.{modifiers_in, component_in, intermediate_in}
 use Rattle.components.specs.declared.ComponentView.{ComponentView}
 use Rattle.components.specs.declared.Intermediate.{Intermediate}
 use Rattle.model.specs.Rows.{entry_as, if_found}
-use Rattle.model.specs.Memory.{state_of, state_in, Sound}
+use Rattle.model.specs.Memory.{state_of, state_in}
 use Rattle.model.specs.Fits.{Fits, AllFit}
 use Rattle.model.specs.declared.RelationRecord.{RelationRecord}
 use Rattle.model.specs.declared.Row.{Row}
@@ -31,7 +31,7 @@ use Rattle.model.specs.declared.Held.{Held}
 use Rattle.memory.specs.Pushes.{count_of, held_with, FoundBelow, ComponentAdded}
 use Rattle.lookup.specs.declared.NamePart.{NamePart}
 use Rattle.memory.specs.Reports.{Reported}
-use Rattle.memory.proofs.Reports.{reported_as, reported_fit, reported_sound}
+use Rattle.memory.proofs.Reports.{reported_as, reported_fit}
 use Rattle.memory.proofs.Frames.{reported_framed}
 use Rattle.timers.specs.Timed.{LockChecked}
 use Rattle.intermediate.specs.Intermediates.{ModifiersReported, Resolved, Related}
@@ -52,8 +52,8 @@ kind_room : (k : Kind) {h : Held} → Roomy h → count_of k h < room_of k
 kind_room ingredient r = omega (arith, r.ingredients)
 kind_room cookware r = omega (arith, r.cookware)
 
-pub add_ready : {k : Kind} {w : List ℕ} {h : Held} {to : Option ℕ} → Sound w h → Roomy h → ReferredBelow k h to → Sound w h × (count_of k h < room_of k) × FoundBelow to (count_of k h)
-add_ready {k} z r f = (z, kind_room k r, f.is)
+pub add_ready : {k : Kind} {h : Held} {to : Option ℕ} → Roomy h → ReferredBelow k h to → (count_of k h < room_of k) × FoundBelow to (count_of k h)
+add_ready {k} r f = (kind_room k r, f.is)
 
 held_items : (k : Kind) (to : Option ℕ) (h : Held) → (held_with k to h).counts.items ≡ h.counts.items
 held_items ingredient (Some d) h = refl
@@ -118,13 +118,13 @@ intermediate_found {v} {i} {target} l p m q r =
 pub row_ready : {k : Kind} {sheet : List ℕ} {at end : ℕ} {v : ComponentView} {p : NamePart} → ComponentHere k sheet at end v → NamePlaced k sheet at v p → (end ≤ 65536) × (at ≤ end) × (p.at ≤ p.end) × (p.end ≤ 65536)
 row_ready x n = (omega (arith, x.whole.most, x.short), x.whole.order, n.new.order, omega (arith, n.most, x.short))
 
-pub reported_roomy : {fs : List Finding} {w w₁ : List ℕ} {h h₁ : Held} → Reported fs w h w₁ h₁ → Sound w h → Roomy h → Sound w₁ h₁ × Roomy h₁
-reported_roomy f z r = (reported_sound f z, roomy_kept (reported_framed f) r)
+pub reported_roomy : {fs : List Finding} {w w₁ : List ℕ} {h h₁ : Held} → Reported fs w h w₁ h₁ → Roomy h → Roomy h₁
+reported_roomy f r = roomy_kept (reported_framed f) r
 
 -- what the units, the flags and the line are does not matter for that
-pub intermediate_roomy : {v : ComponentView} {i : Intermediate} {target : Option ℕ} {w₀ w : List ℕ} {h₀ h : Held} → IntermediateReported v i target w₀ h₀ w h → Sound w₀ h₀ → Roomy h₀
-    → Sound w h × Roomy h × ReferredBelow ingredient h None
-intermediate_roomy {v} f z r = let q = reported_roomy (f.is [] 0 [] (entry_of ingredient true (component_in [] v))) z r in (q.0, q.1, record { is = tt })
+pub intermediate_roomy : {v : ComponentView} {i : Intermediate} {target : Option ℕ} {w₀ w : List ℕ} {h₀ h : Held} → IntermediateReported v i target w₀ h₀ w h → Roomy h₀
+    → Roomy h × ReferredBelow ingredient h None
+intermediate_roomy {v} f r = (reported_roomy (f.is [] 0 [] (entry_of ingredient true (component_in [] v))) r, record { is = tt })
 
 pub intermediate_done : {sheet : List ℕ} {at end : ℕ} {v : ComponentView} {i : Intermediate} {p : NamePart} {target : Option ℕ} {b : Bool} {relation : RelationRecord} {row : Row} {w₀ w₁ w : List ℕ} {h₀ h₁ h : Held}
     → ComponentHere ingredient sheet at end v → AllFit sheet w₀ h₀ → NamePlaced ingredient sheet at v p → Resolved i w₀ h₀ target → b ≡ is_components (define_of h₀.define) → Related i (not b) target relation

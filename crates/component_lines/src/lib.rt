@@ -12,10 +12,10 @@ ghost use Rattle.components.specs.Views.{modifiers_in};
 ghost use Rattle.events.specs.Views.{component_event_in, ComponentEventWithin};
 ghost use Rattle.events.specs.declared.ComponentEvent.TheVariants as event;
 ghost use Rattle.known_events.specs.Fields.{ComponentEventFields};
-ghost use Rattle.model.specs.Memory.{Sound};
 ghost use Rattle.model.specs.Fits.{AllFit};
 ghost use Rattle.lookup.specs.Names.{SameFound};
 ghost use Rattle.lookup.specs.References.{modes_of};
+ghost use Rattle.blocks.specs.Lined.{left};
 ghost use Rattle.component_lines.specs.Lines.{LineHere, Kept, ComponentDone};
 ghost use Rattle.component_lines.specs.Steps.{ComponentHere, NamePlaced, asks_same, SameAsked, Roomy, SameSmall, OldRead, NamedReported, heir_of, RelatedTo, RowNamed, ReferredBelow, RowPut, IntermediateReported, IntermediateDone, NamedDone};
 ghost use Rattle.new_rows.specs.Rows.{RowMade};
@@ -25,7 +25,8 @@ ghost use Rattle.model.specs.Kinds.{kind_of};
 
 use components::{ComponentView, Intermediate, Modifiers};
 use lookup::NamePart;
-use model::{Held, Kind, Relation, RelationRecord, Row};
+use memory::Memory;
+use model::{Kind, Relation, RelationRecord, Row};
 use refusals::Reason;
 use sheet::{Define, Duplicate};
 use unit_index::UnitList;
@@ -52,51 +53,43 @@ fn asks_same(define: Define, duplicate: Duplicate, reference: bool) -> bool
 // The earlier component of the name; an explicit REF does not ask for OPT.
 fn found_before(
     sheet: &[u8],
-    words: &[u32],
-    h: Held,
+    memory: &Memory,
     p: NamePart,
     m: Modifiers,
     kind: Kind,
 ) -> Option<usize>
-    requires { (p.at ≤ p.end) × (p.end ≤ length sheet.now) × Sound words.now h × AllFit sheet.now words.now h }
-    ensures { SameFound (kind_of kind) sheet.now words.now h (slice p.at p.end sheet.now) m.reference m.opt result }
+    requires { (p.at ≤ p.end) × (p.end ≤ length sheet.now) × AllFit sheet.now memory.now.words.now memory.now.held }
+    ensures { SameFound (kind_of kind) sheet.now memory.now.words.now memory.now.held (slice p.at p.end sheet.now) m.reference m.opt result }
 {
     let from = p.at;
     let to = p.end;
     let any_opt = m.reference;
     let opt = m.opt;
-    lookup::same_component(sheet, words, h, kind, &sheet[from..to], any_opt, opt)
+    lookup::same_component(sheet, memory, kind, &sheet[from..to], any_opt, opt)
 }
 
 // The same, where it is needed.
-fn same_of(
-    sheet: &[u8],
-    words: &[u32],
-    h: Held,
-    p: NamePart,
-    m: Modifiers,
-    kind: Kind,
-) -> Option<usize>
-    requires { (p.at ≤ p.end) × (p.end ≤ length sheet.now) × Sound words.now h × AllFit sheet.now words.now h }
-    ensures { SameAsked (kind_of kind) sheet.now words.now h (slice p.at p.end sheet.now) m.reference m.opt result }
+fn same_of(sheet: &[u8], memory: &Memory, p: NamePart, m: Modifiers, kind: Kind) -> Option<usize>
+    requires { (p.at ≤ p.end) × (p.end ≤ length sheet.now) × AllFit sheet.now memory.now.words.now memory.now.held }
+    ensures { SameAsked (kind_of kind) sheet.now memory.now.words.now memory.now.held (slice p.at p.end sheet.now) m.reference m.opt result }
 {
-    let define = h.define;
-    let duplicate = h.duplicate;
+    let define = memory.held.define;
+    let duplicate = memory.held.duplicate;
     if asks_same(define, duplicate, m.reference) {
-        return found_before(sheet, words, h, p, m, kind);
+        return found_before(sheet, memory, p, m, kind);
     }
     None
 }
 
 // The modifiers of what the search found.
-fn old_of(words: &[u32], h: Held, same: Option<usize>, kind: Kind) -> Option<Modifiers>
-    requires { Sound words.now h × SameBelow (kind_of kind) h same }
-    ensures { OldRead (kind_of kind) words.now h same result }
+fn old_of(memory: &Memory, same: Option<usize>, kind: Kind) -> Option<Modifiers>
+    requires { SameBelow (kind_of kind) memory.now.held same }
+    ensures { OldRead (kind_of kind) memory.now.words.now memory.now.held same result }
 {
     match same {
         None => None,
         Some(i) => {
-            let r = unit_checks::kind_row(words, kind, i);
+            let r = unit_checks::kind_row(memory.words, kind, i);
             let m = new_rows::modifiers_of(r);
             Some(m)
         }
@@ -180,33 +173,29 @@ fn found_of(to: Option<usize>) -> Option<u32>
 }
 
 // The row, the referrer of what it refers to, and the item.
-fn put_row(words: &mut [u32], h: Held, row: Row, to: Option<u32>, kind: Kind) -> Held
-    requires { Sound words.old h × Roomy h × ReferredBelow (kind_of kind) h to }
-    ensures { RowPut (kind_of kind) words.old h row to words.new result }
+fn put_row(memory: &mut Memory, row: Row, to: Option<u32>, kind: Kind)
+    requires { Roomy memory.old.held × ReferredBelow (kind_of kind) memory.old.held to }
+    ensures done { RowPut (kind_of kind) memory.old.words.now memory.old.held row to memory.new.words.now memory.new.held }
+    ensures lent { memory.new.words.ghost_name ≡ memory.old.words.ghost_name }
 {
-    let k = memory::add_component(words, h, kind, row, to);
-    blocks::push_items(k, 1)
+    memory.add_component(kind, row, to);
+    memory.held = blocks::push_items(memory.held, 1);
 }
 
 // ---- intermediate references
 
 // All that is found at an intermediate reference to `target`.
-fn intermediate_reports(
-    words: &mut [u32],
-    h: Held,
-    v: ComponentView,
-    i: Intermediate,
-    target: Option<u32>,
-) -> Held
-    requires { Sound words.old h × (h.counts.findings ≤ 1024) }
-    ensures { IntermediateReported v i target words.old h words.new result }
+fn intermediate_reports(memory: &mut Memory, v: ComponentView, i: Intermediate, target: Option<u32>)
+    requires { memory.old.held.counts.findings ≤ 1024 }
+    ensures done { IntermediateReported v i target memory.old.words.now memory.old.held memory.new.words.now memory.new.held }
+    ensures lent { memory.new.words.ghost_name ≡ memory.old.words.ghost_name }
 {
     let m = v.modifiers;
     let quantity = v.quantity;
-    let k1 = memory::push_found(words, h, timers::lock_finding(quantity));
+    memory.push_found(timers::lock_finding(quantity));
     let marks = intermediate::intermediate_modifiers(m, v.modifiers_span);
-    let k2 = memory::push_found(words, k1, marks);
-    memory::push_found(words, k2, intermediate::intermediate_findings(i, target))
+    memory.push_found(marks);
+    memory.push_found(intermediate::intermediate_findings(i, target));
 }
 
 // An ingredient with an intermediate reference.
@@ -216,21 +205,21 @@ fn intermediate_line(
     end: usize,
     v: ComponentView,
     i: Intermediate,
-    words: &mut [u32],
-    h: Held,
-) -> Held
-    requires { ComponentHere ingredient sheet.now at end v × Sound words.old h × AllFit sheet.now words.old h × Roomy h × (h.counts.findings ≤ 1024) }
-    ensures { IntermediateDone sheet.now (slice at end sheet.now) v i words.old h words.new result }
+    memory: &mut Memory,
+)
+    requires { ComponentHere ingredient sheet.now at end v × AllFit sheet.now memory.old.words.now memory.old.held × Roomy memory.old.held × (memory.old.held.counts.findings ≤ 1024) }
+    ensures done { IntermediateDone sheet.now (slice at end sheet.now) v i memory.old.words.now memory.old.held memory.new.words.now memory.new.held }
+    ensures lent { memory.new.words.ghost_name ≡ memory.old.words.ghost_name }
 {
     let m = v.modifiers;
-    let define = h.define;
+    let define = memory.held.define;
     let p = name_of(sheet, at, v, Kind::Ingredient);
-    let target = intermediate::intermediate_target(words, h, i);
+    let target = intermediate::intermediate_target(memory, i);
     let in_step = !blocks::is_components(define);
     let relation = intermediate::intermediate_relation(i, in_step, target);
     let row = row_of(at, end, p, m, relation);
-    let k = intermediate_reports(words, h, v, i, target);
-    put_row(words, k, row, None, Kind::Ingredient)
+    intermediate_reports(memory, v, i, target);
+    put_row(memory, row, None, Kind::Ingredient);
 }
 
 // ---- references by name
@@ -247,36 +236,28 @@ fn named_reports(
     to: Option<usize>,
     kind: Kind,
     codes: &mut [u32],
-    words: &mut [u32],
-    h: Held,
-) -> Held
-    requires { ComponentHere (kind_of kind) sheet.now at end v × SameBelow (kind_of kind) h to × Sound words.old h × AllFit sheet.now words.old h × Roomy h × (h.counts.findings ≤ 1024) × CodesKept units.now.lines.now sheet.now codes.old }
-    ensures { NamedReported (units_or (read_units units.now.lines.now)) flags (kind_of kind) sheet.now (slice at end sheet.now) v old to words.old h words.new result × CodesKept units.now.lines.now sheet.now codes.new }
+    memory: &mut Memory,
+)
+    requires { ComponentHere (kind_of kind) sheet.now at end v × SameBelow (kind_of kind) memory.old.held to × AllFit sheet.now memory.old.words.now memory.old.held × Roomy memory.old.held × (memory.old.held.counts.findings ≤ 1024) × CodesKept units.now.lines.now sheet.now codes.old }
+    ensures done { NamedReported (units_or (read_units units.now.lines.now)) flags (kind_of kind) sheet.now (slice at end sheet.now) v old to memory.old.words.now memory.old.held memory.new.words.now memory.new.held }
+    ensures codes { CodesKept units.now.lines.now sheet.now codes.new }
+    ensures lent { memory.new.words.ghost_name ≡ memory.old.words.ghost_name }
 {
     let m = v.modifiers;
     let quantity = v.quantity;
-    let k1 = memory::push_found(words, h, timers::lock_finding(quantity));
-    let k2 = reference_findings::reference_findings(
-        words,
-        k1,
-        kind,
-        m,
-        v.span,
-        v.modifiers_span,
-        old,
-    );
+    memory.push_found(timers::lock_finding(quantity));
+    reference_findings::reference_findings(memory, kind, m, v.span, v.modifiers_span, old);
     unit_checks::checks_after(
         units,
         flags,
         codes,
-        words,
-        k2,
+        memory,
         sheet,
         &sheet[at..end],
         kind,
         v,
         to,
-    )
+    );
 }
 
 // A component that is looked up by its name.
@@ -289,26 +270,27 @@ fn named_line(
     v: ComponentView,
     kind: Kind,
     codes: &mut [u32],
-    words: &mut [u32],
-    h: Held,
-) -> Held
-    requires { ComponentHere (kind_of kind) sheet.now at end v × Sound words.old h × AllFit sheet.now words.old h × Roomy h × (h.counts.findings ≤ 1024) × CodesKept units.now.lines.now sheet.now codes.old }
-    ensures { NamedDone (units_or (read_units units.now.lines.now)) flags (kind_of kind) sheet.now (slice at end sheet.now) v words.old h words.new result × CodesKept units.now.lines.now sheet.now codes.new }
+    memory: &mut Memory,
+)
+    requires { ComponentHere (kind_of kind) sheet.now at end v × AllFit sheet.now memory.old.words.now memory.old.held × Roomy memory.old.held × (memory.old.held.counts.findings ≤ 1024) × CodesKept units.now.lines.now sheet.now codes.old }
+    ensures done { NamedDone (units_or (read_units units.now.lines.now)) flags (kind_of kind) sheet.now (slice at end sheet.now) v memory.old.words.now memory.old.held memory.new.words.now memory.new.held }
+    ensures codes { CodesKept units.now.lines.now sheet.now codes.new }
+    ensures lent { memory.new.words.ghost_name ≡ memory.old.words.ghost_name }
 {
     let m = v.modifiers;
-    let define = h.define;
-    let duplicate = h.duplicate;
+    let define = memory.held.define;
+    let duplicate = memory.held.duplicate;
     let p = name_of(sheet, at, v, kind);
-    let same = same_of(sheet, words, h, p, m, kind);
-    let old = old_of(words, h, same, kind);
+    let same = same_of(sheet, memory, p, m, kind);
+    let old = old_of(memory, same, kind);
     let to = lookup::refers_to(define, duplicate, m.reference, m.new, same);
     let in_step = !blocks::is_components(define);
     let row = row_named(at, end, p, in_step, m, to, old, kind);
     let found = found_of(to);
-    let k = named_reports(
-        units, flags, sheet, at, end, v, old, to, kind, codes, words, h,
+    named_reports(
+        units, flags, sheet, at, end, v, old, to, kind, codes, memory,
     );
-    put_row(words, k, row, found, kind)
+    put_row(memory, row, found, kind);
 }
 
 // ---- the lines
@@ -322,33 +304,24 @@ pub fn on_ingredient(
     v: ComponentView,
     i: Option<Intermediate>,
     codes: &mut [u32],
-    words: &mut [u32],
-    h: Held,
-) -> Result<Held, Reason>
-    requires { LineHere sheet.now at end (inside (component_event (component_event_in (slice at end sheet.now) (event.Ingredient v i)))) × ComponentEventWithin (slice at end sheet.now) (event.Ingredient v i) × ComponentEventFields (slice at end sheet.now) (event.Ingredient v i) × Kept sheet.now words.old h × CodesKept units.now.lines.now sheet.now codes.old }
-    ensures { ComponentDone (units_or (read_units units.now.lines.now)) flags sheet.now (slice at end sheet.now) (event.Ingredient v i) words.old h words.new result × CodesKept units.now.lines.now sheet.now codes.new }
+    memory: &mut Memory,
+) -> Result<(), Reason>
+    requires { LineHere sheet.now at end (inside (component_event (component_event_in (slice at end sheet.now) (event.Ingredient v i)))) × ComponentEventWithin (slice at end sheet.now) (event.Ingredient v i) × ComponentEventFields (slice at end sheet.now) (event.Ingredient v i) × Kept sheet.now memory.old.words.now memory.old.held × CodesKept units.now.lines.now sheet.now codes.old }
+    ensures done { ComponentDone (units_or (read_units units.now.lines.now)) flags sheet.now (slice at end sheet.now) (event.Ingredient v i) memory.old.words.now memory.old.held memory.new.words.now (left memory.new.held result) }
+    ensures codes { CodesKept units.now.lines.now sheet.now codes.new }
+    ensures lent { memory.new.words.ghost_name ≡ memory.old.words.ghost_name }
 {
     let m = v.modifiers;
     intermediate::check_intermediate(m.reference, i)?;
     match i {
         None => {
-            let k = named_line(
-                units,
-                flags,
-                sheet,
-                at,
-                end,
-                v,
-                Kind::Ingredient,
-                codes,
-                words,
-                h,
-            );
-            Ok(k)
+            let kind = Kind::Ingredient;
+            named_line(units, flags, sheet, at, end, v, kind, codes, memory);
+            Ok(())
         }
         Some(x) => {
-            let k = intermediate_line(sheet, at, end, v, x, words, h);
-            Ok(k)
+            intermediate_line(sheet, at, end, v, x, memory);
+            Ok(())
         }
     }
 }
@@ -361,23 +334,14 @@ pub fn on_cookware(
     end: usize,
     v: ComponentView,
     codes: &mut [u32],
-    words: &mut [u32],
-    h: Held,
-) -> Result<Held, Reason>
-    requires { LineHere sheet.now at end (inside (component_event (component_event_in (slice at end sheet.now) (event.Cookware v)))) × ComponentEventWithin (slice at end sheet.now) (event.Cookware v) × ComponentEventFields (slice at end sheet.now) (event.Cookware v) × Kept sheet.now words.old h × CodesKept units.now.lines.now sheet.now codes.old }
-    ensures { ComponentDone (units_or (read_units units.now.lines.now)) flags sheet.now (slice at end sheet.now) (event.Cookware v) words.old h words.new result × CodesKept units.now.lines.now sheet.now codes.new }
+    memory: &mut Memory,
+) -> Result<(), Reason>
+    requires { LineHere sheet.now at end (inside (component_event (component_event_in (slice at end sheet.now) (event.Cookware v)))) × ComponentEventWithin (slice at end sheet.now) (event.Cookware v) × ComponentEventFields (slice at end sheet.now) (event.Cookware v) × Kept sheet.now memory.old.words.now memory.old.held × CodesKept units.now.lines.now sheet.now codes.old }
+    ensures done { ComponentDone (units_or (read_units units.now.lines.now)) flags sheet.now (slice at end sheet.now) (event.Cookware v) memory.old.words.now memory.old.held memory.new.words.now (left memory.new.held result) }
+    ensures codes { CodesKept units.now.lines.now sheet.now codes.new }
+    ensures lent { memory.new.words.ghost_name ≡ memory.old.words.ghost_name }
 {
-    let k = named_line(
-        units,
-        flags,
-        sheet,
-        at,
-        end,
-        v,
-        Kind::Cookware,
-        codes,
-        words,
-        h,
-    );
-    Ok(k)
+    let kind = Kind::Cookware;
+    named_line(units, flags, sheet, at, end, v, kind, codes, memory);
+    Ok(())
 }

@@ -15,7 +15,7 @@ ghost use Rattle.content.specs.Parts.{Field};
 ghost use Rattle.components.specs.Views.{modifiers_in, component_in};
 ghost use Rattle.known_events.specs.Fields.{ComponentFields};
 ghost use Rattle.model.specs.Rows.{referrers_in, referrers_from, relation_in, entry_in, entries_in, component_of_line};
-ghost use Rattle.model.specs.Memory.{state_in, Sound};
+ghost use Rattle.model.specs.Memory.{state_in};
 ghost use Rattle.model.specs.Fits.{is_of_kind, AllFit};
 ghost use Rattle.model.specs.Kinds.{kind_of};
 ghost use Rattle.entry_lines.specs.Lines.{kind_word, target_in, entry_line, comma_each, path_fields, own_fields, marked_entry, Placed};
@@ -23,7 +23,8 @@ ghost use Rattle.entry_lines.specs.Ready.{RowReady, TableReady};
 
 use components::{ComponentView, Modifiers};
 use content::NamePlace;
-use model::{Held, Kind, Relation, RelationRecord, Target};
+use memory::Stored;
+use model::{Kind, Relation, RelationRecord, Target};
 
 // ---- relations
 
@@ -309,15 +310,15 @@ fn put_entries(
 // The lines of the ingredients or of the cookware.
 pub fn component_lines(
     sheet: &[u8],
-    words: &[u32],
-    h: Held,
+    stored: &Stored,
     kind: Kind,
     out: &mut [u8],
     at: usize,
 ) -> usize
-    requires { Sound words.now h × AllFit sheet.now words.now h }
-    ensures { Put (table_lines (entry_line (kind_of kind)) (table_of (kind_of kind) (state_in sheet.now words.now h))) out.old at out.new result }
+    requires { AllFit sheet.now stored.now.words.now stored.now.held }
+    ensures { Put (table_lines (entry_line (kind_of kind)) (table_of (kind_of kind) (state_in sheet.now stored.now.words.now stored.now.held))) out.old at out.new result }
 {
+    let (words, h) = (stored.words, stored.held);
     match kind {
         Kind::Ingredient => {
             let (n, m) = (h.counts.ingredients, h.counts.ingredient_pairs);

@@ -10,11 +10,11 @@ ghost use Rattle.rules.specs.Page.{severity_word, span_word};
 ghost use Rattle.output.specs.Put.{Put, tabbed};
 ghost use Rattle.parts.specs.Views.{span_in};
 ghost use Rattle.events.specs.Views.{severity_in};
-ghost use Rattle.model.specs.Memory.{Sound};
 ghost use Rattle.finding_lines.specs.Lines.{spans_field, noted_spans, flag_field, old_open, old_close, span_piece, ParsePut, FindingPut, FindingsPut, EventPut, ParsedPut};
 
 use events::{EventView, Severity};
-use model::{Held, Noted};
+use memory::Stored;
+use model::Noted;
 use parts::Span;
 use reading::ReadSheet;
 
@@ -125,13 +125,12 @@ fn put_finding(out: &mut [u8], at: usize, x: Noted) -> usize
     output::put_line(out, at, |rest: &mut [u8]| finding_line(rest, x))
 }
 
-pub fn finding_lines(words: &[u32], h: Held, out: &mut [u8], at: usize) -> usize
-    requires { Sound words.now h }
-    ensures { FindingsPut words.now h out.old at out.new result }
+pub fn finding_lines(stored: &Stored, out: &mut [u8], at: usize) -> usize
+    ensures { FindingsPut stored.now.words.now stored.now.held out.old at out.new result }
 {
     let mut n = begin(out, at);
-    for i in 0..h.counts.findings {
-        n = put_finding(out, n, model::finding_at(&words[10780..23132], i));
+    for i in 0..stored.held.counts.findings {
+        n = put_finding(out, n, model::finding_at(&stored.words[10780..23132], i));
     }
     n
 }

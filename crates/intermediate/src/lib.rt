@@ -5,12 +5,12 @@
 ghost use Rattle.std.specs.Prelude.{◌≡◌};
 ghost use Rattle.rules.specs.Checks.{intermediate_findings};
 ghost use Rattle.components.specs.Views.{intermediate_in};
-ghost use Rattle.model.specs.Memory.{Sound};
 ghost use Rattle.model.specs.Rows.{if_found};
 ghost use Rattle.intermediate.specs.Intermediates.{Faulted, ModifiersReported, Resolved, Related};
 
 use components::{Intermediate, Modifiers, Target};
-use model::{Held, Noted, Relation, RelationRecord};
+use memory::Memory;
+use model::{Noted, Relation, RelationRecord};
 use parts::Span;
 use refusals::Reason;
 
@@ -43,20 +43,19 @@ pub fn intermediate_modifiers(m: Modifiers, at: Span) -> Option<Noted>
 }
 
 // The index of the step or section that is referred to.
-pub fn intermediate_target(words: &[u32], h: Held, i: Intermediate) -> Option<u32>
-    requires { Sound words.now h }
-    ensures { Resolved i words.now h result }
+pub fn intermediate_target(memory: &Memory, i: Intermediate) -> Option<u32>
+    ensures { Resolved i memory.now.words.now memory.now.held result }
 {
     let relative = i.relative;
     let value = i.value.size;
     let target = i.target;
     match target {
         Target::Step => {
-            let n = h.counts.here;
-            model::step_target(&words[23132..24157], n, relative, value)
+            let n = memory.held.counts.here;
+            model::step_target(&memory.words[23132..24157], n, relative, value)
         }
         Target::Section => {
-            let n = h.counts.sections;
+            let n = memory.held.counts.sections;
             model::section_target(n, relative, value)
         }
     }

@@ -8,14 +8,14 @@ ghost use Rattle.rules.specs.Modes.{is_steps, is_reference};
 ghost use Rattle.rules.specs.Reference.{eq_bool};
 ghost use Rattle.content.specs.Contents.{kept_in};
 ghost use Rattle.model.specs.Rows.{row_at, row_of};
-ghost use Rattle.model.specs.Memory.{Sound};
 ghost use Rattle.model.specs.Fits.{AllFit};
 ghost use Rattle.lookup.specs.Names.{NameInside, NamesInside, row_fits, same_row, SameFound, TrimmedAt, NewName};
 ghost use Rattle.lookup.specs.References.{TreatedAs, Refers};
 ghost use Rattle.sheet.specs.Words.{define_of, duplicate_of};
 ghost use Rattle.model.specs.Kinds.{kind_of};
 
-use model::{Held, Kind};
+use memory::Memory;
+use model::Kind;
 use sheet::{Define, Duplicate};
 use text::Dropped;
 
@@ -72,24 +72,23 @@ pub fn same_name_before(
 // The same among the components of a kind.
 pub fn same_component(
     sheet: &[u8],
-    words: &[u32],
-    h: Held,
+    memory: &Memory,
     kind: Kind,
     name: &[u8],
     any_opt: bool,
     is_opt: bool,
 ) -> Option<usize>
-    requires { Sound words.now h × AllFit sheet.now words.now h }
-    ensures { SameFound (kind_of kind) sheet.now words.now h name.now any_opt is_opt result }
+    requires { AllFit sheet.now memory.now.words.now memory.now.held }
+    ensures { SameFound (kind_of kind) sheet.now memory.now.words.now memory.now.held name.now any_opt is_opt result }
 {
     match kind {
         Kind::Ingredient => {
-            let n = h.counts.ingredients;
-            same_name_before(sheet, &words[0..6156], n, name, any_opt, is_opt)
+            let n = memory.held.counts.ingredients;
+            same_name_before(sheet, &memory.words[0..6156], n, name, any_opt, is_opt)
         }
         Kind::Cookware => {
-            let n = h.counts.cookware;
-            same_name_before(sheet, &words[6156..9240], n, name, any_opt, is_opt)
+            let n = memory.held.counts.cookware;
+            same_name_before(sheet, &memory.words[6156..9240], n, name, any_opt, is_opt)
         }
     }
 }

@@ -69,12 +69,12 @@ below_at : {to : Option ℕ} (n d : ℕ) → FoundBelow to n → to ≡ Some d �
 below_at {to} n d f e = rw e at f
 
 module _ (k : Kind) {w₀ w₁ : List ℕ} {h₀ h₁ : Held} {r : Row} (a : RowPushed k w₀ h₀ r w₁ h₁) {to : Option ℕ} where
-  pub refer_ready : (d : ℕ) → Sound w₀ h₀ → FoundBelow to (count_of k h₀) → to ≡ Some d → Sound w₁ h₁ × (pairs_of k h₁ < count_of k h₁) × (d < count_of k h₁)
+  pub refer_ready : (d : ℕ) → Sound w₀ h₀ → FoundBelow to (count_of k h₀) → to ≡ Some d → (pairs_of k h₁ < count_of k h₁) × (d < count_of k h₁)
   refer_ready d z f e =
       let n : count_of k h₁ ≡ count_of k h₀ + 1 = ap (count_of k) a.held ∙ count_more k (count_of k h₀ + 1) h₀ in
       let p : pairs_of k h₁ ≡ pairs_of k h₀ = ap (pairs_of k) a.held ∙ pairs_same k (count_of k h₀ + 1) h₀ in
       let l : d < count_of k h₀ = below_at (count_of k h₀) d f e in
-      (a.sound, omega (arith, room_pairs_lem k z.room), omega arith)
+      (omega (arith, room_pairs_lem k z.room), omega arith)
 
   pub added_none : to ≡ None → ComponentAdded k w₀ h₀ r to w₁ h₁
   added_none e = rw e (added_alone k a)

@@ -52,81 +52,6 @@ pub fn count_of(h: Held, kind: Kind) -> usize
     }
 }
 
-fn push_row(words: &mut [u32], mut h: Held, kind: Kind, row: Row) -> Held
-    requires { Sound words.old h × (count_of (kind_of kind) h < room_of (kind_of kind)) }
-    ensures { RowPushed (kind_of kind) words.old h row words.new result }
-{
-    match kind {
-        Kind::Ingredient => {
-            let n = h.counts.ingredients;
-            model::put_row(&mut words[0..6156], n, row);
-            h.counts.ingredients = n + 1;
-            h
-        }
-        Kind::Cookware => {
-            let n = h.counts.cookware;
-            model::put_row(&mut words[6156..9240], n, row);
-            h.counts.cookware = n + 1;
-            h
-        }
-    }
-}
-
-// `set_referenced_from`: one more that refers to the component at `definition`.
-fn push_pair(words: &mut [u32], mut h: Held, kind: Kind, definition: u32, referrer: u32) -> Held
-    requires { Sound words.old h × (pairs_of (kind_of kind) h < count_of (kind_of kind) h) × (definition < count_of (kind_of kind) h) }
-    ensures { PairPushed (kind_of kind) words.old h definition referrer words.new result }
-{
-    match kind {
-        Kind::Ingredient => {
-            let n = h.counts.ingredient_pairs;
-            model::put_pair(&mut words[9240..10266], n, definition, referrer);
-            h.counts.ingredient_pairs = n + 1;
-            h
-        }
-        Kind::Cookware => {
-            let n = h.counts.cookware_pairs;
-            model::put_pair(&mut words[10266..10780], n, definition, referrer);
-            h.counts.cookware_pairs = n + 1;
-            h
-        }
-    }
-}
-
-// A component of a kind, and with it the referrer of what it refers to.
-pub fn add_component(words: &mut [u32], h: Held, kind: Kind, row: Row, to: Option<u32>) -> Held
-    requires { Sound words.old h × (count_of (kind_of kind) h < room_of (kind_of kind)) × FoundBelow to (count_of (kind_of kind) h) }
-    ensures { ComponentAdded (kind_of kind) words.old h row to words.new result }
-{
-    let n = count_of(h, kind);
-    let more = push_row(words, h, kind, row);
-    match to {
-        None => more,
-        Some(d) => push_pair(words, more, kind, d, n as u32),
-    }
-}
-
-pub fn push_finding(words: &mut [u32], mut h: Held, x: Noted) -> Held
-    requires { Sound words.old h × (h.counts.findings < 1544) }
-    ensures { FindingPushed words.old h x words.new result }
-{
-    let n = h.counts.findings;
-    model::put_finding(&mut words[10780..23132], n, x);
-    h.counts.findings = n + 1;
-    h
-}
-
-// What a check found: nothing or one finding.
-pub fn push_found(words: &mut [u32], h: Held, x: Option<Noted>) -> Held
-    requires { Sound words.old h × (h.counts.findings < 1544) }
-    ensures { Reported (if_found x) words.old h words.new result }
-{
-    match x {
-        None => h,
-        Some(found) => push_finding(words, h, found),
-    }
-}
-
 // The small state with no open block.
 fn closed(h: Held, named: bool, counts: Counts) -> Held
     ensures { result ≡ with_block Nothing (with_named named (with_counts counts h)) }
@@ -139,31 +64,124 @@ fn closed(h: Held, named: bool, counts: Counts) -> Held
     }
 }
 
-// A step closed: the next one has the next number.
-pub fn keep_step(words: &mut [u32], h: Held) -> Held
-    requires { Sound words.old h × (h.counts.here < 1025) × (h.counts.blocks < 100000) × (h.counts.counter < 100000) }
-    ensures { BlockKept words.old h 1 (h.counts.counter + 1) words.new result }
-{
-    let mut c = h.counts;
-    let n = c.here;
-    model::put_kind(&mut words[23132..24157], n, true);
-    c.here = n + 1;
-    c.blocks += 1;
-    c.counter += 1;
-    closed(h, h.named, c)
+// What the pass has stored, for those who read it: work memory, and the small state beside it.
+#[derive(Clone, Copy)]
+pub struct Stored<'a> {
+    pub words: &'a [u32],
+    pub held: Held,
+    ghost sound: { Sound words.now held },
 }
 
-// A text block closed.
-pub fn keep_text(words: &mut [u32], h: Held) -> Held
-    requires { Sound words.old h × (h.counts.here < 1025) × (h.counts.blocks < 100000) }
-    ensures { BlockKept words.old h 0 h.counts.counter words.new result }
-{
-    let mut c = h.counts;
-    let n = c.here;
-    model::put_kind(&mut words[23132..24157], n, false);
-    c.here = n + 1;
-    c.blocks += 1;
-    closed(h, h.named, c)
+// The same while it is written.
+#[derive(Drop)]
+pub struct Memory<'a> {
+    pub words: &'a mut [u32],
+    pub held: Held,
+    ghost sound: { Sound words.now held },
+}
+
+impl<'a> Memory<'a> {
+    fn push_row(&mut self, kind: Kind, row: Row)
+        requires { count_of (kind_of kind) self.old.held < room_of (kind_of kind) }
+        ensures row { RowPushed (kind_of kind) self.old.words.now self.old.held row self.new.words.now self.new.held }
+        ensures lent { self.new.words.ghost_name ≡ self.old.words.ghost_name }
+    {
+        match kind {
+            Kind::Ingredient => {
+                let n = self.held.counts.ingredients;
+                model::put_row(&mut self.words[0..6156], n, row);
+                self.held.counts.ingredients = n + 1;
+            }
+            Kind::Cookware => {
+                let n = self.held.counts.cookware;
+                model::put_row(&mut self.words[6156..9240], n, row);
+                self.held.counts.cookware = n + 1;
+            }
+        }
+    }
+
+    // `set_referenced_from`: one more that refers to the component at `definition`.
+    fn push_pair(&mut self, kind: Kind, definition: u32, referrer: u32)
+        requires { (pairs_of (kind_of kind) self.old.held < count_of (kind_of kind) self.old.held) × (definition < count_of (kind_of kind) self.old.held) }
+        ensures pair { PairPushed (kind_of kind) self.old.words.now self.old.held definition referrer self.new.words.now self.new.held }
+        ensures lent { self.new.words.ghost_name ≡ self.old.words.ghost_name }
+    {
+        match kind {
+            Kind::Ingredient => {
+                let n = self.held.counts.ingredient_pairs;
+                model::put_pair(&mut self.words[9240..10266], n, definition, referrer);
+                self.held.counts.ingredient_pairs = n + 1;
+            }
+            Kind::Cookware => {
+                let n = self.held.counts.cookware_pairs;
+                model::put_pair(&mut self.words[10266..10780], n, definition, referrer);
+                self.held.counts.cookware_pairs = n + 1;
+            }
+        }
+    }
+
+    // A component of a kind, and with it the referrer of what it refers to.
+    pub fn add_component(&mut self, kind: Kind, row: Row, to: Option<u32>)
+        requires { (count_of (kind_of kind) self.old.held < room_of (kind_of kind)) × FoundBelow to (count_of (kind_of kind) self.old.held) }
+        ensures added { ComponentAdded (kind_of kind) self.old.words.now self.old.held row to self.new.words.now self.new.held }
+        ensures lent { self.new.words.ghost_name ≡ self.old.words.ghost_name }
+    {
+        let n = count_of(self.held, kind);
+        self.push_row(kind, row);
+        if let Some(d) = to {
+            self.push_pair(kind, d, n as u32);
+        }
+    }
+
+    pub fn push_finding(&mut self, x: Noted)
+        requires { self.old.held.counts.findings < 1544 }
+        ensures finding { FindingPushed self.old.words.now self.old.held x self.new.words.now self.new.held }
+        ensures lent { self.new.words.ghost_name ≡ self.old.words.ghost_name }
+    {
+        let n = self.held.counts.findings;
+        model::put_finding(&mut self.words[10780..23132], n, x);
+        self.held.counts.findings = n + 1;
+    }
+
+    // What a check found: nothing or one finding.
+    pub fn push_found(&mut self, x: Option<Noted>)
+        requires { self.old.held.counts.findings < 1544 }
+        ensures found { Reported (if_found x) self.old.words.now self.old.held self.new.words.now self.new.held }
+        ensures lent { self.new.words.ghost_name ≡ self.old.words.ghost_name }
+    {
+        if let Some(found) = x {
+            self.push_finding(found);
+        }
+    }
+
+    // A step closed: the next one has the next number.
+    pub fn keep_step(&mut self)
+        requires { (self.old.held.counts.here < 1025) × (self.old.held.counts.blocks < 100000) × (self.old.held.counts.counter < 100000) }
+        ensures kept { BlockKept self.old.words.now self.old.held 1 (self.old.held.counts.counter + 1) self.new.words.now self.new.held }
+        ensures lent { self.new.words.ghost_name ≡ self.old.words.ghost_name }
+    {
+        let mut c = self.held.counts;
+        let n = c.here;
+        model::put_kind(&mut self.words[23132..24157], n, true);
+        c.here = n + 1;
+        c.blocks += 1;
+        c.counter += 1;
+        self.held = closed(self.held, self.held.named, c);
+    }
+
+    // A text block closed.
+    pub fn keep_text(&mut self)
+        requires { (self.old.held.counts.here < 1025) × (self.old.held.counts.blocks < 100000) }
+        ensures kept { BlockKept self.old.words.now self.old.held 0 self.old.held.counts.counter self.new.words.now self.new.held }
+        ensures lent { self.new.words.ghost_name ≡ self.old.words.ghost_name }
+    {
+        let mut c = self.held.counts;
+        let n = c.here;
+        model::put_kind(&mut self.words[23132..24157], n, false);
+        c.here = n + 1;
+        c.blocks += 1;
+        self.held = closed(self.held, self.held.named, c);
+    }
 }
 
 // A section closed, which counts unless it has neither name nor block; and the next one.

@@ -4,11 +4,11 @@
 ghost use Rattle.std.specs.Prelude.{◌≡◌, ◌+◌, ◌<◌, false};
 ghost use Rattle.rules.specs.Finding.{found, found_two};
 ghost use Rattle.parts.specs.Views.{span_in, TextWithin};
-ghost use Rattle.model.specs.Memory.{Sound};
 ghost use Rattle.model.specs.Rows.{finding_of};
 ghost use Rattle.model.specs.Small.{with_define, with_duplicate};
 ghost use Rattle.metadata.specs.Metas.{OrdinaryCounted, MetaDone};
 
+use memory::Memory;
 use model::{Held, Noted};
 use parts::{Span, TextView};
 use sheet::{Define, Duplicate};
@@ -48,16 +48,10 @@ fn count_ordinary(mut h: Held) -> Held
     h
 }
 
-pub fn on_meta(
-    flags: u32,
-    line: &[u8],
-    key: TextView,
-    value: TextView,
-    words: &mut [u32],
-    h: Held,
-) -> Held
-    requires { TextWithin line.now key × TextWithin line.now value × Sound words.old h × (h.counts.findings < 1544) × (h.counts.old < 100000) }
-    ensures { MetaDone flags line.now key value words.old h words.new result }
+pub fn on_meta(flags: u32, line: &[u8], key: TextView, value: TextView, memory: &mut Memory)
+    requires { TextWithin line.now key × TextWithin line.now value × (memory.old.held.counts.findings < 1544) × (memory.old.held.counts.old < 100000) }
+    ensures done { MetaDone flags line.now key value memory.old.words.now memory.old.held memory.new.words.now memory.new.held }
+    ensures lent { memory.new.words.ghost_name ≡ memory.old.words.ghost_name }
 {
     let odd = flags % 2;
     if odd == 1 {
@@ -69,24 +63,25 @@ pub fn on_meta(
         let v = parts::part_of(line, vp);
         match config_keys::key_of(k) {
             config_keys::Key::Define => {
-                return match config_keys::define_value(v) {
-                    Some(define) => with_define(h, define),
-                    None => memory::push_finding(words, h, wrong_value(ks, vs)),
-                };
+                match config_keys::define_value(v) {
+                    Some(define) => memory.held = with_define(memory.held, define),
+                    None => memory.push_finding(wrong_value(ks, vs)),
+                }
             }
             config_keys::Key::Duplicate => {
-                return match config_keys::duplicate_value(v) {
-                    Some(duplicate) => with_duplicate(h, duplicate),
-                    None => memory::push_finding(words, h, wrong_value(ks, vs)),
-                };
+                match config_keys::duplicate_value(v) {
+                    Some(duplicate) => memory.held = with_duplicate(memory.held, duplicate),
+                    None => memory.push_finding(wrong_value(ks, vs)),
+                }
             }
             config_keys::Key::Unknown => {
-                return memory::push_finding(words, h, unknown_key(ks));
+                memory.push_finding(unknown_key(ks));
             }
             config_keys::Key::Ordinary => {
-                return count_ordinary(h);
+                memory.held = count_ordinary(memory.held);
             }
         }
+    } else {
+        memory.held = count_ordinary(memory.held);
     }
-    count_ordinary(h)
 }

@@ -12,12 +12,11 @@ use Rattle.rules.specs.Model.{ingredient, cookware}
 use Rattle.rules.specs.State.{State, table_of, recipe, going}
 use Rattle.rules.specs.Pass.{is_open, ended}
 use Rattle.rules.specs.Page.{table_lines, ingredient_line, cookware_line, recipe_page, failed_page}
-use Rattle.rules.specs.Answer.{words_needed, events, read_sheet, events_or, units_or}
+use Rattle.rules.specs.Answer.{words_needed, read_sheet, events_or, units_or}
 use Rattle.output.specs.Put.{Put}
 use Rattle.output.proofs.Puts.{put_seq}
 use Rattle.output.proofs.Texts.{text_is}
-use Rattle.model.specs.Memory.{state_in, Sound}
-use Rattle.model.specs.Fits.{AllFit}
+use Rattle.model.specs.Memory.{state_in}
 use Rattle.model.specs.declared.Held.{Held}
 use Rattle.finding_lines.specs.Lines.{old_open, old_close, FindingsPut, ParsedPut}
 use Rattle.finding_lines.proofs.Parsers.{parsed_failed}
@@ -62,15 +61,11 @@ module _ {sheet text units : List ℕ} {flags : ℕ} {w : List ℕ} {h : Held} (
   unfolding words_needed
   index_given = (g.inputs.sheet_short, omega (arith, g.inputs.words_enough))
 
-  pub entries_given : Sound w h × AllFit sheet w h
-  entries_given = (g.ran.kept.sound, g.ran.kept.fit)
-
   pub draw_given : PassInputs sheet text units flags
   draw_given =
       record {
         text_utf8 = g.inputs.text_utf8;
         sheet_short = g.inputs.sheet_short;
-        sheet_read = g.inputs.sheet_read;
         final = g.ran.state;
         goes = g.ran.walked;
       }

@@ -9,6 +9,7 @@ ghost use Rattle.page.specs.Pages.{RecipeGiven, RecipePut, FailedPut};
 ghost use Rattle.page.specs.Parts.{head_line, PartPut, tables_of, findings_of, DrawnPut, OldPut};
 
 use following::Part;
+use memory::Stored;
 use model::{Held, Kind};
 use reading::ReadSheet;
 use unit_index::UnitList;
@@ -49,18 +50,17 @@ fn put_tables(
     sheet: &ReadSheet,
     units: &UnitList,
     flags: u32,
-    words: &[u32],
-    h: Held,
+    stored: &Stored,
     out: &mut [u8],
     at: usize,
 ) -> usize
-    requires { RecipeGiven sheet.now.bytes.now sheet.now.text.now units.now.lines.now flags words.now h }
+    requires { RecipeGiven sheet.now.bytes.now sheet.now.text.now units.now.lines.now flags stored.now.words.now stored.now.held }
     ensures { PartPut tables_of sheet.now.bytes.now sheet.now.text.now units.now.lines.now flags out.old at out.new result }
 {
-    let n = h.counts.timers;
-    let m = h.counts.inline;
-    let a = entry_lines::component_lines(sheet.bytes, words, h, Kind::Ingredient, out, at);
-    let b = entry_lines::component_lines(sheet.bytes, words, h, Kind::Cookware, out, a);
+    let n = stored.held.counts.timers;
+    let m = stored.held.counts.inline;
+    let a = entry_lines::component_lines(sheet.bytes, stored, Kind::Ingredient, out, at);
+    let b = entry_lines::component_lines(sheet.bytes, stored, Kind::Cookware, out, a);
     let c = put_drawn(Part::Timers, n, sheet, units, flags, out, b);
     put_drawn(Part::Inline, m, sheet, units, flags, out, c)
 }
@@ -104,16 +104,15 @@ fn put_findings(
     sheet: &ReadSheet,
     units: &UnitList,
     flags: u32,
-    words: &[u32],
-    h: Held,
+    stored: &Stored,
     out: &mut [u8],
     at: usize,
 ) -> usize
-    requires { RecipeGiven sheet.now.bytes.now sheet.now.text.now units.now.lines.now flags words.now h }
+    requires { RecipeGiven sheet.now.bytes.now sheet.now.text.now units.now.lines.now flags stored.now.words.now stored.now.held }
     ensures { PartPut findings_of sheet.now.bytes.now sheet.now.text.now units.now.lines.now flags out.old at out.new result }
 {
-    let old = h.counts.old;
-    let a = finding_lines::finding_lines(words, h, out, at);
+    let old = stored.held.counts.old;
+    let a = finding_lines::finding_lines(stored, out, at);
     put_old(old, sheet, units, flags, out, a)
 }
 
@@ -135,8 +134,9 @@ pub fn recipe_page(
     let a = head_line(out, true);
     let b = meta_map::meta_lines(sheet.bytes, words, n, out, a);
     let c = page_walk::draw_part(Part::Sections, sheet, units, flags, out, b);
-    let d = put_tables(sheet, units, flags, words, h, out, c);
-    put_findings(sheet, units, flags, words, h, out, d)
+    let stored = Stored { words, held: h };
+    let d = put_tables(sheet, units, flags, &stored, out, c);
+    put_findings(sheet, units, flags, &stored, out, d)
 }
 
 // `recipe`, `no`, and the lines of the parser's findings.

@@ -168,8 +168,8 @@ module _ {sheet text units : List ℕ} {flags : ℕ} (i : PassInputs sheet text 
   abbrev us : List NamedUnit
   us = units_or (read_units units)
 
-  pub walked_starts : {p : Part} {o₀ : List ℕ} {at₀ n : ℕ} {f : Follow} → Put [] o₀ at₀ o₀ n → f ≡ first_follow → Walked sheet text units flags p o₀ at₀ 0 f o₀ n
-  walked_starts {p} {o₀} {at₀} {n} {f} q z = record { same = refl; by = λ final w. subst (λ (x : Follow). Drawing text us flags sheet p final o₀ at₀ 0 x o₀ n) (sym z) (drawing_starts text us flags sheet p i.sheet_read w q) }
+  pub walked_starts : {p : Part} {o₀ : List ℕ} {at₀ n : ℕ} {f : Follow} → read_sheet text sheet ≡ events (events_or (read_sheet text sheet)) → Put [] o₀ at₀ o₀ n → f ≡ first_follow → Walked sheet text units flags p o₀ at₀ 0 f o₀ n
+  walked_starts {p} {o₀} {at₀} {n} {f} r q z = record { same = refl; by = λ final w. subst (λ (x : Follow). Drawing text us flags sheet p final o₀ at₀ 0 x o₀ n) (sym z) (drawing_starts text us flags sheet p r w q) }
 
   module _ {p : Part} {o₀ : List ℕ} {at₀ at : ℕ} {f : Follow} {o : List ℕ} {n : ℕ} (d : Walked sheet text units flags p o₀ at₀ at f o n) where
     pub walked_full : length o < n → PartDrawn sheet text units flags p o₀ at₀ o n

@@ -7,7 +7,7 @@ use Rattle.rules.specs.Units.{NamedUnit, read_units}
 use Rattle.rules.specs.Read.{parse_line}
 use Rattle.rules.specs.State.{State, first_state, going}
 use Rattle.rules.specs.Pass.{walk}
-use Rattle.rules.specs.Answer.{events, events_or, units_or, is_good_span, read_sheet}
+use Rattle.rules.specs.Answer.{events_or, units_or, is_good_span, read_sheet}
 use Rattle.rules.proofs.Fields.{Without}
 use Rattle.output.specs.Put.{Put}
 use Rattle.following.specs.Drawn.{quantities_added, added, drawn}
@@ -74,7 +74,6 @@ pub record TurnTaken (text : List ℕ) (units : List NamedUnit) (flags : ℕ) (p
 pub record PassInputs (sheet text units : List ℕ) (flags : ℕ) : Type 0 where
   pub text_utf8 : is_utf8 text ≡ true
   pub sheet_short : length sheet ≤ 65536
-  pub sheet_read : read_sheet text sheet ≡ events (events_or (read_sheet text sheet))
   pub final : State
   pub goes : walk text (units_or (read_units units)) flags 1 (going first_state) (events_or (read_sheet text sheet)) ≡ going final
 

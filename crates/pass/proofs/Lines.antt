@@ -71,12 +71,12 @@ module _ {sheet line w : List ℕ} {at end : ℕ} {h : Held} {c : ComponentEvent
   )
 
   pub timer_ready : (s : Span) (n : Option TextView) (q : Option QuantityView) → c ≡ component.Timer s n q
-      → OptQuantityWithin line q × Sound w h × (h.counts.findings + 2 < 1544) × (h.counts.timers < 100000) × (h.counts.items < 100000)
+      → OptQuantityWithin line q × (h.counts.findings + 2 < 1544) × (h.counts.timers < 100000) × (h.counts.items < 100000)
   unfolding EventWithin InsideWithin ComponentEventWithin
   timer_ready s n q e =
       let b = room z r in
       let y = rw e at z.within in
-      (y.2, r.kept.sound, omega (arith, b.findings), omega (arith, b.timers), omega (arith, b.items))
+      (y.2, omega (arith, b.findings), omega (arith, b.timers), omega (arith, b.items))
 
 pub component_done : {us : List NamedUnit} {flags : ℕ} {sheet line part w₀ w : List ℕ} {c d : ComponentEvent} {h₀ : Held} {r : Result Held Reason} → line ≡ part → c ≡ d → ComponentDone us flags sheet part d w₀ h₀ w r → ComponentDone us flags sheet line c w₀ h₀ w r
 component_done p e k = rw (p, e) k
@@ -101,12 +101,12 @@ module _ {us : List NamedUnit} {flags : ℕ} {sheet line w₀ w : List ℕ} {e :
   step_component c q p = rw q record { done = record { is = p.is; sound = p.sound; fit = p.fit } }
 
 pub text_ready : {sheet line w : List ℕ} {at end : ℕ} {h : Held} {e : Inside} (v : TextView) → e ≡ inside.Text v → EventHere sheet line at end (event.Inside e) → Running sheet w h at
-    → TextWithin line v × Field (part_of line v.content) × Sound w h × (h.counts.findings < 1544) × (h.counts.items + length line < 100000) × (h.counts.inline + length line < 100000)
+    → TextWithin line v × Field (part_of line v.content) × (h.counts.findings < 1544) × (h.counts.items + length line < 100000) × (h.counts.inline + length line < 100000)
 unfolding EventWithin InsideWithin EventFields InsideFields TextField
 text_ready v q z r =
     let b = room z r in
     let m = line_short z in
-    (rw q at z.within, rw q at z.fields, r.kept.sound, omega (arith, b.findings), omega (arith, b.items, m), omega (arith, b.inline, m))
+    (rw q at z.within, rw q at z.fields, omega (arith, b.findings), omega (arith, b.items, m), omega (arith, b.inline, m))
 
 -- ---- lines in any block
 
@@ -187,11 +187,11 @@ meta_within k v q z = rw q at z
 -- ---- every line
 
 pub between_ready : {sheet line w : List ℕ} {at end : ℕ} {h : Held} {v : EventView} (b : Between) → v ≡ event.Between b → EventHere sheet line at end v → Running sheet w h at
-    → BetweenWithin line b × Sound w h × (h.counts.findings < 1544) × (h.counts.old < 100000) × (h.counts.sections < 100000)
+    → BetweenWithin line b × (h.counts.findings < 1544) × (h.counts.old < 100000) × (h.counts.sections < 100000)
 unfolding EventWithin
 between_ready b q z r =
     let m = room z r in
-    (rw q at z.within, r.kept.sound, omega (arith, m.findings), omega (arith, m.old), omega (arith, m.sections))
+    (rw q at z.within, omega (arith, m.findings), omega (arith, m.old), omega (arith, m.sections))
 
 module _ {us : List NamedUnit} {flags : ℕ} {sheet line w₀ w : List ℕ} {v : EventView} {h₀ : Held} where
   -- 11

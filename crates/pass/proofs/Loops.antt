@@ -29,11 +29,11 @@ use Rattle.events.specs.declared.EventView.{EventView}
 use Rattle.reading.proofs.Passes.{Rest, First, rest_ends, rest_ended, rest_some, rest_parsed}
 use Rattle.known_events.specs.Known.{KnownEvent}
 use Rattle.model.specs.Blank.{blank, blank_walk}
-use Rattle.model.specs.Memory.{state_in, first_held}
+use Rattle.model.specs.Memory.{state_in, first_held, Sound}
 use Rattle.model.specs.declared.Held.{Held}
 use Rattle.model.proofs.Blanks.{blank_step_lem, over_blank}
 use Rattle.memory.proofs.Smalls.{first_state_lem}
-use Rattle.memory.proofs.Bounds.{first_sound, first_fit}
+use Rattle.memory.proofs.Bounds.{first_fit}
 use Rattle.lookup.proofs.Names.{part_slice}
 use Rattle.component_lines.specs.Lines.{Kept}
 use Rattle.pass.specs.Walks.{EventHere, Counted, Running, WentOn, WalkedAs, StepDone, EndedAs, Finished, RanBy, RanAs}
@@ -90,12 +90,11 @@ is_refused (refused m k) n l e = e
 
 -- ---- the loop: from `at` on, where the line `number` starts, `left` are the events, and `state` is what the walk has come to
 
-pub record Passing (us : List NamedUnit) (flags : ℕ) (sheet text : List ℕ) (w₀ w : List ℕ) (h : Held) (at number : ℕ) : Type 0 where
+pub record Passing (us : List NamedUnit) (flags : ℕ) (sheet text w : List ℕ) (h : Held) (at number : ℕ) : Type 0 where
   pub from : at ≤ length sheet
   pub begins : get_or (lf ∷ sheet) at 0 ≡ lf
   pub short : length sheet ≤ 65536
   pub few : number ≤ at + 1
-  pub long : length w ≡ length w₀
   pub left : List Event
   pub rest : Rest text sheet at number left
   pub state : State
@@ -107,17 +106,17 @@ first_limits : over_limits first_state ≡ false
 unfolding over_limits first_state
 first_limits = refl
 
-first_kept : (sheet w : List ℕ) → 24157 ≤ length w → Kept sheet w first_held
+first_kept : (sheet w : List ℕ) → Sound w first_held → Kept sheet w first_held
 first_kept sheet w l =
     let s = subst chained.SoundState (sym (first_state_lem sheet w)) (sound_blank first_state (chained.first_sound [] [] 0)) in
     record {
-      sound = first_sound w l;
+      sound = l;
       fit = first_fit sheet w;
       definitions = λ k. chained.table_sound k (state_in sheet w first_held) s;
       limits = ap over_limits (first_state_lem sheet w) ∙ over_blank first_state ∙ first_limits;
     }
 
-pub passing_starts : {us : List NamedUnit} {flags : ℕ} {sheet text w : List ℕ} {h : Held} → h ≡ first_held → length sheet ≤ 65536 → 24157 ≤ length w → read_sheet text sheet ≡ events (events_or (read_sheet text sheet)) → Passing us flags sheet text w w h 0 1
+pub passing_starts : {us : List NamedUnit} {flags : ℕ} {sheet text w : List ℕ} {h : Held} → h ≡ first_held → length sheet ≤ 65536 → Sound w h → read_sheet text sheet ≡ events (events_or (read_sheet text sheet)) → Passing us flags sheet text w h 0 1
 unfolding read_sheet
 passing_starts {sheet = sheet} {text = text} {w = w} e s l q =
     rw e
@@ -126,13 +125,12 @@ passing_starts {sheet = sheet} {text = text} {w = w} e s l q =
       begins = refl;
       short = s;
       few = omega arith;
-      long = refl;
       left = events_or (read_sheet text sheet);
       rest = record { is = q };
       state = first_state;
       walked = refl;
       memory = first_state_lem sheet w;
-      running = record { kept = first_kept sheet w l; counted = subst (Counted 0) (sym (first_state_lem sheet w)) (counted_blank first_state (first_counted 0)) };
+      running = record { kept = first_kept sheet w (rw e at l); counted = subst (Counted 0) (sym (first_state_lem sheet w)) (counted_blank first_state (first_counted 0)) };
     }
 
 -- ---- a line
@@ -153,7 +151,7 @@ module _ {sheet : List ℕ} {at end : ℕ} {text : List ℕ} {number : ℕ} {es 
       let e : at + (end - at) ≡ end = omega (arith, i.0) in
       ap (λ (k : ℕ). get_or sheet k 0) (sym e) ∙ d
 
-module _ {us : List NamedUnit} {flags : ℕ} {sheet text w₀ w : List ℕ} {h : Held} {at number : ℕ} (p : Passing us flags sheet text w₀ w h at number) where
+module _ {us : List NamedUnit} {flags : ℕ} {sheet text w : List ℕ} {h : Held} {at number : ℕ} (p : Passing us flags sheet text w h at number) where
   pub passing_room : (h.counts.sections ≤ 128) × (h.counts.findings ≤ 1024)
   passing_room = let b = bounded p.running (omega (arith, p.from, p.short)) in (b.sections, b.findings)
 
@@ -207,7 +205,7 @@ module _ {us : List NamedUnit} {flags : ℕ} {sheet text w₀ w : List ℕ} {h :
             blank_step_lem text us flags number (event_in (take (end - at) (drop at sheet)) v) (going p.state)
             ∙ ap (λ (x : State). blank_walk (stepped x)) (sym p.memory)
 
-        module _ {w₁ : List ℕ} (n : length w₁ ≡ length w) {s : Result (Option Held) Reason} (d : StepDone us flags sheet (take (end - at) (drop at sheet)) end v w h w₁ s) where
+        module _ {w₁ : List ℕ} {s : Result (Option Held) Reason} (d : StepDone us flags sheet (take (end - at) (drop at sheet)) end v w h w₁ s) where
           failed_at : s ≡ Ok None → is_error_event (event_in (take (end - at) (drop at sheet)) v) ≡ true
           unfolding WalkedAs
           failed_at e = rw e at d.is
@@ -216,35 +214,29 @@ module _ {us : List NamedUnit} {flags : ℕ} {sheet text w₀ w : List ℕ} {h :
           unfolding step
           step_fails e = rw (failed_at e)
 
-          pub passing_failed : s ≡ Ok None → RanAs us flags sheet text (events_or (read_sheet text sheet)) w₀ w₁ (Ok None)
+          pub passing_failed : s ≡ Ok None → RanBy text us flags sheet (events_or (read_sheet text sheet)) w₁ (Ok None)
           unfolding RanBy parse_events finish
           passing_failed e =
               let f = walk_failed text us flags first.others (number + 1) _ in
               record {
-                is = record {
-                  findings = f.findings;
-                  is = ap finish (whole ∙ ap (λ (x : Walk). walk text us flags (number + 1) x first.others) (step_fails e) ∙ f.is);
-                };
-                long = n ∙ p.long;
+                findings = f.findings;
+                is = ap finish (whole ∙ ap (λ (x : Walk). walk text us flags (number + 1) x first.others) (step_fails e) ∙ f.is);
               }
 
           refused_at : (m : Reason) → s ≡ Err m → blank_walk (stepped (state_in sheet w h)) ≡ refused (number_of m) number
           unfolding WalkedAs
           refused_at m e = (rw e at d.is) text number
 
-          pub passing_refused : (m : Reason) → s ≡ Err m → RanAs us flags sheet text (events_or (read_sheet text sheet)) w₀ w₁ (Err (record { reason = m; line = number }))
+          pub passing_refused : (m : Reason) → s ≡ Err m → RanBy text us flags sheet (events_or (read_sheet text sheet)) w₁ (Err (record { reason = m; line = number }))
           unfolding RanBy parse_events finish
           passing_refused m e =
-              record {
-                is = ap finish (whole ∙ ap (λ (x : Walk). walk text us flags (number + 1) x first.others) (is_refused _ (number_of m) number (like ∙ refused_at m e)) ∙ walk_refused text us flags first.others (number + 1) (number_of m) number);
-                long = n ∙ p.long;
-              }
+              ap finish (whole ∙ ap (λ (x : Walk). walk text us flags (number + 1) x first.others) (is_refused _ (number_of m) number (like ∙ refused_at m e)) ∙ walk_refused text us flags first.others (number + 1) (number_of m) number)
 
           went_on : (m : Held) → s ≡ Ok (Some m) → WentOn us flags sheet (take (end - at) (drop at sheet)) end v w h w₁ m
           unfolding WalkedAs
           went_on m e = rw e at d.is
 
-          pub passing_on : (m : Held) → s ≡ Ok (Some m) → Passing us flags sheet text w₀ w₁ m (end + 1) (number + 1)
+          pub passing_on : (m : Held) → s ≡ Ok (Some m) → Passing us flags sheet text w₁ m (end + 1) (number + 1)
           passing_on m e =
               let g = went_on m e in
               let i = l.inside end q in
@@ -254,7 +246,6 @@ module _ {us : List NamedUnit} {flags : ℕ} {sheet text w₀ w : List ℕ} {h :
                 begins = rw (add-one end) (lf_after p.rest l q);
                 short = p.short;
                 few = omega (arith, i.0, p.few);
-                long = n ∙ p.long;
                 left = first.others;
                 rest = record { is = first.next };
                 state = o.state;
@@ -289,5 +280,10 @@ module _ {us : List NamedUnit} {flags : ℕ} {sheet text w₀ w : List ℕ} {h :
     ran_by (Ok None) d = absurd d
     ran_by (Err f) d = finished ∙ d sheet w p.state p.memory
 
-    pub passing_done : {s : Result (Option Held) Refusal} → Finished h s → RanAs us flags sheet text (events_or (read_sheet text sheet)) w₀ w s
-    passing_done {s} d = record { is = ran_by s d.is; long = p.long }
+    pub passing_done : {s : Result (Option Held) Refusal} → Finished h s → RanBy text us flags sheet (events_or (read_sheet text sheet)) w s
+    passing_done {s} d = ran_by s d.is
+
+-- ---- what was lent is what the pass has written
+
+pub ran_as : {us : List NamedUnit} {flags : ℕ} {sheet text w₀ w₁ w : List ℕ} {es : List Event} {s : Result (Option Held) Refusal} → length w ≡ length w₀ → w ≡ w₁ → RanBy text us flags sheet es w₁ s → RanAs us flags sheet text es w₀ w s
+ran_as {us} {flags} {sheet} {text} {es = es} {s = s} n e b = record { is = subst (λ (x : List ℕ). RanBy text us flags sheet es x s) (sym e) b; long = n }

@@ -11,7 +11,7 @@ use lib.Seq.{length-slice}
 use Rattle.rules.proofs.Basics.{no_truth}
 use Rattle.events.specs.declared.EventView.{EventView}
 use Rattle.model.specs.Blank.{blank_span}
-use Rattle.model.specs.Memory.{windows_of, state_of, state_in, Sound}
+use Rattle.model.specs.Memory.{windows_of, state_of, state_in}
 use Rattle.model.specs.declared.Held.{Held}
 use Rattle.model.proofs.Searches.{blocks_length}
 use Rattle.memory.proofs.Smalls.{over_in, over_is}
@@ -100,14 +100,14 @@ module _ {sheet line : List ℕ} {at end : ℕ} {v : EventView} (z : EventHere s
     pub room : Bounded h
     room = bounded r (omega (arith, z.here.whole.order, z.here.whole.most, z.here.short))
 
-    pub room_blocks : Sound w h × (h.counts.here < 1025) × (h.counts.blocks < 100000)
-    room_blocks = let b = room in (r.kept.sound, omega (arith, b.here), omega (arith, b.blocks))
+    pub room_blocks : (h.counts.here < 1025) × (h.counts.blocks < 100000)
+    room_blocks = let b = room in (omega (arith, b.here), omega (arith, b.blocks))
 
-    pub room_step : Sound w h × (h.counts.here < 1025) × (h.counts.blocks < 100000) × (h.counts.counter < 100000)
-    room_step = let b = room in (r.kept.sound, omega (arith, b.here), omega (arith, b.blocks), omega (arith, b.counter))
+    pub room_step : (h.counts.here < 1025) × (h.counts.blocks < 100000) × (h.counts.counter < 100000)
+    room_step = let b = room in (omega (arith, b.here), omega (arith, b.blocks), omega (arith, b.counter))
 
-    pub room_mode : Sound w h × (h.counts.here < 1025) × (h.counts.blocks < 100000) × (h.counts.findings < 1544)
-    room_mode = let b = room in (r.kept.sound, omega (arith, b.here), omega (arith, b.blocks), omega (arith, b.findings))
+    pub room_mode : (h.counts.here < 1025) × (h.counts.blocks < 100000) × (h.counts.findings < 1544)
+    room_mode = let b = room in (omega (arith, b.here), omega (arith, b.blocks), omega (arith, b.findings))
 
-    pub room_finding : Sound w h × (h.counts.findings < 1544)
-    room_finding = let b = room in (r.kept.sound, omega (arith, b.findings))
+    pub room_finding : h.counts.findings < 1544
+    room_finding = let b = room in omega (arith, b.findings)

@@ -1,5 +1,5 @@
 -- What the lines of the sheet, one after the other, and the end of the pass leave in work memory.
-use Rattle.std.specs.Prelude.{ℕ, ◌+◌, ◌≤◌, ◌≡◌, Bool, true, List, [], length, Option, None, Some, Result, Ok, Err}
+use Rattle.std.specs.Prelude.{ℕ, ◌+◌, ◌≤◌, ◌≡◌, Bool, true, false, List, [], length, Option, None, Some, Result, Ok, Err}
 use Rattle.std.proofs.Math.Seq.{slice}
 use Rattle.rules.specs.Units.{NamedUnit}
 use Rattle.rules.specs.Event.{Event}
@@ -72,6 +72,12 @@ pub record ErrorView (v : EventView) (r : Bool) : Type 0 where
   pub is : (line : List ℕ) → r ≡ is_error_event (event_in line v)
 
 -- ---- a line and the limits after it (`step` of the rules)
+
+-- what it leaves: the small state where the pass goes on, none after an `error` line, or why it is refused
+abbrev pub left_if : Held → Result Bool Reason → Result (Option Held) Reason
+left_if h (Ok true) = Ok (Some h)
+left_if h (Ok false) = Ok None
+left_if h (Err r) = Err r
 
 module _ (us : List NamedUnit) (flags : ℕ) (sheet line : List ℕ) (end : ℕ) (v : EventView) (w₀ : List ℕ) (h₀ : Held) (w : List ℕ) where
   -- the pass goes on

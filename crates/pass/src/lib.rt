@@ -1,18 +1,20 @@
 // The pass over the lines of a sheet (`RecipeCollector::parse_events`): which line does what, the refusals 11, 12, 17 and 19.
 #![tactic(auto)]
 
-ghost use Rattle.std.specs.Prelude.{◌≤◌, ◌<◌, length};
+ghost use Rattle.std.specs.Prelude.{◌≡◌, ◌≤◌, ◌<◌, length};
 ghost use Rattle.rules.specs.Units.{read_units};
 ghost use Rattle.rules.specs.Answer.{units_or, events_or, read_sheet};
 ghost use Rattle.events.specs.Views.{BetweenWithin};
 ghost use Rattle.events.specs.declared.EventView.TheVariants as event;
 ghost use Rattle.events.specs.declared.Inside.TheVariants as inside;
-ghost use Rattle.model.specs.Memory.{Sound};
+ghost use Rattle.model.specs.Memory.{first_held};
 ghost use Rattle.unit_checks.specs.Codes.{CodesKept};
+ghost use Rattle.blocks.specs.Lined.{left};
 ghost use Rattle.component_lines.specs.Lines.{ComponentDone};
-ghost use Rattle.pass.specs.Walks.{EventHere, Running, InStep, InsideDone, BetweenDone, EventDone, ErrorView, StepDone, Finished, RanAs};
+ghost use Rattle.pass.specs.Walks.{EventHere, Running, InStep, InsideDone, BetweenDone, EventDone, ErrorView, left_if, StepDone, Finished, RanBy, RanAs};
 
 use events::{Between, ComponentEvent, EventView, Inside, Severity};
+use memory::Memory;
 use model::{Held, Open};
 use reading::ReadSheet;
 use refusals::{Reason, Refusal};
@@ -27,22 +29,23 @@ fn on_component(
     end: usize,
     c: ComponentEvent,
     codes: &mut [u32],
-    words: &mut [u32],
-    h: Held,
-) -> Result<Held, Reason>
-    requires { EventHere sheet.now line.now at end (event.Inside (inside.Component c)) × Running sheet.now words.old h at × CodesKept units.now.lines.now sheet.now codes.old }
-    ensures { ComponentDone (units_or (read_units units.now.lines.now)) flags sheet.now line.now c words.old h words.new result × CodesKept units.now.lines.now sheet.now codes.new }
+    memory: &mut Memory,
+) -> Result<(), Reason>
+    requires { EventHere sheet.now line.now at end (event.Inside (inside.Component c)) × Running sheet.now memory.old.words.now memory.old.held at × CodesKept units.now.lines.now sheet.now codes.old }
+    ensures done { ComponentDone (units_or (read_units units.now.lines.now)) flags sheet.now line.now c memory.old.words.now memory.old.held memory.new.words.now (left memory.new.held result) }
+    ensures codes { CodesKept units.now.lines.now sheet.now codes.new }
+    ensures lent { memory.new.words.ghost_name ≡ memory.old.words.ghost_name }
 {
     match c {
         ComponentEvent::Ingredient(v, i) => component_lines::on_ingredient(
-            units, flags, sheet, at, end, v, i, codes, words, h,
+            units, flags, sheet, at, end, v, i, codes, memory,
         ),
         ComponentEvent::Cookware(v) => component_lines::on_cookware(
-            units, flags, sheet, at, end, v, codes, words, h,
+            units, flags, sheet, at, end, v, codes, memory,
         ),
         ComponentEvent::Timer(s, n, q) => {
-            let k = timers::on_timer(units, flags, line, n, q, words, h);
-            Ok(k)
+            timers::on_timer(units, flags, line, n, q, memory);
+            Ok(())
         }
     }
 }
@@ -57,21 +60,20 @@ fn in_step_block(
     end: usize,
     e: Inside,
     codes: &mut [u32],
-    words: &mut [u32],
-    h: Held,
-) -> Result<Held, Reason>
-    requires { EventHere sheet.now line.now at end (event.Inside e) × Running sheet.now words.old h at × CodesKept units.now.lines.now sheet.now codes.old }
-    ensures { InStep (units_or (read_units units.now.lines.now)) flags sheet.now line.now e words.old h words.new result × CodesKept units.now.lines.now sheet.now codes.new }
+    memory: &mut Memory,
+) -> Result<(), Reason>
+    requires { EventHere sheet.now line.now at end (event.Inside e) × Running sheet.now memory.old.words.now memory.old.held at × CodesKept units.now.lines.now sheet.now codes.old }
+    ensures done { InStep (units_or (read_units units.now.lines.now)) flags sheet.now line.now e memory.old.words.now memory.old.held memory.new.words.now (left memory.new.held result) }
+    ensures codes { CodesKept units.now.lines.now sheet.now codes.new }
+    ensures lent { memory.new.words.ghost_name ≡ memory.old.words.ghost_name }
 {
     match e {
-        Inside::End(kind) => blocks::end_step(words, h, kind),
+        Inside::End(kind) => blocks::end_step(memory, kind),
         Inside::Text(v) => {
-            let k = step_texts::text_in_step(units, flags, line, v, words, h);
-            Ok(k)
+            step_texts::text_in_step(units, flags, line, v, memory);
+            Ok(())
         }
-        Inside::Component(c) => on_component(
-            units, flags, sheet, line, at, end, c, codes, words, h,
-        ),
+        Inside::Component(c) => on_component(units, flags, sheet, line, at, end, c, codes, memory),
     }
 }
 
@@ -85,29 +87,31 @@ fn on_inside(
     end: usize,
     e: Inside,
     codes: &mut [u32],
-    words: &mut [u32],
-    h: Held,
-) -> Result<Held, Reason>
-    requires { EventHere sheet.now line.now at end (event.Inside e) × Running sheet.now words.old h at × CodesKept units.now.lines.now sheet.now codes.old }
-    ensures { InsideDone (units_or (read_units units.now.lines.now)) flags sheet.now line.now e words.old h words.new result × CodesKept units.now.lines.now sheet.now codes.new }
+    memory: &mut Memory,
+) -> Result<(), Reason>
+    requires { EventHere sheet.now line.now at end (event.Inside e) × Running sheet.now memory.old.words.now memory.old.held at × CodesKept units.now.lines.now sheet.now codes.old }
+    ensures done { InsideDone (units_or (read_units units.now.lines.now)) flags sheet.now line.now e memory.old.words.now memory.old.held memory.new.words.now (left memory.new.held result) }
+    ensures codes { CodesKept units.now.lines.now sheet.now codes.new }
+    ensures lent { memory.new.words.ghost_name ≡ memory.old.words.ghost_name }
 {
-    let block = h.block;
+    let block = memory.held.block;
     match block {
         Open::Nothing => Err(Reason::InNoBlock),
-        Open::Step => in_step_block(units, flags, sheet, line, at, end, e, codes, words, h),
-        Open::Text => blocks::in_text_block(words, h, e),
-        Open::TextMode => blocks::in_text_mode(words, h, e),
+        Open::Step => in_step_block(units, flags, sheet, line, at, end, e, codes, memory),
+        Open::Text => blocks::in_text_block(memory, e),
+        Open::TextMode => blocks::in_text_mode(memory, e),
     }
 }
 
-fn on_between(flags: u32, line: &[u8], b: Between, words: &mut [u32], h: Held) -> Held
-    requires { BetweenWithin line.now b × Sound words.old h × (h.counts.findings < 1544) × (h.counts.old < 100000) × (h.counts.sections < 100000) }
-    ensures { BetweenDone flags line.now b words.old h words.new result }
+fn on_between(flags: u32, line: &[u8], b: Between, memory: &mut Memory)
+    requires { BetweenWithin line.now b × (memory.old.held.counts.findings < 1544) × (memory.old.held.counts.old < 100000) × (memory.old.held.counts.sections < 100000) }
+    ensures done { BetweenDone flags line.now b memory.old.words.now memory.old.held memory.new.words.now memory.new.held }
+    ensures lent { memory.new.words.ghost_name ≡ memory.old.words.ghost_name }
 {
     match b {
-        Between::Meta(k, v) => metadata::on_meta(flags, line, k, v, words, h),
-        Between::Section(n) => blocks::on_section(h, n),
-        Between::Start(k) => blocks::on_start(h, k),
+        Between::Meta(k, v) => metadata::on_meta(flags, line, k, v, memory),
+        Between::Section(n) => memory.held = blocks::on_section(memory.held, n),
+        Between::Start(k) => memory.held = blocks::on_start(memory.held, k),
     }
 }
 
@@ -121,24 +125,25 @@ fn on_event(
     end: usize,
     v: EventView,
     codes: &mut [u32],
-    words: &mut [u32],
-    h: Held,
-) -> Result<Held, Reason>
-    requires { EventHere sheet.now line.now at end v × Running sheet.now words.old h at × CodesKept units.now.lines.now sheet.now codes.old }
-    ensures { EventDone (units_or (read_units units.now.lines.now)) flags sheet.now line.now v words.old h words.new result × CodesKept units.now.lines.now sheet.now codes.new }
+    memory: &mut Memory,
+) -> Result<(), Reason>
+    requires { EventHere sheet.now line.now at end v × Running sheet.now memory.old.words.now memory.old.held at × CodesKept units.now.lines.now sheet.now codes.old }
+    ensures done { EventDone (units_or (read_units units.now.lines.now)) flags sheet.now line.now v memory.old.words.now memory.old.held memory.new.words.now (left memory.new.held result) }
+    ensures codes { CodesKept units.now.lines.now sheet.now codes.new }
+    ensures lent { memory.new.words.ghost_name ≡ memory.old.words.ghost_name }
 {
     match v {
         EventView::Between(b) => {
-            if blocks::is_open(h) {
+            if blocks::is_open(memory.held) {
                 return Err(Reason::InOpenBlock);
             }
-            let k = on_between(flags, line, b, words, h);
-            Ok(k)
+            on_between(flags, line, b, memory);
+            Ok(())
         }
-        EventView::Inside(e) => on_inside(units, flags, sheet, line, at, end, e, codes, words, h),
+        EventView::Inside(e) => on_inside(units, flags, sheet, line, at, end, e, codes, memory),
         EventView::Finding(s, n) => {
-            let k = blocks::on_finding(words, h, s, n);
-            Ok(k)
+            blocks::on_finding(memory, s, n);
+            Ok(())
         }
     }
 }
@@ -157,7 +162,7 @@ pub fn is_error(v: EventView) -> bool
     }
 }
 
-// One line, and 17 after it. `None`: an `error` line; there will be no recipe.
+// One line, and 17 after it. Whether the pass goes on: after an `error` line there will be no recipe.
 fn step(
     units: &UnitList,
     flags: u32,
@@ -167,20 +172,21 @@ fn step(
     end: usize,
     v: EventView,
     codes: &mut [u32],
-    words: &mut [u32],
-    h: Held,
-) -> Result<Option<Held>, Reason>
-    requires { EventHere sheet.now line.now at end v × Running sheet.now words.old h at × CodesKept units.now.lines.now sheet.now codes.old }
-    ensures { StepDone (units_or (read_units units.now.lines.now)) flags sheet.now line.now end v words.old h words.new result × CodesKept units.now.lines.now sheet.now codes.new }
+    memory: &mut Memory,
+) -> Result<bool, Reason>
+    requires { EventHere sheet.now line.now at end v × Running sheet.now memory.old.words.now memory.old.held at × CodesKept units.now.lines.now sheet.now codes.old }
+    ensures done { StepDone (units_or (read_units units.now.lines.now)) flags sheet.now line.now end v memory.old.words.now memory.old.held memory.new.words.now (left_if memory.new.held result) }
+    ensures codes { CodesKept units.now.lines.now sheet.now codes.new }
+    ensures lent { memory.new.words.ghost_name ≡ memory.old.words.ghost_name }
 {
     if is_error(v) {
-        return Ok(None);
+        return Ok(false);
     }
-    let k = on_event(units, flags, sheet, line, at, end, v, codes, words, h)?;
-    if memory::over_limits(k) {
+    on_event(units, flags, sheet, line, at, end, v, codes, memory)?;
+    if memory::over_limits(memory.held) {
         return Err(Reason::OverLimits);
     }
-    Ok(Some(k))
+    Ok(true)
 }
 
 // The end: 19, then 17.
@@ -194,20 +200,20 @@ fn finish(h: Held) -> Result<Option<Held>, Refusal>
     }
 }
 
-// The whole pass. What the words held before does not matter. From an `error` line on nothing more is refused; `None`: there was
-// one, and there is no recipe.
-pub fn run(
+// The whole pass, over work memory as it is at the start. From an `error` line on nothing more is refused; `None`: there was one,
+// and there is no recipe.
+fn parse_events(
     sheet: &ReadSheet,
     units: &UnitList,
     flags: u32,
-    words: &mut [u32],
+    memory: &mut Memory,
 ) -> Result<Option<Held>, Refusal>
-    requires { (length sheet.now.bytes.now ≤ 65536) × (24157 ≤ length words.old) }
-    ensures { RanAs (units_or (read_units units.now.lines.now)) flags sheet.now.bytes.now sheet.now.text.now (events_or (read_sheet sheet.now.text.now sheet.now.bytes.now)) words.old words.new result }
+    requires { (length sheet.now.bytes.now ≤ 65536) × (memory.old.held ≡ first_held) }
+    ensures done { RanBy sheet.now.text.now (units_or (read_units units.now.lines.now)) flags sheet.now.bytes.now (events_or (read_sheet sheet.now.text.now sheet.now.bytes.now)) memory.new.words.now result }
+    ensures lent { memory.new.words.ghost_name ≡ memory.old.words.ghost_name }
 {
     // `codes` keeps what an earlier line's unit is, so that each is looked up once.
     let mut codes = [0u32; 1539];
-    let mut h = memory::first_held();
     let mut at = 0;
     let mut number: u32 = 1;
     while at < sheet.bytes.len() {
@@ -225,8 +231,7 @@ pub fn run(
             end,
             v,
             &mut codes,
-            words,
-            h,
+            memory,
         ) {
             Err(reason) => {
                 return Err(Refusal {
@@ -234,15 +239,31 @@ pub fn run(
                     line: number,
                 });
             }
-            Ok(None) => {
+            Ok(false) => {
                 return Ok(None);
             }
-            Ok(Some(k)) => {
-                h = k;
+            Ok(true) => {
                 at = end + 1;
                 number += 1;
             }
         }
     }
-    finish(h)
+    finish(memory.held)
+}
+
+// The same over words whose content does not matter.
+pub fn run(
+    sheet: &ReadSheet,
+    units: &UnitList,
+    flags: u32,
+    words: &mut [u32],
+) -> Result<Option<Held>, Refusal>
+    requires { (length sheet.now.bytes.now ≤ 65536) × (24157 ≤ length words.old) }
+    ensures { RanAs (units_or (read_units units.now.lines.now)) flags sheet.now.bytes.now sheet.now.text.now (events_or (read_sheet sheet.now.text.now sheet.now.bytes.now)) words.old words.new result }
+{
+    let mut memory = Memory {
+        words,
+        held: memory::first_held(),
+    };
+    parse_events(sheet, units, flags, &mut memory)
 }

@@ -1,12 +1,11 @@
 -- What each kind of line becomes.
-use Prim.Native.Nat.{ℕ, ◌+◌, ◌-◌, ◌*◌, ◌≤◌, ◌<◌}
+use Prim.Native.Nat.{ℕ, ◌+◌, ◌*◌, ◌≤◌, ◌<◌}
 use mathlib.Core.Path.{◌≡◌, refl, sym, ap, ◌∙◌, subst}
 use mathlib.Core.List.{List, [], ◌∷◌}
 use mathlib.Core.Bool.{Bool, true, false, ◌&&◌}
 use Rattle.std.specs.Prelude.{Option, None, Some}
 use native.Mathlib.Omega.{arith}
-use lib.ListN.{length, take, drop, length-drop}
-use lib.Seq.{length-take-le}
+use lib.ListN.{length, take, drop}
 use Rattle.rules.specs.Basic.{all}
 use Rattle.rules.specs.Text.{text_trimmed}
 use Rattle.rules.specs.Event as rules
@@ -37,7 +36,9 @@ use Rattle.events.specs.declared.EventView.{EventView}
 use Rattle.events.specs.declared.EventView.TheVariants as event
 use Rattle.known_events.specs.Fields.{ComponentEventFields, InsideFields, EventFields}
 use Rattle.metadata.proofs.Whole.{text_content}
-use Rattle.model.specs.Memory.{windows_of}
+use Rattle.model.specs.Memory.{windows_of, Sound}
+use Rattle.model.specs.declared.Held.{Held}
+use Rattle.memory.proofs.Whole.{long_ingredients, long_cookware}
 use Rattle.model.specs.declared.Kind.TheVariants as kinds
 use Rattle.model.specs.declared.Open.{Open}
 use Rattle.model.specs.declared.Open.TheVariants as block
@@ -113,18 +114,14 @@ module _ (flags : ℕ) (line : List ℕ) (f : Follow) {b : Between} where
 -- ---- components in a step
 
 -- the row of an ingredient or of cookware is in its window
-module _ (w : List ℕ) (f : Follow) (l : 24157 ≤ length w) (z : Few f) where
+module _ {w : List ℕ} {h : Held} (s : Sound w h) {f : Follow} (z : Few f) where
   pub ingredient_room : (f.ingredients < 513) × (f.ingredients * 12 + 12 ≤ length (take 6156 (drop 0 w)))
-  ingredient_room =
-      let d : length (drop 0 w) ≡ length w - 0 = length-drop 0 w in
-      let k : length (take 6156 (drop 0 w)) ≡ 6156 = length-take-le 6156 (drop 0 w) (omega (arith, d, l)) in
-      (omega (arith, z.ingredients), omega (arith, z.ingredients, k))
+  unfolding windows_of
+  ingredient_room = (omega (arith, z.ingredients), omega (arith, z.ingredients, long_ingredients s))
 
   pub cookware_room : (f.cookware < 513) × (f.cookware * 12 + 12 ≤ length (take 3084 (drop 6156 w)))
-  cookware_room =
-      let d : length (drop 6156 w) ≡ length w - 6156 = length-drop 6156 w in
-      let k : length (take 3084 (drop 6156 w)) ≡ 3084 = length-take-le 3084 (drop 6156 w) (omega (arith, d, l)) in
-      (omega (arith, z.cookware), omega (arith, z.cookware, k))
+  unfolding windows_of
+  cookware_room = (omega (arith, z.cookware), omega (arith, z.cookware, long_cookware s))
 
 module _ (w : List ℕ) (f : Follow) {c : ComponentEvent} where
   component_as_lem : (y : ComponentEvent) {r : Plain} → c ≡ y → ComponentTold w y f r → ComponentTold w c f r

@@ -127,9 +127,6 @@ module _ {text : List ℕ} {us : List NamedUnit} {flags : ℕ} {sheet w : List �
   pub form_kept : length o ≡ length o₀
   form_kept = keeps d.is.put
 
-  pub form_long : 24157 ≤ length w
-  form_long = d.is.memory.sound.long
-
   pub form_number : number ≤ at + 1
   form_number = d.is.low
 

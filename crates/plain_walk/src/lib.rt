@@ -19,7 +19,8 @@ ghost use Rattle.plain_walk.specs.Walk.{PassDone, FormWritten};
 use components::ComponentView;
 use events::{Between, ComponentEvent, EventView, Inside};
 use following::Follow;
-use model::{Held, Kind, Open};
+use memory::Stored;
+use model::{Kind, Open};
 use parts::{Span, TextView};
 use reading::ReadSheet;
 use refusals::{Reason, Refusal};
@@ -74,29 +75,29 @@ fn check_row(sheet: &[u8], rows: &[u32], n: usize, reference: bool) -> Result<()
 }
 
 // 23 of a component in a step.
-fn check_mark(sheet: &[u8], words: &[u32], c: ComponentEvent, f: Follow) -> Result<(), Reason>
-    requires { (24157 ≤ length words.now) × ComponentReady sheet.now words.now c f }
-    ensures { StepFault sheet.now words.now c f result }
+fn check_mark(sheet: &[u8], stored: &Stored, c: ComponentEvent, f: Follow) -> Result<(), Reason>
+    requires { ComponentReady sheet.now stored.now.words.now c f }
+    ensures { StepFault sheet.now stored.now.words.now c f result }
 {
     match c {
         ComponentEvent::Ingredient(v, i) => {
             let n = f.ingredients as usize;
             let m = v.modifiers;
-            check_row(sheet, &words[0..6156], n, m.reference)
+            check_row(sheet, &stored.words[0..6156], n, m.reference)
         }
         ComponentEvent::Cookware(v) => {
             let n = f.cookware as usize;
             let m = v.modifiers;
-            check_row(sheet, &words[6156..9240], n, m.reference)
+            check_row(sheet, &stored.words[6156..9240], n, m.reference)
         }
         ComponentEvent::Timer(s, n, q) => Ok(()),
     }
 }
 
 // 22 or 23 of a line in a block.
-fn check_inside(sheet: &[u8], words: &[u32], i: Inside, f: Follow) -> Result<(), Reason>
-    requires { (24157 ≤ length words.now) × InsideReady sheet.now words.now i f }
-    ensures { LineFault sheet.now words.now (event.Inside i) f result }
+fn check_inside(sheet: &[u8], stored: &Stored, i: Inside, f: Follow) -> Result<(), Reason>
+    requires { InsideReady sheet.now stored.now.words.now i f }
+    ensures { LineFault sheet.now stored.now.words.now (event.Inside i) f result }
 {
     match i {
         Inside::End(kind) => Ok(()),
@@ -110,7 +111,7 @@ fn check_inside(sheet: &[u8], words: &[u32], i: Inside, f: Follow) -> Result<(),
                     if blocks::is_components(define) {
                         return Err(Reason::InComponentsMode);
                     }
-                    check_mark(sheet, words, c, f)
+                    check_mark(sheet, stored, c, f)
                 }
                 Open::Text => Ok(()),
                 Open::TextMode => Ok(()),
@@ -120,13 +121,13 @@ fn check_inside(sheet: &[u8], words: &[u32], i: Inside, f: Follow) -> Result<(),
 }
 
 // 22 or 23 of any line.
-fn check_marks(sheet: &[u8], words: &[u32], e: EventView, f: Follow) -> Result<(), Reason>
-    requires { (24157 ≤ length words.now) × EventReady sheet.now words.now e f }
-    ensures { LineFault sheet.now words.now e f result }
+fn check_marks(sheet: &[u8], stored: &Stored, e: EventView, f: Follow) -> Result<(), Reason>
+    requires { EventReady sheet.now stored.now.words.now e f }
+    ensures { LineFault sheet.now stored.now.words.now e f result }
 {
     match e {
         EventView::Between(b) => Ok(()),
-        EventView::Inside(i) => check_inside(sheet, words, i, f),
+        EventView::Inside(i) => check_inside(sheet, stored, i, f),
         EventView::Finding(s, n) => Ok(()),
     }
 }
@@ -190,15 +191,15 @@ fn between_plain(flags: u32, line: &[u8], b: Between, f: Follow) -> Plain
 }
 
 // A component in a step that is kept.
-fn component_plain(words: &[u32], c: ComponentEvent, f: Follow) -> Plain
-    requires { (24157 ≤ length words.now) × Few f }
-    ensures { ComponentTold words.now c f result }
+fn component_plain(stored: &Stored, c: ComponentEvent, f: Follow) -> Plain
+    requires { Few f }
+    ensures { ComponentTold stored.now.words.now c f result }
 {
     match c {
         ComponentEvent::Ingredient(v, i) => {
             let n = f.ingredients as usize;
             let m = v.modifiers;
-            match implicit_row(&words[0..6156], n, m.reference) {
+            match implicit_row(&stored.words[0..6156], n, m.reference) {
                 None => Plain::Copied,
                 Some(d) => Plain::Marked(Kind::Ingredient, v),
             }
@@ -206,7 +207,7 @@ fn component_plain(words: &[u32], c: ComponentEvent, f: Follow) -> Plain
         ComponentEvent::Cookware(v) => {
             let n = f.cookware as usize;
             let m = v.modifiers;
-            match implicit_row(&words[6156..9240], n, m.reference) {
+            match implicit_row(&stored.words[6156..9240], n, m.reference) {
                 None => Plain::Copied,
                 Some(d) => Plain::Marked(Kind::Cookware, v),
             }
@@ -216,9 +217,9 @@ fn component_plain(words: &[u32], c: ComponentEvent, f: Follow) -> Plain
 }
 
 // A line in a step.
-fn step_plain(words: &[u32], i: Inside, f: Follow) -> Plain
-    requires { (24157 ≤ length words.now) × Few f }
-    ensures { BlockTold words.now i block.Step f result }
+fn step_plain(stored: &Stored, i: Inside, f: Follow) -> Plain
+    requires { Few f }
+    ensures { BlockTold stored.now.words.now i block.Step f result }
 {
     let define = f.define;
     if blocks::is_components(define) {
@@ -227,7 +228,7 @@ fn step_plain(words: &[u32], i: Inside, f: Follow) -> Plain
     match i {
         Inside::End(kind) => Plain::Copied,
         Inside::Text(body) => Plain::Copied,
-        Inside::Component(c) => component_plain(words, c, f),
+        Inside::Component(c) => component_plain(stored, c, f),
     }
 }
 
@@ -242,26 +243,26 @@ fn text_plain(i: Inside) -> Plain
     }
 }
 
-fn inside_plain(words: &[u32], i: Inside, f: Follow) -> Plain
-    requires { (24157 ≤ length words.now) × Few f }
-    ensures { BlockTold words.now i f.block f result }
+fn inside_plain(stored: &Stored, i: Inside, f: Follow) -> Plain
+    requires { Few f }
+    ensures { BlockTold stored.now.words.now i f.block f result }
 {
     let b = f.block;
     match b {
         Open::Nothing => Plain::Copied,
-        Open::Step => step_plain(words, i, f),
+        Open::Step => step_plain(stored, i, f),
         Open::Text => Plain::Copied,
         Open::TextMode => text_plain(i),
     }
 }
 
-fn plain_of(flags: u32, line: &[u8], words: &[u32], e: EventView, f: Follow) -> Plain
-    requires { EventWithin line.now e × (24157 ≤ length words.now) × Few f }
-    ensures { EventTold flags words.now line.now e f result }
+fn plain_of(flags: u32, line: &[u8], stored: &Stored, e: EventView, f: Follow) -> Plain
+    requires { EventWithin line.now e × Few f }
+    ensures { EventTold flags stored.now.words.now line.now e f result }
 {
     match e {
         EventView::Between(b) => between_plain(flags, line, b, f),
-        EventView::Inside(i) => inside_plain(words, i, f),
+        EventView::Inside(i) => inside_plain(stored, i, f),
         EventView::Finding(s, n) => Plain::Copied,
     }
 }
@@ -294,16 +295,15 @@ fn put_plain(out: &mut [u8], at: usize, text: &Utf8, line: &[u8], p: Plain) -> u
 
 // ---- the form
 
-// The plain form of a sheet that the pass accepted, written in `out`; `words` and `h` are what the pass left.
+// The plain form of a sheet that the pass accepted, written in `out`.
 pub fn plain_form_lines(
     sheet: &ReadSheet,
     units: &[u8],
     flags: u32,
-    words: &[u32],
-    h: Held,
+    stored: &Stored,
     out: &mut [u8],
 ) -> Result<usize, Refusal>
-    requires { (length sheet.now.bytes.now ≤ 65536) × (is_utf8 sheet.now.text.now ≡ true) × PassDone sheet.now.text.now (units_or (read_units units.now)) flags sheet.now.bytes.now words.now h }
+    requires { (length sheet.now.bytes.now ≤ 65536) × (is_utf8 sheet.now.text.now ≡ true) × PassDone sheet.now.text.now (units_or (read_units units.now)) flags sheet.now.bytes.now stored.now.words.now stored.now.held }
     ensures { FormWritten sheet.now.text.now (units_or (read_units units.now)) flags sheet.now.bytes.now out.old out.new result }
 {
     let text = Utf8 { bytes: sheet.text };
@@ -317,13 +317,13 @@ pub fn plain_form_lines(
         };
         let line = &sheet.bytes[at..end];
         let e = known_events::event_of(line);
-        if let Err(reason) = check_marks(sheet.bytes, words, e, f) {
+        if let Err(reason) = check_marks(sheet.bytes, stored, e, f) {
             return Err(Refusal {
                 reason,
                 line: number,
             });
         }
-        let p = plain_of(flags, line, words, e, f);
+        let p = plain_of(flags, line, stored, e, f);
         n = put_plain(out, n, &text, line, p);
         f = following::follow_event(flags, line, e, f, 0);
         at = end + 1;

@@ -9,7 +9,7 @@ use borrow.Author.Tests.{le-leb, leb-true}
 use lib.Dec.{leb}
 use lib.ListN.{length}
 use Rattle.rules.specs.Basic.{pick}
-use Rattle.rules.specs.State.{Outcome, recipe}
+use Rattle.rules.specs.State.{recipe}
 use Rattle.rules.specs.Answer as rules
 use Rattle.rules.specs.Answer.{answered, declined, Lent, is_short, hand_out, written, collection, collect_answer, plain_answer}
 use Rattle.rules.specs.Page.{recipe_page}
@@ -20,7 +20,7 @@ use Rattle.rules.proofs.PlainForm as rules-proofs
 use Rattle.refusals.specs.declared.Refusal.{Refusal}
 use Rattle.recipe.proofs.Clears.{not_answered, same_bytes}
 use Rattle.recipe.specs.Answers.{answer_of, PlainFormed}
-use Rattle.recipe.specs.Demand3.{SameCollected, Hands, Demand3}
+use Rattle.recipe.specs.Demand3.{SameCollected, Demand3}
 
 -- ---- with the memory lent
 abbrev Lends : Bool → ℕ → rules.Answer → List ℕ → Type 0

@@ -1,9 +1,9 @@
 -- The first `error` line, line by line.
 use Rattle.std.specs.Prelude.{None, Option, Some}
-use Prim.Native.Nat.{ℕ, suc, ◌+◌, ◌-◌, ◌≤◌, ◌<◌}
+use Prim.Native.Nat.{ℕ, ◌+◌, ◌-◌, ◌≤◌, ◌<◌}
 use mathlib.Core.Path.{◌≡◌, refl, ap, sym, ◌∙◌}
 use mathlib.Core.Bool.{Bool, true, false}
-use mathlib.Core.List.{List, [], ◌∷◌}
+use mathlib.Core.List.{List, ◌∷◌}
 use native.Mathlib.Numerals.{add-one}
 use native.Mathlib.Omega.{arith}
 use lib.ListN.{length, take, drop}
@@ -14,7 +14,6 @@ use Rattle.rules.specs.Answer.{events, events_or, read_sheet, error_line}
 use Rattle.sheet.specs.Lines.{LineAt}
 use Rattle.reading.proofs.Passes.{Rest, rest_ends, rest_ended, rest_parsed}
 use Rattle.events.specs.declared.EventView.{EventView}
-use Rattle.events.specs.Views.{event_in}
 use Rattle.known_events.specs.Known.{KnownEvent}
 use Rattle.pass.specs.Walks.{ErrorView}
 

@@ -3,21 +3,19 @@ use Prim.Native.Nat.{ℕ, zero, suc, ◌+◌, ◌/◌, ◌%◌, ◌≤◌}
 use mathlib.Core.Path.{◌≡◌, refl, ap, sym, ◌∙◌}
 use mathlib.Core.List.{List, [], ◌∷◌, ◌++◌}
 use native.Mathlib.Omega.{arith}
-use Rattle.std.specs.Prelude.{Result, Ok, Err}
 use lib.Dec.{ltb}
 use lib.ListN.{length, take, drop, length-append}
 use lib.Seq.{take_at, drop_at}
 use Rattle.rules.specs.Basic.{codes, tab, lf, digits, decimal}
 use Rattle.rules.specs.Sheet.{escape, escape_char, refused_line}
-use Rattle.rules.specs.Answer.{printed}
+use Rattle.rules.specs.Answer as rules
+use Rattle.rules.specs.Answer.{answered, declined, printed}
 use Rattle.rules.proofs.Basics.{pick_either}
 use Rattle.rules.proofs.Numbers.{escape_decimal}
 use Rattle.output.specs.Put.{Put, tabbed}
 use Rattle.output.proofs.Puts.{keeps, put_room, put_fits}
 use Rattle.output.proofs.Texts.{line_tabbed}
-use Rattle.refusals.specs.Told.{number_of}
-use Rattle.refusals.specs.declared.Refusal.{Refusal}
-use Rattle.recipe.specs.Answers.{answer_of, used_of, PrintedAt, told_answer, told_used, ToldPrinted}
+use Rattle.recipe.specs.Answers.{Shown}
 
 -- ---- the line of a refusal is short
 digits_short : (k n : ℕ) → length (digits k n) ≤ k
@@ -46,14 +44,14 @@ refused_short n l =
     ))
 
 -- ---- the two ways
-module _ {r : Result ℕ (ℕ × ℕ)} {o₀ : List ℕ} where
-  pub page_told : {n : ℕ} → told_used r ≤ length o₀ → r ≡ Ok n → ToldPrinted r o₀ o₀ n
-  unfolding told_used told_answer printed
-  page_told {n} h q = rw q record { is = refl; rest = refl; fits = rw q at h }
+module _ {a : rules.Answer} {o₀ : List ℕ} where
+  pub page_shown : {n : ℕ} → n ≤ length o₀ → a ≡ answered (take n o₀) → Shown a o₀ o₀ n
+  unfolding printed
+  page_shown h q = rw q record { is = refl; rest = refl; fits = h }
 
-  pub refusal_told : {m l k : ℕ} {o : List ℕ} → 30 ≤ length o₀ → r ≡ Err (m, l) → Put (refused_line m l) o₀ 0 o k → ToldPrinted r o₀ o k
-  unfolding told_answer printed
-  refusal_told {m} {l} {k} {o} h q p =
+  pub refusal_shown : {m l k : ℕ} {o : List ℕ} → 30 ≤ length o₀ → a ≡ declined m l → Put (refused_line m l) o₀ 0 o k → Shown a o₀ o k
+  unfolding printed
+  refusal_shown {m} {l} {k} {o} h q p =
       let s : List ℕ = refused_line m l in
       let z : 0 + length s ≤ length o₀ = omega (arith, refused_short m l) in
       let e : k ≡ length s = omega (arith, put_room p z) in
@@ -66,12 +64,3 @@ module _ {r : Result ℕ (ℕ × ℕ)} {o₀ : List ℕ} where
             ∙ ap (λ (j : ℕ). drop j o₀) (let x : 0 + length s ≡ k = omega (arith, e) in x);
         fits = omega (arith, keeps p);
       }
-
-module _ {r : Result ℕ Refusal} {o₀ : List ℕ} where
-  pub page_printed : {n : ℕ} → used_of r ≤ length o₀ → r ≡ Ok n → PrintedAt r o₀ o₀ n
-  unfolding used_of answer_of printed
-  page_printed {n} h q = rw q record { is = refl; rest = refl; fits = rw q at h }
-
-  pub refusal_printed : {f : Refusal} {n k : ℕ} {o : List ℕ} → r ≡ Err f → n ≡ number_of f.reason → ToldPrinted (Err (n, f.line)) o₀ o k → PrintedAt r o₀ o k
-  unfolding answer_of told_answer printed
-  refusal_printed {f} {n} {k} {o} q i t = let u : ToldPrinted (Err (number_of f.reason, f.line)) o₀ o k = rw i at t in rw q record { is = u.is; rest = u.rest; fits = u.fits }

@@ -13,7 +13,7 @@ answer_of (Ok n) out = answered (take n out)
 answer_of (Err f) out = declined (number_of f.reason) f.line
 
 -- how many bytes of the output an answer hands out
-unfoldable pub used_of : Result ℕ Refusal → ℕ
+unfoldable pub used_of : {E : Type 0} → Result ℕ E → ℕ
 used_of (Ok n) = n
 used_of (Err f) = 0
 
@@ -87,24 +87,21 @@ Collected sheet text units flags m w b o r = AnswerLeft (collect_answer sheet te
 abbrev pub PlainFormed : List ℕ → List ℕ → List ℕ → ℕ → Lent → List ℕ → List ℕ → List ℕ → Result ℕ Refusal → Type 0
 PlainFormed sheet text units flags m w b o r = AnswerLeft (plain_answer sheet text units flags m) m w b o r
 
--- what the programs print of an answer r in the output o₀: n bytes at the front of o; the rest is as it was. Ruled out: a program
--- that prints the page's bytes behind a refusal's line (`is`); one that lets a refusal's line run over what stood past it (`rest`).
-pub record PrintedAt (r : Result ℕ Refusal) (o₀ o : List ℕ) (n : ℕ) : Type 0 where
-  pub is : take n o ≡ printed (answer_of r o₀)
+-- what the programs print of an answer a, where o₀ is the output: n bytes at the front of o; the rest is as it was. Ruled out: a
+-- program that prints the page's bytes behind a refusal's line (`is`); one that lets a refusal's line run over what stood past it
+-- (`rest`); one that prints the line before the number (`is`).
+pub record Shown (a : rules.Answer) (o₀ o : List ℕ) (n : ℕ) : Type 0 where
+  pub is : take n o ≡ printed a
   pub rest : drop n o ≡ drop n o₀
   pub fits : n ≤ length o
+
+abbrev pub PrintedAt : Result ℕ Refusal → List ℕ → List ℕ → ℕ → Type 0
+PrintedAt r o₀ o n = Shown (answer_of r o₀) o₀ o n
 
 -- an answer whose refusal is told by any number and line
-unfoldable pub told_answer : Result ℕ (ℕ × ℕ) → List ℕ → rules.Answer
-told_answer (Ok n) out = answered (take n out)
-told_answer (Err f) out = declined f.0 f.1
+unfoldable pub answer_told : Result ℕ (ℕ × ℕ) → List ℕ → rules.Answer
+answer_told (Ok n) out = answered (take n out)
+answer_told (Err f) out = declined f.0 f.1
 
-unfoldable pub told_used : Result ℕ (ℕ × ℕ) → ℕ
-told_used (Ok n) = n
-told_used (Err f) = 0
-
--- the same of such an answer. Ruled out: a program that prints the line before the number (`is`).
-pub record ToldPrinted (r : Result ℕ (ℕ × ℕ)) (o₀ o : List ℕ) (n : ℕ) : Type 0 where
-  pub is : take n o ≡ printed (told_answer r o₀)
-  pub rest : drop n o ≡ drop n o₀
-  pub fits : n ≤ length o
+abbrev pub ToldPrinted : Result ℕ (ℕ × ℕ) → List ℕ → List ℕ → ℕ → Type 0
+ToldPrinted r o₀ o n = Shown (answer_told r o₀) o₀ o n

@@ -6,9 +6,10 @@ ghost use Rattle.std.specs.Prelude.{◌≡◌, ◌≤◌, length};
 ghost use Rattle.rules.specs.Answer.{words_needed, bytes_needed, events_or, read_sheet, collect_answer, error_line, form_answer, plain_answer};
 ghost use Rattle.page.specs.Pages.{RecipeGiven};
 ghost use Rattle.inputs.specs.Inputs.{GoodInputs};
-ghost use Rattle.recipe.specs.Answers.{used_of, answer_code, usable_of, usable_lent, lengths, lent_of, page_or20, Answered, Collected, PlainFormed, Coded, PrintedAt, told_used, ToldPrinted};
+ghost use Rattle.recipe.specs.Answers.{used_of, answer_code, usable_of, usable_lent, lengths, lent_of, page_or20, Answered, Collected, PlainFormed, Coded, PrintedAt, ToldPrinted};
 ghost use Rattle.recipe.specs.Forms.{tells17, form_given};
 
+use memory::Stored;
 use model::Held;
 use reading::ReadSheet;
 use refusals::{Reason, Refusal};
@@ -185,14 +186,8 @@ fn write_form(
     requires { RecipeGiven sheet.now.bytes.now sheet.now.text.now units.now.lines.now flags words.old h × (65536 ≤ length bytes.old) }
     ensures { Answered (form_given sheet.now.bytes.now sheet.now.text.now units.now.lines.now flags (length out.old)) (length out.old) out.new result }
 {
-    let n = plain_walk::plain_form_lines(
-        sheet,
-        units.lines,
-        flags,
-        words,
-        h,
-        &mut bytes[0..65536],
-    )?;
+    let stored = Stored { words, held: h };
+    let n = plain_walk::plain_form_lines(sheet, units.lines, flags, &stored, &mut bytes[0..65536])?;
     if 65536 < n {
         let reason = Reason::LongForm;
         return Err(Refusal { reason, line: 0 });
@@ -269,7 +264,7 @@ pub fn plain_form(
 // What is printed of an answer whose refusal is told by any number and line, put at the front of the output: the page or the
 // form, which is there already, or the line of the refusal.
 pub fn print_told(r: Result<usize, (u32, u32)>, out: &mut [u8]) -> usize
-    requires { (told_used r ≤ length out.old) × (30 ≤ length out.old) }
+    requires { (used_of r ≤ length out.old) × (30 ≤ length out.old) }
     ensures { ToldPrinted r out.old out.new result }
 {
     match r {

@@ -8,7 +8,7 @@ use native.Mathlib.Omega.{arith}
 use lib.ListN.{length, get_or, take, drop}
 use lib.Seq.{take-take}
 use Rattle.rules.specs.Basic.{pick}
-use Rattle.rules.specs.Model.{Kind, ingredient, cookware, to_step, to_section, Relation, reference, target_of, Entry, set_relation, set_modifiers}
+use Rattle.rules.specs.Model.{Kind, ingredient, cookware, to_step, to_section, reference, target_of, Entry, set_relation, set_modifiers}
 use Rattle.rules.specs.Reference.{entry_at, is_definition}
 use Rattle.rules.proofs.Basics.{no_truth, some_inj}
 use Rattle.rules.proofs.Referrers.{is_own, own_target, Linked, DefinedAt, entry_below}

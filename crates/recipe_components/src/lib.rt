@@ -2,13 +2,12 @@
 #![tactic(auto)]
 
 ghost use Rattle.std.specs.Prelude.{◌≡◌, ◌+◌, ◌*◌, ◌<◌, ◌≤◌, length};
-ghost use Rattle.model.specs.Memory.{Sound};
 ghost use Rattle.inputs.specs.Inputs.{GoodInputs};
 ghost use Rattle.recipe_components.specs.Components.{ComponentsLeft};
 ghost use Rattle.recipe_components.specs.Tables.{ingredients_of, cookware_of, OwnCounted, room_for, room_of, is_room_for, counts_or20, RowsCollected, Ready, Laid};
 
 use component_records::Component;
-use model::Held;
+use memory::Stored;
 use reading::ReadSheet;
 use refusals::{Reason, Refusal};
 use unit_index::UnitList;
@@ -72,18 +71,17 @@ fn table_fits(count: usize, pairs: usize, records: usize, words: usize) -> bool
 
 // The counts of a recipe, or 20 where some of it does not fit.
 fn recipe_counts(
-    words: &[u32],
-    h: Held,
+    stored: &Stored,
     ingredients: usize,
     ingredient_pairs: usize,
     cookware: usize,
     cookware_pairs: usize,
 ) -> Components
-    requires { Sound words.now h }
-    ensures { result ≡ counts_or20 words.now h (room_for ingredients ingredient_pairs) (room_for cookware cookware_pairs) }
+    ensures { result ≡ counts_or20 stored.now.words.now stored.now.held (room_for ingredients ingredient_pairs) (room_for cookware cookware_pairs) }
 {
-    let i = own_references(words, 0, h.counts.ingredients);
-    let c = own_references(words, 6156, h.counts.cookware);
+    let h = stored.held;
+    let i = own_references(stored.words, 0, h.counts.ingredients);
+    let c = own_references(stored.words, 6156, h.counts.cookware);
     if table_fits(h.counts.ingredients, i, ingredients, ingredient_pairs) {
         if table_fits(h.counts.cookware, c, cookware, cookware_pairs) {
             return Ok(Some(ComponentCounts {
@@ -115,14 +113,16 @@ fn pass_rows(
     ensures { RowsCollected sheet.now.bytes.now sheet.now.text.now units.now.lines.now flags (room_of (length words.old) ingredients ingredient_pairs cookware cookware_pairs) words.new result }
 {
     match pass::run(sheet, units, flags, words)? {
-        Some(h) => recipe_counts(
-            words,
-            h,
-            ingredients,
-            ingredient_pairs,
-            cookware,
-            cookware_pairs,
-        ),
+        Some(held) => {
+            let stored = Stored { words, held };
+            recipe_counts(
+                &stored,
+                ingredients,
+                ingredient_pairs,
+                cookware,
+                cookware_pairs,
+            )
+        }
         None => Ok(None),
     }
 }

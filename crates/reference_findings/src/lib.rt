@@ -7,13 +7,13 @@ ghost use Rattle.rules.specs.Finding.{diag};
 ghost use Rattle.rules.specs.Model.{both, any_beyond, with_ref, inherits};
 ghost use Rattle.parts.specs.Views.{span_in};
 ghost use Rattle.components.specs.Views.{modifiers_in};
-ghost use Rattle.model.specs.Memory.{Sound};
 ghost use Rattle.model.specs.Rows.{finding_of};
 ghost use Rattle.reference_findings.specs.Reports.{RedundantNew, RedundantRef, ConflictOrMissing, ReferenceReported};
 ghost use Rattle.model.specs.Kinds.{kind_of};
 
 use components::Modifiers;
-use model::{Held, Kind, Noted};
+use memory::Memory;
+use model::{Kind, Noted};
 use parts::Span;
 use sheet::{Define, Duplicate};
 
@@ -97,33 +97,34 @@ fn conflict_or_missing(
 
 // What is found at a new component with the modifiers `m`, of the span `span`, its modifiers at `at`.
 pub fn reference_findings(
-    words: &mut [u32],
-    h: Held,
+    memory: &mut Memory,
     kind: Kind,
     m: Modifiers,
     span: Span,
     at: Span,
     old: Option<Modifiers>,
-) -> Held
-    requires { Sound words.old h × (h.counts.findings + 1 < 1544) }
-    ensures { ReferenceReported (kind_of kind) m span at old words.old h words.new result }
+)
+    requires { memory.old.held.counts.findings + 1 < 1544 }
+    ensures done { ReferenceReported (kind_of kind) m span at old memory.old.words.now memory.old.held memory.new.words.now memory.new.held }
+    ensures lent { memory.new.words.ghost_name ≡ memory.old.words.ghost_name }
 {
-    let define = h.define;
-    let duplicate = h.duplicate;
+    let define = memory.held.define;
+    let duplicate = memory.held.duplicate;
     let is_found = old.is_some();
     let explicit = m.reference;
     if m.new {
         if explicit {
-            return memory::push_finding(words, h, one_span(10, at, false));
+            memory.push_finding(one_span(10, at, false));
+            return;
         }
         let found = redundant_new(define, duplicate, is_found, at);
-        return memory::push_found(words, h, found);
+        memory.push_found(found);
+        return;
     }
     let found = redundant_ref(define, duplicate, explicit, at);
-    let k = memory::push_found(words, h, found);
+    memory.push_found(found);
     if lookup::treat_as_reference(define, duplicate, explicit, is_found) {
         let found = conflict_or_missing(kind, m, span, at, old);
-        return memory::push_found(words, k, found);
+        memory.push_found(found);
     }
-    k
 }

@@ -5,8 +5,8 @@
 
 ghost use Rattle.std.specs.Prelude.{◌≡◌, ◌*◌, ◌≤◌, length};
 ghost use Rattle.inputs.specs.Inputs.{GoodInputs};
-ghost use Rattle.model.specs.Memory.{Sound};
 
+use memory::Stored;
 use model::{Held, Kind, RelationRecord};
 use reading::ReadSheet;
 use refusals::Refusal;
@@ -60,9 +60,8 @@ fn show_components(
     Ok(())
 }
 
-fn show_both(rt: &impl Print, words: &[u32], h: Held) -> io::Result<()>
-    requires { Sound words.now h }
-{
+fn show_both(rt: &impl Print, stored: &Stored) -> io::Result<()> {
+    let (words, h) = (stored.words, stored.held);
     show_components(
         rt,
         &words[0..6156],
@@ -133,7 +132,7 @@ fn run(
     match pass::run(sheet, units, flags, words) {
         Ok(Some(h)) => {
             show_counts(rt, h)?;
-            show_both(rt, words, h)
+            show_both(rt, &Stored { words, held: h })
         }
         Ok(None) => rt.write_all(b"no recipe\n"),
         Err(f) => show_refusal(rt, f),

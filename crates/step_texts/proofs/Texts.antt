@@ -18,7 +18,6 @@ use Rattle.rules.specs.Modes.{is_components, has_inline}
 use Rattle.rules.specs.State.{State, set_block, set_place, set_kept, set_tables, set_inline, report}
 use Rattle.rules.specs.Pass.{items_of, quantities_of, push_items, push_pieces, pieces, text_in_step}
 use Rattle.content.specs.Contents as content
-use Rattle.content.specs.Parts.{Field}
 use Rattle.content.proofs.Plains as plains
 use Rattle.inline.specs.Items.{CountsOf}
 use Rattle.inline.specs.declared.Counts.{Counts}
@@ -175,7 +174,3 @@ module _ {us : List NamedUnit} {flags : ℕ} {line : List ℕ} {v : TextView} {h
     unfolding pieces has_inline
     text_inline {f} n z g k p =
         text_pieces (inline_pieces us (content.content_in f)) (rw (eq-eqb (flags / 2 % 2) 1 n) (ap (inline_pieces us) (sym (body_content line v f z g)))) (sym k.items) (sym k.quantities) p
-
--- the part that was taken
-pub field_part : {f g : List ℕ} → f ≡ g → Field g → Field f
-field_part e z = rw e z

@@ -6,10 +6,10 @@ ghost use Rattle.rules.specs.Units.{read_units};
 ghost use Rattle.rules.specs.Answer.{units_or};
 ghost use Rattle.content.specs.Parts.{Field};
 ghost use Rattle.parts.specs.Views.{part_of, TextWithin};
-ghost use Rattle.model.specs.Memory.{Sound};
 ghost use Rattle.model.specs.Small.{with_inline};
 ghost use Rattle.step_texts.specs.Texts.{PiecesPushed, TextDone};
 
+use memory::Memory;
 use model::Held;
 use parts::TextView;
 use unit_index::UnitList;
@@ -32,31 +32,25 @@ fn push_pieces(h: Held, items: usize, quantities: usize) -> Held
     blocks::push_items(k, items)
 }
 
-pub fn text_in_step(
-    units: &UnitList,
-    flags: u32,
-    line: &[u8],
-    body: TextView,
-    words: &mut [u32],
-    h: Held,
-) -> Held
-    requires { TextWithin line.now body × Field (part_of line.now body.content) × Sound words.old h × (h.counts.findings < 1544) × (h.counts.items + length line.now < 100000) × (h.counts.inline + length line.now < 100000) }
-    ensures { TextDone (units_or (read_units units.now.lines.now)) flags line.now body words.old h words.new result }
+pub fn text_in_step(units: &UnitList, flags: u32, line: &[u8], body: TextView, memory: &mut Memory)
+    requires { TextWithin line.now body × Field (part_of line.now body.content) × (memory.old.held.counts.findings < 1544) × (memory.old.held.counts.items + length line.now < 100000) × (memory.old.held.counts.inline + length line.now < 100000) }
+    ensures done { TextDone (units_or (read_units units.now.lines.now)) flags line.now body memory.old.words.now memory.old.held memory.new.words.now memory.new.held }
+    ensures lent { memory.new.words.ghost_name ≡ memory.old.words.ghost_name }
 {
     let f = parts::part_of(line, body.content);
-    let define = h.define;
-    if blocks::is_components(define) {
+    if blocks::is_components(memory.held.define) {
         if text::has_alphanumeric(f) {
             let s = body.span;
             let x = model::one_span(4, s.start, s.end, false);
-            return memory::push_finding(words, h, x);
+            memory.push_finding(x);
         }
-        return h;
+        return;
     }
     let bit = flags / 2 % 2;
     if bit == 1 {
         let n = inline::count_items(units, f);
-        return push_pieces(h, n.items, n.quantities);
+        memory.held = push_pieces(memory.held, n.items, n.quantities);
+    } else {
+        memory.held = push_pieces(memory.held, 1, 0);
     }
-    push_pieces(h, 1, 0)
 }

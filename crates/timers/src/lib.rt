@@ -10,11 +10,11 @@ ghost use Rattle.rules.specs.Model.{is_textual};
 ghost use Rattle.sheet.specs.Words.{kind_in};
 ghost use Rattle.units.specs.Quantities.{physical_in};
 ghost use Rattle.parts.specs.Views.{span_in, OptTextWithin, OptQuantityWithin};
-ghost use Rattle.model.specs.Memory.{Sound};
 ghost use Rattle.model.specs.Rows.{if_found};
 ghost use Rattle.model.specs.Small.{with_timers};
 ghost use Rattle.timers.specs.Timed.{LockChecked, time_code, UnitChecked, TimeChecked, TimerPushed, TimerDone};
 
+use memory::Memory;
 use model::{Held, Noted};
 use parts::{QuantityView, Span, TextView};
 use sheet::ValueKind;
@@ -66,26 +66,18 @@ fn unit_finding(units: &UnitList, line: &[u8], unit: Option<TextView>) -> Option
 }
 
 // The checks of a timer's quantity with flag 4.
-fn time_checks(
-    units: &UnitList,
-    words: &mut [u32],
-    h: Held,
-    line: &[u8],
-    quantity: Option<QuantityView>,
-) -> Held
-    requires { OptQuantityWithin line.now quantity × Sound words.old h × (h.counts.findings + 1 < 1544) }
-    ensures { TimeChecked (units_or (read_units units.now.lines.now)) line.now quantity words.old h words.new result }
+fn time_checks(units: &UnitList, memory: &mut Memory, line: &[u8], quantity: Option<QuantityView>)
+    requires { OptQuantityWithin line.now quantity × (memory.old.held.counts.findings + 1 < 1544) }
+    ensures done { TimeChecked (units_or (read_units units.now.lines.now)) line.now quantity memory.old.words.now memory.old.held memory.new.words.now memory.new.held }
+    ensures lent { memory.new.words.ghost_name ≡ memory.old.words.ghost_name }
 {
-    match quantity {
-        None => h,
-        Some(q) => {
-            let kind = q.kind;
-            let unit = q.unit;
-            let text = text_finding(kind, q.value_span);
-            let k = memory::push_found(words, h, text);
-            let known = unit_finding(units, line, unit);
-            memory::push_found(words, k, known)
-        }
+    if let Some(q) = quantity {
+        let kind = q.kind;
+        let unit = q.unit;
+        let text = text_finding(kind, q.value_span);
+        memory.push_found(text);
+        let known = unit_finding(units, line, unit);
+        memory.push_found(known);
     }
 }
 
@@ -113,17 +105,16 @@ pub fn on_timer(
     line: &[u8],
     name: Option<TextView>,
     quantity: Option<QuantityView>,
-    words: &mut [u32],
-    h: Held,
-) -> Held
-    requires { OptQuantityWithin line.now quantity × Sound words.old h × (h.counts.findings + 2 < 1544) × (h.counts.timers < 100000) × (h.counts.items < 100000) }
-    ensures { TimerDone (units_or (read_units units.now.lines.now)) flags line.now name quantity words.old h words.new result }
+    memory: &mut Memory,
+)
+    requires { OptQuantityWithin line.now quantity × (memory.old.held.counts.findings + 2 < 1544) × (memory.old.held.counts.timers < 100000) × (memory.old.held.counts.items < 100000) }
+    ensures done { TimerDone (units_or (read_units units.now.lines.now)) flags line.now name quantity memory.old.words.now memory.old.held memory.new.words.now memory.new.held }
+    ensures lent { memory.new.words.ghost_name ≡ memory.old.words.ghost_name }
 {
-    let k = memory::push_found(words, h, lock_finding(quantity));
+    memory.push_found(lock_finding(quantity));
     let bit = flags / 4 % 2;
     if bit == 1 {
-        let m = time_checks(units, words, k, line, quantity);
-        return push_timer(m);
+        time_checks(units, memory, line, quantity);
     }
-    push_timer(k)
+    memory.held = push_timer(memory.held);
 }

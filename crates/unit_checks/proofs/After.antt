@@ -21,7 +21,7 @@ use Rattle.parts.specs.Views.{opt_quantity_in}
 use Rattle.components.specs.declared.ComponentView.{ComponentView}
 use Rattle.components.specs.Views.{component_in, ComponentWithin}
 use Rattle.model.specs.Rows.{row_at, row_of, entry_as, relation_in, relation_as, referrers_in}
-use Rattle.model.specs.Memory.{windows_of, state_in, Sound}
+use Rattle.model.specs.Memory.{windows_of, state_in}
 use Rattle.model.specs.Fits.{AllFit}
 use Rattle.model.specs.declared.Relation.{Relation}
 use Rattle.model.specs.declared.Relation.TheVariants.{Definition, Reference}
@@ -33,7 +33,7 @@ use Rattle.model.proofs.Entries.{entry_relation}
 use Rattle.memory.specs.Pushes.{count_of, pairs_of}
 use Rattle.checks.specs.Reports.{NoteWithin, ReferenceChecked}
 use Rattle.memory.specs.Reports.{Reported}
-use Rattle.memory.proofs.Reports.{reported_seq, reported_sound, reported_fit, reported_count}
+use Rattle.memory.proofs.Reports.{reported_seq, reported_fit, reported_count}
 use Rattle.memory.proofs.Frames.{framed_count, reported_framed}
 use Rattle.checks.proofs.Laws.{none_found, said, note_read}
 use Rattle.lookup.specs.Names.{rows_in, pairs_in, earlier_at}
@@ -84,9 +84,13 @@ and_none : (x : Bool) (fs : List Finding) → pick (x && false) fs [] ≡ []
 and_none true fs = refl
 and_none false fs = refl
 
+other_kind : (b : kinds.Kind) → (b ≡ kind.Ingredient → ⊥) → b ≡ kind.Cookware
+other_kind kind.Ingredient u = absurd (u refl)
+other_kind kind.Cookware u = refl
+
 module _ (b : kinds.Kind) {us : List NamedUnit} {flags : ℕ} {sheet line : List ℕ} {a : Option QuantityView} {d : ℕ} {w₀ : List ℕ} {h₀ : Held} where
-  pub after_cookware : b ≡ kind.Cookware → UnitsAfter us flags (kind_of b) sheet line a d w₀ h₀ w₀ h₀
-  after_cookware e = rw e (record { is = λ new n. none_found (unfold is_ingredient in refl) })
+  pub after_other : (b ≡ kind.Ingredient → ⊥) → UnitsAfter us flags (kind_of b) sheet line a d w₀ h₀ w₀ h₀
+  after_other u = rw (other_kind b u) (record { is = λ new n. none_found (unfold is_ingredient in refl) })
 
   pub after_off : (flags / 4 % 2 ≡ 1 → ⊥) → UnitsAfter us flags (kind_of b) sheet line a d w₀ h₀ w₀ h₀
   after_off u =
@@ -149,9 +153,6 @@ after_most us x cookware new table sheet w h d = omega arith
 module _ {us : List NamedUnit} {flags : ℕ} {k : Kind} {sheet line : List ℕ} {a : Option QuantityView} {d : ℕ} {w₀ w : List ℕ} {h₀ h : Held} (c : UnitsAfter us flags k sheet line a d w₀ h₀ w h) where
   told : Reported (pick (is_ingredient k && has_advanced_units flags) (unit_check us (sample k line a) (table_of k (state_in sheet w₀ h₀)) (earlier_at k sheet w₀ h₀ d)) []) w₀ h₀ w h
   told = c.is (sample k line a) (sample_of k line a)
-
-  pub after_sound : Sound w₀ h₀ → Sound w h
-  after_sound z = reported_sound told z
 
   pub after_fit : AllFit sheet w₀ h₀ → AllFit sheet w h
   after_fit f = reported_fit told sheet f

@@ -25,6 +25,7 @@ use Rattle.model.specs.Fits.{Fits, AllFit}
 use Rattle.model.specs.Searches.{NextReferrer, NextAs}
 use Rattle.model.specs.declared.Target.{Target}
 use Rattle.model.specs.declared.Target.TheVariants.{Ingredient, Step, Section}
+use Rattle.model.specs.declared.Relation.{Relation}
 use Rattle.model.specs.declared.Relation.TheVariants.{Definition, Reference}
 use Rattle.model.specs.declared.Row.{Row}
 use Rattle.model.specs.declared.Noted.{Noted}
@@ -34,7 +35,7 @@ use Rattle.model.proofs.Searches.{referrers_oldest}
 use Rattle.memory.proofs.Whole.{long_ingredient_pairs}
 use Rattle.checks.specs.Reports.{UnitsChecked}
 use Rattle.memory.specs.Reports.{Reported, nothing}
-use Rattle.memory.proofs.Reports.{reported_seq, reported_as, reported_sound, reported_fit, found_count}
+use Rattle.memory.proofs.Reports.{reported_seq, reported_as, reported_fit, found_count}
 use Rattle.memory.proofs.Frames.{Framed, framed_none, framed_seq, framed_count, framed_pairs, reported_framed, reported_table}
 use Rattle.checks.proofs.Laws.{nothing_found, none_found, said}
 use Rattle.lookup.specs.Names.{rows_in, pairs_in, earlier_in, earlier_at}
@@ -178,13 +179,14 @@ nothing_told = nothing
 
 -- ---- the referrers
 
-pairs_long : {w : List ℕ} {h : Held} → Sound w h → length (take 1026 (drop 9240 w)) ≡ 1026
+pub pairs_ready : {w : List ℕ} {h : Held} → Sound w h → (h.counts.ingredient_pairs ≤ 513) × (h.counts.ingredient_pairs * 2 ≤ length (take 1026 (drop 9240 w)))
 unfolding windows_of
-pairs_long z = long_ingredient_pairs z
+pairs_ready {w} z =
+    let n : length (take 1026 (drop 9240 w)) ≡ 1026 = long_ingredient_pairs z in
+    (omega (arith, z.room.ingredients, z.room.ingredient_pairs), omega (arith, z.room.ingredients, z.room.ingredient_pairs))
 
 -- what is found from the pair at `from` on makes the whole
 pub record Going (us : List NamedUnit) (sheet line : List ℕ) (a : Option QuantityView) (d : ℕ) (w₀ : List ℕ) (h₀ : Held) (w : List ℕ) (h : Held) (from : ℕ) : Type 0 where
-  pub sound : Sound w h
   pub fit : AllFit sheet w h
   pub framed : Framed w₀ h₀ w h
   pub table : table_of ingredient (state_in sheet w h) ≡ table_of ingredient (state_in sheet w₀ h₀)
@@ -194,19 +196,14 @@ pub record Going (us : List NamedUnit) (sheet line : List ℕ) (a : Option Quant
       → Reported (units_against us new (table_of ingredient (state_in sheet w₀ h₀)) (referrers_from (windows_of w₀).ingredient_pairs d 0 h₀.counts.ingredient_pairs)) w₀ h₀ w₂ h₂
 
 module _ {us : List NamedUnit} {sheet line : List ℕ} {a : Option QuantityView} {d : ℕ} {w₀ : List ℕ} {h₀ : Held} where
-  pub going_start : Sound w₀ h₀ → AllFit sheet w₀ h₀ → h₀.counts.findings + h₀.counts.ingredient_pairs ≤ 1544 → Going us sheet line a d w₀ h₀ w₀ h₀ 0
-  going_start z f l =
+  pub going_start : AllFit sheet w₀ h₀ → h₀.counts.findings + h₀.counts.ingredient_pairs ≤ 1544 → Going us sheet line a d w₀ h₀ w₀ h₀ 0
+  going_start f l =
       let e : h₀.counts.ingredient_pairs - 0 ≡ h₀.counts.ingredient_pairs = omega arith in
-      record { sound = z; fit = f; framed = framed_none; table = refl; room = omega arith; is = λ new n w₂ h₂ r. rw e at r }
+      record { fit = f; framed = framed_none; table = refl; room = omega arith; is = λ new n w₂ h₂ r. rw e at r }
 
   module _ {w : List ℕ} {h : Held} {from : ℕ} (g : Going us sheet line a d w₀ h₀ w h from) where
     pub going_room : from < h₀.counts.ingredient_pairs → h.counts.findings < 1544
     going_room l = omega (arith, g.room)
-
-    pub going_ready : Sound w₀ h₀ → (h₀.counts.ingredient_pairs ≤ 513) × (h₀.counts.ingredient_pairs * 2 ≤ length (take 1026 (drop 9240 w)))
-    going_ready z =
-        let n : length (take 1026 (drop 9240 w)) ≡ 1026 = pairs_long g.sound in
-        (omega (arith, z.room.ingredients, z.room.ingredient_pairs), omega (arith, z.room.ingredients, z.room.ingredient_pairs))
 
     none_left : referrers_from (windows_of w₀).ingredient_pairs d from (h₀.counts.ingredient_pairs - from) ≡ [] → ReferrersChecked us sheet line a d w₀ h₀ w h
     none_left e = record { is = λ new n. g.is new n w h (none_found (rw e (unfold units_against in refl))) }
@@ -216,9 +213,12 @@ module _ {us : List NamedUnit} {sheet line : List ℕ} {a : Option QuantityView}
         let e : h₀.counts.ingredient_pairs - from ≡ 0 = omega arith in
         none_left (rw e (unfold referrers_from in refl))
 
-    module _ {x : Option (ℕ × ℕ)} (n : NextReferrer (take 1026 (drop 9240 w)) h₀.counts.ingredient_pairs d from x) where
+    module _ {x : Option (ℕ × ℕ)} (n : NextReferrer (windows_of w).ingredient_pairs h.counts.ingredient_pairs d from x) where
       next_is : NextAs (windows_of w₀).ingredient_pairs h₀.counts.ingredient_pairs d from x
-      next_is = let e = g.framed.ingredient_pairs in let z : NextReferrer (windows_of w).ingredient_pairs h₀.counts.ingredient_pairs d from x = unfold windows_of in n in rw e at z.is
+      next_is =
+          let e = g.framed.ingredient_pairs in
+          let k : h.counts.ingredient_pairs ≡ h₀.counts.ingredient_pairs = framed_pairs g.framed ingredient in
+          rw (e, k) at n.is
 
       pub going_end : x ≡ None → ReferrersChecked us sheet line a d w₀ h₀ w h
       going_end e = none_left (let z = next_is in rw e at z)
@@ -233,7 +233,6 @@ module _ {us : List NamedUnit} {sheet line : List ℕ} {a : Option QuantityView}
         pub going_turn : {y : Option Noted} {w₁ : List ℕ} {h₁ : Held} → from < h₀.counts.ingredient_pairs → RowChecked us sheet line a i w h y → Reported (if_found y) w h w₁ h₁ → Going us sheet line a d w₀ h₀ w₁ h₁ next
         going_turn l c p =
             record {
-              sound = reported_sound p g.sound;
               fit = reported_fit p sheet g.fit;
               framed = framed_seq g.framed (reported_framed p);
               table = reported_table p ingredient sheet ∙ g.table;
@@ -270,11 +269,15 @@ referrers_none k Ingredient in_step index _ = refl
 referrers_none k Step in_step index _ = refl
 referrers_none k Section in_step index _ = refl
 
-module _ {us : List NamedUnit} {sheet line : List ℕ} {a : Option QuantityView} {d : ℕ} {w₀ w₁ : List ℕ} {h₀ h₁ : Held} {r : Row} (e : r ≡ row_of (row_at 12 (take 6156 (drop 0 w₀)) d))
+referrers_other : (k : Kind) (x : Relation) → (x ≡ Definition → ⊥) → (in_step : Bool) (index : ℕ) (by : List ℕ) → referrers (relation_as k x in_step index by) ≡ []
+referrers_other k Definition n in_step index _ = absurd (n refl)
+referrers_other k (Reference t) n in_step index its = referrers_none k t in_step index its
+
+module _ {us : List NamedUnit} {sheet line : List ℕ} {a : Option QuantityView} {d : ℕ} {w₀ w₁ : List ℕ} {h₀ h₁ : Held} {r : Row} (e : r ≡ row_of (row_at 12 (rows_in ingredient w₀) d))
     {y : Option Noted} (c : RowChecked us sheet line a d w₀ h₀ y) (t : Reported (if_found y) w₀ h₀ w₁ h₁) where
   relation_is : (earlier_at ingredient sheet w₀ h₀ d).entry.relation
       ≡ relation_as ingredient r.relation.relation r.relation.in_step r.relation.index (referrers_in (windows_of w₀).ingredient_pairs d h₀.counts.ingredient_pairs)
-  relation_is = ap (λ (x : Entry). x.relation) (earlier_row ingredient sheet w₀ h₀ d (row_window w₀ d e)) ∙ entry_relation ingredient sheet r _ ∙ (unfold relation_in in refl)
+  relation_is = ap (λ (x : Entry). x.relation) (earlier_row ingredient sheet w₀ h₀ d e) ∙ entry_relation ingredient sheet r _ ∙ (unfold relation_in in refl)
 
   split : (new : Entry) (is : List ℕ) → referrers (earlier_at ingredient sheet w₀ h₀ d).entry.relation ≡ is
       → unit_check us new (table_of ingredient (state_in sheet w₀ h₀)) (earlier_at ingredient sheet w₀ h₀ d)
@@ -288,12 +291,12 @@ module _ {us : List NamedUnit} {sheet line : List ℕ} {a : Option QuantityView}
   unfolding units_against
   alone new = append-nil (unit_against us new (entry_at d (table_of ingredient (state_in sheet w₀ h₀))))
 
-  pub check_reference : (x : Target) → r.relation.relation ≡ Reference x → UnitChecked us sheet line a d w₀ h₀ w₁ h₁
-  check_reference x o =
+  pub check_reference : (r.relation.relation ≡ Definition → ⊥) → UnitChecked us sheet line a d w₀ h₀ w₁ h₁
+  check_reference o =
       record {
         is =
             λ new p q.
-            said (split new [] (ap referrers relation_is ∙ rw o (referrers_none ingredient x _ _ _)) ∙ alone new)
+            said (split new [] (ap referrers relation_is ∙ referrers_other ingredient r.relation.relation o _ _ _) ∙ alone new)
             (row_told _ t c new (quantity_of new p q));
       }
 

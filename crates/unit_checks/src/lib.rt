@@ -15,8 +15,9 @@ ghost use Rattle.compatible.specs.Fitting.{unit_code, trimmed_in};
 ghost use Rattle.parts.specs.Views.{OptQuantityWithin};
 ghost use Rattle.components.specs.Views.{ComponentWithin};
 ghost use Rattle.model.specs.Rows.{row_at, row_of};
-ghost use Rattle.model.specs.Memory.{Sound};
+ghost use Rattle.model.specs.Memory.{windows_of};
 ghost use Rattle.model.specs.Fits.{AllFit};
+ghost use Rattle.model.specs.Searches.{NextReferrer};
 ghost use Rattle.memory.specs.Pushes.{count_of};
 ghost use Rattle.lookup.specs.Names.{rows_in};
 ghost use Rattle.unit_checks.specs.Codes.{CodesKept};
@@ -24,7 +25,8 @@ ghost use Rattle.unit_checks.specs.Checked.{InStep, SameBelow, HasUnit, UnitFiel
 ghost use Rattle.model.specs.Kinds.{kind_of, room_of};
 
 use components::ComponentView;
-use model::{Held, Kind, Noted, Relation, RelationRecord, Row};
+use memory::Memory;
+use model::{Kind, Noted, Relation, RelationRecord, Row};
 use parts::QuantityView;
 use unit_index::UnitList;
 
@@ -39,6 +41,14 @@ pub fn kind_row(words: &[u32], kind: Kind, i: usize) -> Row
         Kind::Ingredient => model::row_at(&words[0..6156], i),
         Kind::Cookware => model::row_at(&words[6156..9240], i),
     }
+}
+
+// The same of the whole of work memory: what a `&mut Memory` lends in part is not known to stay as it is.
+fn row_in(memory: &Memory, kind: Kind, i: usize) -> Row
+    requires { i < room_of (kind_of kind) }
+    ensures { result ≡ row_of (row_at 12 (rows_in (kind_of kind) memory.now.words.now) i) }
+{
+    kind_row(memory.words, kind, i)
 }
 
 fn in_step(r: RelationRecord) -> bool
@@ -89,8 +99,7 @@ fn unit_field<'a>(line: &'a [u8], a: Option<QuantityView>) -> &'a [u8]
 fn row_fits(
     units: &UnitList,
     codes: &mut [u32],
-    words: &[u32],
-    h: Held,
+    memory: &Memory,
     sheet: &[u8],
     has: bool,
     f: &[u8],
@@ -98,14 +107,14 @@ fn row_fits(
     m: u32,
     i: usize,
 ) -> bool
-    requires { CodesKept units.now.lines.now sheet.now codes.old × Sound words.now h × AllFit sheet.now words.now h × TrimmedTo f.now x.now × (m ≡ unit_code (units_from units.now.lines.now 0) (kept_in x.now)) }
-    ensures { (result ≡ fits_row (units_from units.now.lines.now 0) sheet.now words.now h i (pick has (Some (trimmed_in f.now)) None)) × CodesKept units.now.lines.now sheet.now codes.new }
+    requires { CodesKept units.now.lines.now sheet.now codes.old × AllFit sheet.now memory.now.words.now memory.now.held × TrimmedTo f.now x.now × (m ≡ unit_code (units_from units.now.lines.now 0) (kept_in x.now)) }
+    ensures { (result ≡ fits_row (units_from units.now.lines.now 0) sheet.now memory.now.words.now memory.now.held i (pick has (Some (trimmed_in f.now)) None)) × CodesKept units.now.lines.now sheet.now codes.new }
 {
-    let n = h.counts.ingredients;
+    let n = memory.held.counts.ingredients;
     if n <= i {
         return true;
     }
-    let r = model::row_at(&words[0..6156], i);
+    let r = model::row_at(&memory.words[0..6156], i);
     let at = r.line_at;
     let end = r.line_end;
     kept::known_fits(codes, i, at, end, has, m)
@@ -115,17 +124,16 @@ fn row_fits(
 // The unit of a new ingredient's quantity `a`, of its line, against that of the row i.
 fn row_against(
     units: &UnitList,
-    words: &[u32],
-    h: Held,
+    memory: &Memory,
     sheet: &[u8],
     line: &[u8],
     a: Option<QuantityView>,
     i: usize,
 ) -> Option<Noted>
-    requires { OptQuantityWithin line.now a × Sound words.now h × AllFit sheet.now words.now h × (i < h.counts.ingredients) }
-    ensures { RowChecked (units_or (read_units units.now.lines.now)) sheet.now line.now a i words.now h result }
+    requires { OptQuantityWithin line.now a × AllFit sheet.now memory.now.words.now memory.now.held × (i < memory.now.held.counts.ingredients) }
+    ensures { RowChecked (units_or (read_units units.now.lines.now)) sheet.now line.now a i memory.now.words.now memory.now.held result }
 {
-    let r = model::row_at(&words[0..6156], i);
+    let r = model::row_at(&memory.words[0..6156], i);
     let at = r.line_at as usize;
     let end = r.line_end as usize;
     let b = recall::quantity_in(&sheet[at..end]);
@@ -136,8 +144,7 @@ fn row_against(
 fn unit_against(
     units: &UnitList,
     codes: &mut [u32],
-    words: &[u32],
-    h: Held,
+    memory: &Memory,
     sheet: &[u8],
     line: &[u8],
     a: Option<QuantityView>,
@@ -147,21 +154,28 @@ fn unit_against(
     m: u32,
     i: usize,
 ) -> Option<Noted>
-    requires { OptQuantityWithin line.now a × UnitKnown (units_from units.now.lines.now 0) line.now a has f.now x.now m × Sound words.now h × AllFit sheet.now words.now h × CodesKept units.now.lines.now sheet.now codes.old }
-    ensures { RowChecked (units_or (read_units units.now.lines.now)) sheet.now line.now a i words.now h result × CodesKept units.now.lines.now sheet.now codes.new }
+    requires { OptQuantityWithin line.now a × UnitKnown (units_from units.now.lines.now 0) line.now a has f.now x.now m × AllFit sheet.now memory.now.words.now memory.now.held × CodesKept units.now.lines.now sheet.now codes.old }
+    ensures { RowChecked (units_or (read_units units.now.lines.now)) sheet.now line.now a i memory.now.words.now memory.now.held result × CodesKept units.now.lines.now sheet.now codes.new }
 {
-    if row_fits(units, codes, words, h, sheet, has, f, x, m, i) {
+    if row_fits(units, codes, memory, sheet, has, f, x, m, i) {
         return None;
     }
-    row_against(units, words, h, sheet, line, a, i)
+    row_against(units, memory, sheet, line, a, i)
+}
+
+// The first pair from `from` on of an ingredient that refers to the row `definition`: that ingredient, and the pair after.
+fn next_pair(memory: &Memory, definition: u32, from: usize) -> Option<(u32, usize)>
+    ensures { NextReferrer (windows_of memory.now.words.now).ingredient_pairs memory.now.held.counts.ingredient_pairs definition from result }
+{
+    let n = memory.held.counts.ingredient_pairs;
+    model::next_referrer(&memory.words[9240..10266], n, definition, from)
 }
 
 // Against those of all rows that refer to the row d, oldest first.
 fn referrer_check(
     units: &UnitList,
     codes: &mut [u32],
-    words: &mut [u32],
-    h: Held,
+    memory: &mut Memory,
     sheet: &[u8],
     line: &[u8],
     a: Option<QuantityView>,
@@ -170,59 +184,58 @@ fn referrer_check(
     x: &[u8],
     m: u32,
     d: usize,
-) -> Held
-    requires { OptQuantityWithin line.now a × UnitKnown (units_from units.now.lines.now 0) line.now a has f.now x.now m × Sound words.old h × AllFit sheet.now words.old h × (d < h.counts.ingredients) × (h.counts.findings + h.counts.ingredient_pairs ≤ 1544) × CodesKept units.now.lines.now sheet.now codes.old }
-    ensures { ReferrersChecked (units_or (read_units units.now.lines.now)) sheet.now line.now a d words.old h words.new result × CodesKept units.now.lines.now sheet.now codes.new }
+)
+    requires { OptQuantityWithin line.now a × UnitKnown (units_from units.now.lines.now 0) line.now a has f.now x.now m × AllFit sheet.now memory.old.words.now memory.old.held × (d < memory.old.held.counts.ingredients) × (memory.old.held.counts.findings + memory.old.held.counts.ingredient_pairs ≤ 1544) × CodesKept units.now.lines.now sheet.now codes.old }
+    ensures done { ReferrersChecked (units_or (read_units units.now.lines.now)) sheet.now line.now a d memory.old.words.now memory.old.held memory.new.words.now memory.new.held }
+    ensures codes { CodesKept units.now.lines.now sheet.now codes.new }
+    ensures lent { memory.new.words.ghost_name ≡ memory.old.words.ghost_name }
 {
-    let n = h.counts.ingredient_pairs;
+    let n = memory.held.counts.ingredient_pairs;
     let definition = d as u32;
-    let mut k = h;
     let mut from = 0;
     while from < n {
-        let Some((i, next)) = model::next_referrer(&words[9240..10266], n, definition, from) else {
-            return k;
+        let Some((i, next)) = next_pair(memory, definition, from) else {
+            return;
         };
         let j = i as usize;
-        if !row_fits(units, codes, words, k, sheet, has, f, x, m, j) {
-            let found = row_against(units, words, k, sheet, line, a, j);
-            k = memory::push_found(words, k, found);
+        // Not `unit_against`: with it 23 more instructions a row are written, 5 in a hundred on 512 amounts.
+        if !row_fits(units, codes, memory, sheet, has, f, x, m, j) {
+            let found = row_against(units, memory, sheet, line, a, j);
+            memory.push_found(found);
         }
         from = next;
     }
-    k
 }
 
 // Against that of the definition at d, then those of all that refer to it; nothing where there is no quantity.
 fn unit_check(
     units: &UnitList,
     codes: &mut [u32],
-    words: &mut [u32],
-    h: Held,
+    memory: &mut Memory,
     sheet: &[u8],
     line: &[u8],
     a: Option<QuantityView>,
     d: usize,
-) -> Held
-    requires { OptQuantityWithin line.now a × Sound words.old h × AllFit sheet.now words.old h × (d < h.counts.ingredients) × (h.counts.findings + h.counts.ingredient_pairs < 1544) × CodesKept units.now.lines.now sheet.now codes.old }
-    ensures { UnitChecked (units_or (read_units units.now.lines.now)) sheet.now line.now a d words.old h words.new result × CodesKept units.now.lines.now sheet.now codes.new }
+)
+    requires { OptQuantityWithin line.now a × AllFit sheet.now memory.old.words.now memory.old.held × (d < memory.old.held.counts.ingredients) × (memory.old.held.counts.findings + memory.old.held.counts.ingredient_pairs < 1544) × CodesKept units.now.lines.now sheet.now codes.old }
+    ensures done { UnitChecked (units_or (read_units units.now.lines.now)) sheet.now line.now a d memory.old.words.now memory.old.held memory.new.words.now memory.new.held }
+    ensures codes { CodesKept units.now.lines.now sheet.now codes.new }
+    ensures lent { memory.new.words.ghost_name ≡ memory.old.words.ghost_name }
 {
     let Some(_) = a else {
-        return h;
+        return;
     };
-    let r = model::row_at(&words[0..6156], d);
+    let r = row_in(memory, Kind::Ingredient, d);
     let g = r.relation;
     let e = g.relation;
     let has = has_unit(a);
     let f = unit_field(line, a);
     let x = text::text_outer_trimmed(f);
     let m = compatible::unit_code(units, x);
-    let found = unit_against(units, codes, words, h, sheet, line, a, has, f, x, m, d);
-    let k = memory::push_found(words, h, found);
-    match e {
-        Relation::Definition => referrer_check(
-            units, codes, words, k, sheet, line, a, has, f, x, m, d,
-        ),
-        Relation::Reference(y) => k,
+    let found = unit_against(units, codes, memory, sheet, line, a, has, f, x, m, d);
+    memory.push_found(found);
+    if matches!(e, Relation::Definition) {
+        referrer_check(units, codes, memory, sheet, line, a, has, f, x, m, d);
     }
 }
 
@@ -233,43 +246,40 @@ fn units_after(
     units: &UnitList,
     flags: u32,
     codes: &mut [u32],
-    words: &mut [u32],
-    h: Held,
+    memory: &mut Memory,
     sheet: &[u8],
     line: &[u8],
     kind: Kind,
     a: Option<QuantityView>,
     d: usize,
-) -> Held
-    requires { OptQuantityWithin line.now a × Sound words.old h × AllFit sheet.now words.old h × (d < count_of (kind_of kind) h) × (h.counts.findings + h.counts.ingredient_pairs < 1544) × CodesKept units.now.lines.now sheet.now codes.old }
-    ensures { UnitsAfter (units_or (read_units units.now.lines.now)) flags (kind_of kind) sheet.now line.now a d words.old h words.new result × CodesKept units.now.lines.now sheet.now codes.new }
+)
+    requires { OptQuantityWithin line.now a × AllFit sheet.now memory.old.words.now memory.old.held × (d < count_of (kind_of kind) memory.old.held) × (memory.old.held.counts.findings + memory.old.held.counts.ingredient_pairs < 1544) × CodesKept units.now.lines.now sheet.now codes.old }
+    ensures done { UnitsAfter (units_or (read_units units.now.lines.now)) flags (kind_of kind) sheet.now line.now a d memory.old.words.now memory.old.held memory.new.words.now memory.new.held }
+    ensures codes { CodesKept units.now.lines.now sheet.now codes.new }
+    ensures lent { memory.new.words.ghost_name ≡ memory.old.words.ghost_name }
 {
-    match kind {
-        Kind::Cookware => h,
-        Kind::Ingredient => {
-            let bit = flags / 4 % 2;
-            if bit == 1 {
-                return unit_check(units, codes, words, h, sheet, line, a, d);
-            }
-            h
+    if matches!(kind, Kind::Ingredient) {
+        let bit = flags / 4 % 2;
+        if bit == 1 {
+            unit_check(units, codes, memory, sheet, line, a, d);
         }
     }
 }
 
 // The checks of notes and quantities against the row d.
 fn entry_check(
-    words: &mut [u32],
-    h: Held,
+    memory: &mut Memory,
     sheet: &[u8],
     line: &[u8],
     kind: Kind,
     v: ComponentView,
     d: usize,
-) -> Held
-    requires { ComponentWithin line.now v × Sound words.old h × AllFit sheet.now words.old h × (d < count_of (kind_of kind) h) × (h.counts.findings + 2 < 1544) }
-    ensures { EntryChecked (kind_of kind) sheet.now line.now v d words.old h words.new result }
+)
+    requires { ComponentWithin line.now v × AllFit sheet.now memory.old.words.now memory.old.held × (d < count_of (kind_of kind) memory.old.held) × (memory.old.held.counts.findings + 2 < 1544) }
+    ensures done { EntryChecked (kind_of kind) sheet.now line.now v d memory.old.words.now memory.old.held memory.new.words.now memory.new.held }
+    ensures lent { memory.new.words.ghost_name ≡ memory.old.words.ghost_name }
 {
-    let r = kind_row(words, kind, d);
+    let r = row_in(memory, kind, d);
     let g = r.relation;
     let inside = in_step(g);
     let at = r.line_at as usize;
@@ -280,7 +290,7 @@ fn entry_check(
     let a = v.quantity;
     let old = o.note;
     let b = o.quantity;
-    checks::reference_checks(words, h, implicit, inside, note, a, o.span, old, b)
+    checks::reference_checks(memory, implicit, inside, note, a, o.span, old, b);
 }
 
 // All checks after a reference to the row `to`, or none.
@@ -288,23 +298,21 @@ pub fn checks_after(
     units: &UnitList,
     flags: u32,
     codes: &mut [u32],
-    words: &mut [u32],
-    h: Held,
+    memory: &mut Memory,
     sheet: &[u8],
     line: &[u8],
     kind: Kind,
     v: ComponentView,
     to: Option<usize>,
-) -> Held
-    requires { ComponentWithin line.now v × Sound words.old h × AllFit sheet.now words.old h × SameBelow (kind_of kind) h to × (h.counts.findings + h.counts.ingredient_pairs + 3 < 1544) × CodesKept units.now.lines.now sheet.now codes.old }
-    ensures { ChecksDone (units_or (read_units units.now.lines.now)) flags (kind_of kind) sheet.now line.now v to words.old h words.new result × CodesKept units.now.lines.now sheet.now codes.new }
+)
+    requires { ComponentWithin line.now v × AllFit sheet.now memory.old.words.now memory.old.held × SameBelow (kind_of kind) memory.old.held to × (memory.old.held.counts.findings + memory.old.held.counts.ingredient_pairs + 3 < 1544) × CodesKept units.now.lines.now sheet.now codes.old }
+    ensures done { ChecksDone (units_or (read_units units.now.lines.now)) flags (kind_of kind) sheet.now line.now v to memory.old.words.now memory.old.held memory.new.words.now memory.new.held }
+    ensures codes { CodesKept units.now.lines.now sheet.now codes.new }
+    ensures lent { memory.new.words.ghost_name ≡ memory.old.words.ghost_name }
 {
-    match to {
-        None => h,
-        Some(d) => {
-            let a = v.quantity;
-            let k = units_after(units, flags, codes, words, h, sheet, line, kind, a, d);
-            entry_check(words, k, sheet, line, kind, v, d)
-        }
+    if let Some(d) = to {
+        let a = v.quantity;
+        units_after(units, flags, codes, memory, sheet, line, kind, a, d);
+        entry_check(memory, sheet, line, kind, v, d);
     }
 }

@@ -2,8 +2,8 @@ use Rattle.component_lines.proofs.Places.{cookware_here}
 use Rattle.component_lines.proofs.Ends.{kept_roomy, cookware_done}
 use Rattle.component_lines.proofs.on_cookware.Goals as goal
 
-pub named_line-k-requires : goal.named_line-k-requires
-named_line-k-requires c = let p = c.requires in let q = kept_roomy p.3 in (cookware_here p.0 p.1 p.2, p.3.sound, p.3.fit, q.0, q.1, p.4)
+pub named_line-requires : goal.named_line-requires
+named_line-requires c = let p = c.requires in let q = kept_roomy p.3 in (cookware_here p.0 p.1 p.2, p.3.fit, q.0, q.1, p.4)
 
-pub returns : goal.returns
-returns c = (cookware_done c.requires.3 c.named_line-k.ensures.0, c.named_line-k.ensures.1)
+pub returns-clause-done : goal.returns-clause-done
+returns-clause-done c = cookware_done c.requires.3 c.named_line.ensures.done

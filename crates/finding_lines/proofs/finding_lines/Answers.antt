@@ -9,7 +9,7 @@ pub loop-i-init : goal.loop-i-init
 loop-i-init c = list_starts c.begin-n.ensures
 
 pub finding_at-requires : goal.finding_at-requires
-finding_at-requires c = let z = c.requires in omega (arith, window_long c.args.words.now z.long, c.loop-i-test.true, z.room.findings)
+finding_at-requires c = let z = c.args.stored.now.sound in omega (arith, window_long c.args.stored.now.words.now z.long, c.loop-i-test.true, z.room.findings)
 
 pub loop-i-preserved : goal.loop-i-preserved
 loop-i-preserved c = list_on c.loop-i.invariant c.loop-i-test.true c.finding_at.ensures c.put_finding-n.ensures
@@ -18,4 +18,4 @@ pub shape_of-out : goal.shape_of-out
 shape_of-out c = search (rules, keeps c.loop-i.invariant.put)
 
 pub returns : goal.returns
-returns c = list_ends c.loop-i.invariant c.args.h refl c.loop-i-test.false
+returns c = list_ends c.loop-i.invariant c.args.stored.now.held refl c.loop-i-test.false

@@ -1,12 +1,12 @@
 use Rattle.entry_lines.specs.Lines.{entry_line}
-use Rattle.page.proofs.Joins.{draw_given, entries_given, tables_put}
+use Rattle.page.proofs.Joins.{draw_given, tables_put}
 use Rattle.page.proofs.put_tables.Goals as goal
 
 pub component_lines-a-requires : goal.component_lines-a-requires
-component_lines-a-requires c = entries_given c.requires
+component_lines-a-requires c = c.requires.ran.kept.fit
 
 pub component_lines-b-requires : goal.component_lines-b-requires
-component_lines-b-requires c = entries_given c.requires
+component_lines-b-requires c = c.requires.ran.kept.fit
 
 pub put_drawn-c-requires : goal.put_drawn-c-requires
 put_drawn-c-requires c = draw_given c.requires

@@ -28,3 +28,6 @@ pub returns : goal.returns
 returns c =
     page_put c.requires c.index_metadata-n.ensures c.head_line-a.ensures c.meta_lines-b.ensures
     c.draw_part-c.ensures c.put_tables-d.ensures c.put_findings.ensures
+
+pub invariant_of-stored : goal.invariant_of-stored
+invariant_of-stored c = record { sound = (given_indexed c.requires c.index_metadata-n.ensures).ran.kept.sound }

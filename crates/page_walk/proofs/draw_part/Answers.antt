@@ -5,7 +5,7 @@ use Rattle.page_walk.proofs.Drawing.{walked_starts, walked_full, walked_ends, wa
 use Rattle.page_walk.proofs.draw_part.Goals as goal
 
 pub loop-from-init : goal.loop-from-init
-loop-from-init c = walked_starts c.requires c.begin-n.ensures c.first_follow-f.ensures
+loop-from-init c = walked_starts c.requires c.args.sheet.now.read c.begin-n.ensures c.first_follow-f.ensures
 
 pub returns-then-out-n : goal.returns-then-out-n
 returns-then-out-n c = walked_full c.requires c.loop-from.invariant c.if-out-n.true

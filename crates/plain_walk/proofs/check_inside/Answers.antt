@@ -2,25 +2,25 @@ use Rattle.plain_walk.proofs.FaultLines.{ready_step, inside_end, inside_text, co
 use Rattle.plain_walk.proofs.check_inside.Goals as goal
 
 pub returns-then-is_components : goal.returns-then-is_components
-returns-then-is_components c = component_listed _ c.args.words.now c.args.f _ c.in-Component.is c.in-Step.is c.is_components.ensures c.if-is_components.true
+returns-then-is_components c = component_listed _ c.args.stored.now.words.now c.args.f _ c.in-Component.is c.in-Step.is c.is_components.ensures c.if-is_components.true
 
 pub check_mark-requires : goal.check_mark-requires
-check_mark-requires c = (c.requires.0, ready_step _ c.args.words.now c.args.f _ c.in-Component.is c.in-Step.is c.requires.1)
+check_mark-requires c = ready_step _ c.args.stored.now.words.now c.args.f _ c.in-Component.is c.in-Step.is c.requires
 
 pub returns-in-End : goal.returns-in-End
-returns-in-End c = inside_end _ c.args.words.now c.args.f _ c.in-End.is
+returns-in-End c = inside_end _ c.args.stored.now.words.now c.args.f _ c.in-End.is
 
 pub returns-in-Text : goal.returns-in-Text
-returns-in-Text c = inside_text _ c.args.words.now c.args.f _ c.in-Text.is
+returns-in-Text c = inside_text _ c.args.stored.now.words.now c.args.f _ c.in-Text.is
 
 pub returns-in-Nothing : goal.returns-in-Nothing
-returns-in-Nothing c = component_none _ c.args.words.now c.args.f _ c.in-Component.is c.in-Nothing.is
+returns-in-Nothing c = component_none _ c.args.stored.now.words.now c.args.f _ c.in-Component.is c.in-Nothing.is
 
 pub returns-else-is_components : goal.returns-else-is_components
-returns-else-is_components c = component_step _ c.args.words.now c.args.f _ c.in-Component.is c.in-Step.is c.is_components.ensures c.if-is_components.false c.check_mark.ensures
+returns-else-is_components c = component_step _ c.args.stored.now.words.now c.args.f _ c.in-Component.is c.in-Step.is c.is_components.ensures c.if-is_components.false c.check_mark.ensures
 
 pub returns-in-Text-b : goal.returns-in-Text-b
-returns-in-Text-b c = component_text _ c.args.words.now c.args.f _ c.in-Component.is c.in-Text-b.is
+returns-in-Text-b c = component_text _ c.args.stored.now.words.now c.args.f _ c.in-Component.is c.in-Text-b.is
 
 pub returns-in-TextMode : goal.returns-in-TextMode
-returns-in-TextMode c = component_mode _ c.args.words.now c.args.f _ c.in-Component.is c.in-TextMode.is
+returns-in-TextMode c = component_mode _ c.args.stored.now.words.now c.args.f _ c.in-Component.is c.in-TextMode.is

@@ -1,7 +1,7 @@
 use borrow.Author.Rules.{rules}
 use native.Mathlib.Omega.{arith}
 use Prim.Native.Nat.{◌-◌}
-use Rattle.plain_walk.proofs.Turns.{form_starts, form_ends, form_kept, form_long, form_number, form_room, form_inline, form_few, form_cut, form_line, form_ready, form_fit, form_fault, form_next}
+use Rattle.plain_walk.proofs.Turns.{form_starts, form_ends, form_kept, form_number, form_room, form_inline, form_few, form_cut, form_line, form_ready, form_fit, form_fault, form_next}
 use Rattle.plain_walk.proofs.plain_form_lines.Goals as goal
 
 pub loop-at-init : goal.loop-at-init
@@ -26,7 +26,7 @@ pub event_of-e-requires : goal.event_of-e-requires
 event_of-e-requires c = form_line c.loop-at.invariant c.line_end.ensures c.in-Some.is
 
 pub check_marks-requires : goal.check_marks-requires
-check_marks-requires c = (form_long c.loop-at.invariant, form_ready c.loop-at.invariant c.line_end.ensures c.in-Some.is c.event_of-e.ensures)
+check_marks-requires c = form_ready c.loop-at.invariant c.line_end.ensures c.in-Some.is c.event_of-e.ensures
 
 pub shape_of-out-in-Err : goal.shape_of-out-in-Err
 shape_of-out-in-Err c = search (rules, form_kept c.loop-at.invariant)
@@ -35,7 +35,7 @@ pub returns-in-Err : goal.returns-in-Err
 returns-in-Err c = form_fault c.loop-at.invariant c.line_end.ensures c.in-Some.is c.event_of-e.ensures c.check_marks.ensures c.in-Err.is
 
 pub plain_of-p-requires : goal.plain_of-p-requires
-plain_of-p-requires c = (c.event_of-e.ensures.within, form_long c.loop-at.invariant, form_few c.loop-at.invariant)
+plain_of-p-requires c = (c.event_of-e.ensures.within, form_few c.loop-at.invariant)
 
 pub put_plain-n-requires : goal.put_plain-n-requires
 put_plain-n-requires c = form_fit c.loop-at.invariant c.line_end.ensures c.in-Some.is c.event_of-e.ensures c.plain_of-p.ensures

@@ -1,8 +1,11 @@
-use Rattle.recipe.proofs.Prints.{page_told, refusal_told}
+use Rattle.recipe.specs.Answers.{used_of, answer_told}
+use Rattle.recipe.proofs.Prints.{page_shown, refusal_shown}
 use Rattle.recipe.proofs.print_told.Goals as goal
 
 pub returns-in-Ok : goal.returns-in-Ok
-returns-in-Ok c = page_told c.requires.0 c.in-Ok.is
+unfolding used_of answer_told
+returns-in-Ok c = page_shown (rw c.in-Ok.is at c.requires.0) (rw c.in-Ok.is)
 
 pub returns-in-Err : goal.returns-in-Err
-returns-in-Err c = refusal_told c.requires.1 c.in-Err.is c.write_refusal.ensures
+unfolding answer_told
+returns-in-Err c = refusal_shown c.requires.1 (rw c.in-Err.is) c.write_refusal.ensures

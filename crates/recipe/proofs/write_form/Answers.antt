@@ -5,6 +5,9 @@ use Rattle.std.proofs.result.Match.{err_is}
 use Rattle.recipe.proofs.Forms.{lines_given, fault_told, form_long, form_within, form_given_lem, form_told}
 use Rattle.recipe.proofs.write_form.Goals as goal
 
+pub invariant_of-stored : goal.invariant_of-stored
+invariant_of-stored c = record { sound = c.requires.0.ran.kept.sound }
+
 pub plain_form_lines-requires : goal.plain_form_lines-requires
 plain_form_lines-requires c = lines_given c.requires.0
 

@@ -1,22 +1,26 @@
 use native.Mathlib.Omega.{arith}
-use Rattle.memory.proofs.Reports.{reported_seq, reported_sound, found_count}
+use Rattle.model.specs.Blank.{blank_timer}
+use Rattle.memory.proofs.Reports.{reported_seq, found_count}
 use Rattle.timers.proofs.Timers.{timer_room, timer_plain, timer_checked}
 use Rattle.timers.proofs.on_timer.Goals as goal
+use Rattle.timers.proofs.on_timer.Goals.{then-bit-eq1, else-bit-eq1}
 
-pub push_found-k-requires : goal.push_found-k-requires
-push_found-k-requires c = (c.requires.1, omega (arith, c.requires.2))
+pub time_checks-requires : goal.time_checks-requires
+time_checks-requires c = (c.requires.0, omega (arith, c.requires.1, found_count _ c.push_found.ensures.found))
 
-pub time_checks-m-requires : goal.time_checks-m-requires
-time_checks-m-requires c = (c.requires.0, reported_sound c.push_found-k.ensures c.requires.1, omega (arith, c.requires.2, found_count _ c.push_found-k.ensures))
+pub push_timer-memory-requires : goal.push_timer-memory-requires
+push_timer-memory-requires c =
+    elim c.if-bit-eq1.branch [
+      | then-bit-eq1 w ↦ rw w.memory-is (timer_room (reported_seq c.push_found.ensures.found (w.time_checks.ensures.done.is 0)) c.requires.2 c.requires.3)
+      | else-bit-eq1 w ↦ rw w.memory-is (timer_room c.push_found.ensures.found c.requires.2 c.requires.3)
+    ]
 
-pub push_timer-requires : goal.push_timer-requires
-push_timer-requires c = timer_room (reported_seq c.push_found-k.ensures (c.time_checks-m.ensures.is 0)) c.requires.3 c.requires.4
+pub invariant_of-memory : goal.invariant_of-memory
+invariant_of-memory c = record { sound = (c.push_timer-memory.ensures.told blank_timer).sound _ c.if-bit-eq1.memory.sound }
 
-pub returns-then-bit-eq1 : goal.returns-then-bit-eq1
-returns-then-bit-eq1 c = timer_checked c.lock_finding.ensures c.push_found-k.ensures c.requires.1 c.if-bit-eq1.true c.time_checks-m.ensures c.push_timer.ensures
-
-pub push_timer-requires-2 : goal.push_timer-requires-2
-push_timer-requires-2 c = timer_room c.push_found-k.ensures c.requires.3 c.requires.4
-
-pub returns : goal.returns
-returns c = timer_plain c.lock_finding.ensures c.push_found-k.ensures c.requires.1 c.if-bit-eq1.false c.push_timer-2.ensures
+pub returns-clause-done : goal.returns-clause-done
+returns-clause-done c =
+    elim c.if-bit-eq1.branch [
+      | then-bit-eq1 w ↦ rw w.memory-is (timer_checked c.lock_finding.ensures c.push_found.ensures.found c.args.memory.now.sound w.if-bit-eq1.true w.time_checks.ensures.done (rw w.memory-is at c.push_timer-memory.ensures))
+      | else-bit-eq1 w ↦ rw w.memory-is (timer_plain c.lock_finding.ensures c.push_found.ensures.found c.args.memory.now.sound w.if-bit-eq1.false (rw w.memory-is at c.push_timer-memory.ensures))
+    ]
