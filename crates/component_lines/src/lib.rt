@@ -29,6 +29,7 @@ use memory::Memory;
 use model::{Kind, Relation, RelationRecord, Row};
 use refusals::Reason;
 use sheet::{Define, Duplicate};
+use unit_checks::Codes;
 use unit_index::UnitList;
 
 // ---- names
@@ -65,7 +66,14 @@ fn found_before(
     let to = p.end;
     let any_opt = m.reference;
     let opt = m.opt;
-    lookup::same_component(sheet, memory, kind, &sheet[from..to], any_opt, opt)
+    lookup::same_component(
+        sheet,
+        &memory.stored(),
+        kind,
+        &sheet[from..to],
+        any_opt,
+        opt,
+    )
 }
 
 // The same, where it is needed.
@@ -214,7 +222,7 @@ fn intermediate_line(
     let m = v.modifiers;
     let define = memory.held.define;
     let p = name_of(sheet, at, v, Kind::Ingredient);
-    let target = intermediate::intermediate_target(memory, i);
+    let target = intermediate::intermediate_target(&memory.stored(), i);
     let in_step = !blocks::is_components(define);
     let relation = intermediate::intermediate_relation(i, in_step, target);
     let row = row_of(at, end, p, m, relation);
@@ -235,7 +243,7 @@ fn named_reports(
     old: Option<Modifiers>,
     to: Option<usize>,
     kind: Kind,
-    codes: &mut [u32],
+    codes: &mut Codes,
     memory: &mut Memory,
 )
     requires { ComponentHere (kind_of kind) sheet.now at end v × SameBelow (kind_of kind) memory.old.held to × AllFit sheet.now memory.old.words.now memory.old.held × Roomy memory.old.held × (memory.old.held.counts.findings ≤ 1024) × CodesKept units.now.lines.now sheet.now codes.old }
@@ -269,7 +277,7 @@ fn named_line(
     end: usize,
     v: ComponentView,
     kind: Kind,
-    codes: &mut [u32],
+    codes: &mut Codes,
     memory: &mut Memory,
 )
     requires { ComponentHere (kind_of kind) sheet.now at end v × AllFit sheet.now memory.old.words.now memory.old.held × Roomy memory.old.held × (memory.old.held.counts.findings ≤ 1024) × CodesKept units.now.lines.now sheet.now codes.old }
@@ -303,7 +311,7 @@ pub fn on_ingredient(
     end: usize,
     v: ComponentView,
     i: Option<Intermediate>,
-    codes: &mut [u32],
+    codes: &mut Codes,
     memory: &mut Memory,
 ) -> Result<(), Reason>
     requires { LineHere sheet.now at end (inside (component_event (component_event_in (slice at end sheet.now) (event.Ingredient v i)))) × ComponentEventWithin (slice at end sheet.now) (event.Ingredient v i) × ComponentEventFields (slice at end sheet.now) (event.Ingredient v i) × Kept sheet.now memory.old.words.now memory.old.held × CodesKept units.now.lines.now sheet.now codes.old }
@@ -333,7 +341,7 @@ pub fn on_cookware(
     at: usize,
     end: usize,
     v: ComponentView,
-    codes: &mut [u32],
+    codes: &mut Codes,
     memory: &mut Memory,
 ) -> Result<(), Reason>
     requires { LineHere sheet.now at end (inside (component_event (component_event_in (slice at end sheet.now) (event.Cookware v)))) × ComponentEventWithin (slice at end sheet.now) (event.Cookware v) × ComponentEventFields (slice at end sheet.now) (event.Cookware v) × Kept sheet.now memory.old.words.now memory.old.held × CodesKept units.now.lines.now sheet.now codes.old }

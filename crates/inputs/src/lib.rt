@@ -6,6 +6,7 @@ ghost use Rattle.rules.specs.Answer.{flags_of};
 ghost use Rattle.inputs.specs.Inputs.{InputsChecked, ContentsChecked, SheetFlagsChecked, UnitsReady};
 
 use refusals::{Reason, Refusal};
+use unit_index::Index;
 
 // How much work memory has to be lent (docs/MEMORY.md).
 pub const WORDS: usize = 45661;
@@ -34,10 +35,10 @@ fn check_contents(
     sheet: &[u8],
     text: &[u8],
     units: &[u8],
-    index: &mut [u32],
+    index: &mut Index,
     flags: u32,
 ) -> Result<(), Refusal>
-    requires { (length units.now ≤ 16384) × (length index.old ≡ 2305) }
+    requires { length units.now ≤ 16384 }
     ensures { ContentsChecked sheet.now text.now units.now flags result × UnitsReady units.now index.new result }
 {
     if let Some(_) = utf8::first_fault(text) {
@@ -54,12 +55,11 @@ pub fn check_inputs(
     sheet: &[u8],
     text: &[u8],
     units: &[u8],
-    index: &mut [u32],
+    index: &mut Index,
     flags: u32,
     words: usize,
     bytes: usize,
 ) -> Result<(), Refusal>
-    requires { length index.old ≡ 2305 }
     ensures { InputsChecked sheet.now text.now units.now flags words bytes result × UnitsReady units.now index.new result }
 {
     if words < WORDS {

@@ -9,7 +9,7 @@ ghost use Rattle.model.specs.Rows.{if_found};
 ghost use Rattle.intermediate.specs.Intermediates.{Faulted, ModifiersReported, Resolved, Related};
 
 use components::{Intermediate, Modifiers, Target};
-use memory::Memory;
+use memory::Stored;
 use model::{Noted, Relation, RelationRecord};
 use parts::Span;
 use refusals::Reason;
@@ -43,19 +43,19 @@ pub fn intermediate_modifiers(m: Modifiers, at: Span) -> Option<Noted>
 }
 
 // The index of the step or section that is referred to.
-pub fn intermediate_target(memory: &Memory, i: Intermediate) -> Option<u32>
-    ensures { Resolved i memory.now.words.now memory.now.held result }
+pub fn intermediate_target(stored: &Stored, i: Intermediate) -> Option<u32>
+    ensures { Resolved i stored.now.words.now stored.now.held result }
 {
     let relative = i.relative;
     let value = i.value.size;
     let target = i.target;
     match target {
         Target::Step => {
-            let n = memory.held.counts.here;
-            model::step_target(&memory.words[23132..24157], n, relative, value)
+            let n = stored.held.counts.here;
+            model::step_target(&stored.words[23132..24157], n, relative, value)
         }
         Target::Section => {
-            let n = memory.held.counts.sections;
+            let n = stored.held.counts.sections;
             model::section_target(n, relative, value)
         }
     }

@@ -14,7 +14,7 @@ ghost use Rattle.lookup.specs.References.{TreatedAs, Refers};
 ghost use Rattle.sheet.specs.Words.{define_of, duplicate_of};
 ghost use Rattle.model.specs.Kinds.{kind_of};
 
-use memory::Memory;
+use memory::Stored;
 use model::Kind;
 use sheet::{Define, Duplicate};
 use text::Dropped;
@@ -72,23 +72,23 @@ pub fn same_name_before(
 // The same among the components of a kind.
 pub fn same_component(
     sheet: &[u8],
-    memory: &Memory,
+    stored: &Stored,
     kind: Kind,
     name: &[u8],
     any_opt: bool,
     is_opt: bool,
 ) -> Option<usize>
-    requires { AllFit sheet.now memory.now.words.now memory.now.held }
-    ensures { SameFound (kind_of kind) sheet.now memory.now.words.now memory.now.held name.now any_opt is_opt result }
+    requires { AllFit sheet.now stored.now.words.now stored.now.held }
+    ensures { SameFound (kind_of kind) sheet.now stored.now.words.now stored.now.held name.now any_opt is_opt result }
 {
     match kind {
         Kind::Ingredient => {
-            let n = memory.held.counts.ingredients;
-            same_name_before(sheet, &memory.words[0..6156], n, name, any_opt, is_opt)
+            let n = stored.held.counts.ingredients;
+            same_name_before(sheet, &stored.words[0..6156], n, name, any_opt, is_opt)
         }
         Kind::Cookware => {
-            let n = memory.held.counts.cookware;
-            same_name_before(sheet, &memory.words[6156..9240], n, name, any_opt, is_opt)
+            let n = stored.held.counts.cookware;
+            same_name_before(sheet, &stored.words[6156..9240], n, name, any_opt, is_opt)
         }
     }
 }

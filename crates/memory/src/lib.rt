@@ -81,6 +81,17 @@ pub struct Memory<'a> {
 }
 
 impl<'a> Memory<'a> {
+    // It, to be read.
+    pub fn stored(&self) -> Stored<'_>
+        ensures words { result.words.now ≡ self.now.words.now }
+        ensures held { result.held ≡ self.now.held }
+    {
+        Stored {
+            words: self.words,
+            held: self.held,
+        }
+    }
+
     fn push_row(&mut self, kind: Kind, row: Row)
         requires { count_of (kind_of kind) self.old.held < room_of (kind_of kind) }
         ensures row { RowPushed (kind_of kind) self.old.words.now self.old.held row self.new.words.now self.new.held }

@@ -18,6 +18,7 @@ use memory::Memory;
 use model::{Held, Open};
 use reading::ReadSheet;
 use refusals::{Reason, Refusal};
+use unit_checks::Codes;
 use unit_index::UnitList;
 
 fn on_component(
@@ -28,7 +29,7 @@ fn on_component(
     at: usize,
     end: usize,
     c: ComponentEvent,
-    codes: &mut [u32],
+    codes: &mut Codes,
     memory: &mut Memory,
 ) -> Result<(), Reason>
     requires { EventHere sheet.now line.now at end (event.Inside (inside.Component c)) × Running sheet.now memory.old.words.now memory.old.held at × CodesKept units.now.lines.now sheet.now codes.old }
@@ -59,7 +60,7 @@ fn in_step_block(
     at: usize,
     end: usize,
     e: Inside,
-    codes: &mut [u32],
+    codes: &mut Codes,
     memory: &mut Memory,
 ) -> Result<(), Reason>
     requires { EventHere sheet.now line.now at end (event.Inside e) × Running sheet.now memory.old.words.now memory.old.held at × CodesKept units.now.lines.now sheet.now codes.old }
@@ -86,7 +87,7 @@ fn on_inside(
     at: usize,
     end: usize,
     e: Inside,
-    codes: &mut [u32],
+    codes: &mut Codes,
     memory: &mut Memory,
 ) -> Result<(), Reason>
     requires { EventHere sheet.now line.now at end (event.Inside e) × Running sheet.now memory.old.words.now memory.old.held at × CodesKept units.now.lines.now sheet.now codes.old }
@@ -124,7 +125,7 @@ fn on_event(
     at: usize,
     end: usize,
     v: EventView,
-    codes: &mut [u32],
+    codes: &mut Codes,
     memory: &mut Memory,
 ) -> Result<(), Reason>
     requires { EventHere sheet.now line.now at end v × Running sheet.now memory.old.words.now memory.old.held at × CodesKept units.now.lines.now sheet.now codes.old }
@@ -171,7 +172,7 @@ fn step(
     at: usize,
     end: usize,
     v: EventView,
-    codes: &mut [u32],
+    codes: &mut Codes,
     memory: &mut Memory,
 ) -> Result<bool, Reason>
     requires { EventHere sheet.now line.now at end v × Running sheet.now memory.old.words.now memory.old.held at × CodesKept units.now.lines.now sheet.now codes.old }

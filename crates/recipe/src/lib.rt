@@ -13,7 +13,7 @@ use memory::Stored;
 use model::Held;
 use reading::ReadSheet;
 use refusals::{Reason, Refusal};
-use unit_index::UnitList;
+use unit_index::{Index, UnitList};
 
 // The length of the page or of the form at the front of the output, or a refusal.
 pub type Answer = Result<usize, Refusal>;
@@ -60,13 +60,12 @@ fn collected(
     sheet: &[u8],
     text: &[u8],
     units: &[u8],
-    index: &mut [u32],
+    index: &mut Index,
     flags: u32,
     words: &mut [u32],
     bytes: usize,
     out: &mut [u8],
 ) -> Answer
-    requires { length index.old ≡ 2305 }
     ensures { Answered (collect_answer sheet.now text.now units.now flags (lengths words.old bytes out.old)) (length out.old) out.new result }
 {
     inputs::check_inputs(sheet, text, units, index, flags, words.len(), bytes)?;
@@ -221,13 +220,12 @@ fn formed(
     sheet: &[u8],
     text: &[u8],
     units: &[u8],
-    index: &mut [u32],
+    index: &mut Index,
     flags: u32,
     words: &mut [u32],
     bytes: &mut [u8],
     out: &mut [u8],
 ) -> Answer
-    requires { length index.old ≡ 2305 }
     ensures { Answered (plain_answer sheet.now text.now units.now flags (lent_of words.old bytes.old out.old)) (length out.old) out.new result }
 {
     inputs::check_inputs(sheet, text, units, index, flags, words.len(), bytes.len())?;

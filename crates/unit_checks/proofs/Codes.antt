@@ -30,7 +30,7 @@ use Rattle.recall.specs.Places.{content_if, unit_of, unit_as, UnitRecalled}
 use Rattle.recall.specs.declared.UnitPlace.{UnitPlace}
 use Rattle.recall.specs.declared.UnitPlace.TheVariants.{NoQuantity, NoUnit, At}
 use Rattle.unit_checks.specs.Checked.{fits_unit}
-use Rattle.unit_checks.specs.Codes.{text_code, amount_code, line_code, code_in, start_in, end_in, UnitPlaced, LineWord, PlaceWord, CodesKept, kept_word, with_word, SameUnit, code_fits, known_fits}
+use Rattle.unit_checks.specs.Codes.{Trims, text_code, amount_code, line_code, code_in, start_in, end_in, UnitPlaced, LineWord, PlaceWord, CodesKept, kept_word, with_word, SameUnit, code_fits, known_fits}
 
 pub up_to_five : (us : List NamedUnit) (a : List ℕ) {m : ℕ} → m ≡ unit_code us a → m ≤ 5
 up_to_five us a e = rw e (code_small us a)
@@ -162,8 +162,8 @@ same_placed k c = record { is = λ z s a u. rw (k.is z s a u) c }
 pub written_same : (g f : List ℕ) {r : Bool} → r ≡ eq_list g f → r ≡ true → true ≡ eq_list (trimmed_in g) (trimmed_in f)
 written_same g f s t = rw (eq_true g f (sym s ∙ t)) (sym (eq_itself (trimmed_in f)))
 
-pub written_trimmed : {g f x y : List ℕ} {r : Bool} → TrimmedTo g y → TrimmedTo f x → r ≡ eq_list (kept_in y) (kept_in x) → r ≡ eq_list (trimmed_in g) (trimmed_in f)
-written_trimmed j k c = rw (← trimmed_is j, ← trimmed_is k) c
+pub written_trimmed : {g f x y : List ℕ} {r : Bool} → TrimmedTo g y → Trims f x → r ≡ eq_list (kept_in y) (kept_in x) → r ≡ eq_list (trimmed_in g) (trimmed_in f)
+written_trimmed j k c = rw (← trimmed_is j, ← k.is) c
 
 -- ---- kept
 
@@ -247,12 +247,12 @@ unfolding fits_unit amount_code
 fits_absent us None b e n = refl
 fits_absent us (Some q) b e n = absurd (omega (arith, text_small us q.unit, e))
 
-module _ (us : List NamedUnit) {f x : List ℕ} (t : TrimmedTo f x) {m : ℕ} (c : m ≡ unit_code us (kept_in x)) where
+module _ (us : List NamedUnit) {f x : List ℕ} (t : Trims f x) {m : ℕ} (c : m ≡ unit_code us (kept_in x)) where
   new_small : m ≤ 5
   new_small = up_to_five us (kept_in x) c
 
   new_code : m ≡ unit_code us (trimmed_in f)
-  new_code = c ∙ ap (unit_code us) (trimmed_is t)
+  new_code = c ∙ ap (unit_code us) t.is
 
   module _ {o : ℕ} {r : Bool} where
     unit_fits : (u : Option Text) (has : Bool) → o ≡ text_code us u → (eqb o 6 && has && eqb m 5) ≡ false → r ≡ code_fits o has m → r ≡ eqb (compatible_unit us (on_some trimmed_text u) (pick has (Some (trimmed_in f)) None)) 0
@@ -303,7 +303,7 @@ module _ (us : List NamedUnit) {f x : List ℕ} (t : TrimmedTo f x) {m : ℕ} (c
   eight_not false e = omega (arith, eqb-true 8 7 e)
 
 -- by the word that is kept
-module _ {units sheet codes : List ℕ} (v : CodesKept units sheet codes) (i : ℕ) (l : i < 513) {f x : List ℕ} (t : TrimmedTo f x) {m : ℕ} (c : m ≡ unit_code (units_from units 0) (kept_in x)) where
+module _ {units sheet codes : List ℕ} (v : CodesKept units sheet codes) (i : ℕ) (l : i < 513) {f x : List ℕ} (t : Trims f x) {m : ℕ} (c : m ≡ unit_code (units_from units 0) (kept_in x)) where
   pub fits_kept : (at end : ℕ) (has : Bool) {r : Bool} → r ≡ known_fits (code_in (kept_word codes i at end)) has m → r ≡ true
       → true ≡ fits_unit (units_from units 0) (component_of_line ingredient (take (end - at) (drop at sheet))).quantity (pick has (Some (trimmed_in f)) None)
   unfolding known_fits line_code

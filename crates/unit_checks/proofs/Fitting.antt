@@ -13,7 +13,6 @@ use Rattle.rules.specs.Checks.{compatible_unit, unit_finding, unit_pair}
 use Rattle.rules.proofs.Basics.{no_some, some_inj}
 use Rattle.content.specs.Contents.{kept_in}
 use Rattle.content.proofs.Plains as plains
-use Rattle.text.specs.Trims.{TrimmedTo}
 use Rattle.parts.specs.declared.TextView.{TextView}
 use Rattle.parts.specs.declared.QuantityView.{QuantityView}
 use Rattle.parts.specs.Views.{part_of, text_in, opt_text_in, quantity_in, opt_quantity_in, TextWithin, OptTextWithin, QuantityWithin, OptQuantityWithin}
@@ -59,8 +58,8 @@ module _ {a : Option QuantityView} where
         }
 
 module _ {us : List NamedUnit} {line : List ℕ} {a : Option QuantityView} {has : Bool} {f x : List ℕ} {m : ℕ} where
-  pub unit_known : OptQuantityWithin line a → HasUnit a has → UnitField line a f → TrimmedTo f x → m ≡ unit_code us (kept_in x) → UnitKnown us line a has f x m
-  unit_known w h u t c = record { is = λ q e. go q.unit (h.is line q e) (λ s k. u.is w q s e k); trimmed = t; code = c }
+  pub unit_known : OptQuantityWithin line a → HasUnit a has → UnitField line a f → m ≡ unit_code us (kept_in x) → UnitKnown us line a has f x m
+  unit_known w h u c = record { is = λ q e. go q.unit (h.is line q e) (λ s k. u.is w q s e k); code = c }
     where
       go : (o : Option Text) → is_some o ≡ has → ((s : Text) → o ≡ Some s → trimmed_text s ≡ trimmed_in f) → on_some trimmed_text o ≡ pick has (Some (trimmed_in f)) None
       go None e g = rw (← e) (unfold is_some on_some in refl)

@@ -10,7 +10,6 @@ use Rattle.rules.specs.Checks.{is_defined_in_step, compatible_unit, unit_against
 use Rattle.rules.specs.Components.{checks_after}
 use Rattle.rules.specs.State.{table_of}
 use Rattle.content.specs.Contents.{kept_in}
-use Rattle.text.specs.Trims.{TrimmedTo}
 use Rattle.compatible.specs.Fitting.{unit_code, trimmed_in}
 use Rattle.parts.specs.Views.{opt_quantity_in, OptQuantityWithin}
 use Rattle.components.specs.declared.ComponentView.{ComponentView}
@@ -49,7 +48,6 @@ pub record UnitField (line : List ℕ) (a : Option QuantityView) (f : List ℕ) 
 -- what a new unit is compared by: whether there is one, its field, that trimmed, and the number of its physical quantity
 pub record UnitKnown (us : List NamedUnit) (line : List ℕ) (a : Option QuantityView) (has : Bool) (f x : List ℕ) (m : ℕ) : Type 0 where
   pub is : (q : Quantity) → opt_quantity_in line a ≡ Some q → on_some trimmed_text q.unit ≡ pick has (Some (trimmed_in f)) None
-  pub trimmed : TrimmedTo f x
   pub code : m ≡ unit_code us (kept_in x)
 
 -- the line that a row points at

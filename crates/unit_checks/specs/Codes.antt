@@ -5,6 +5,7 @@ use Rattle.rules.specs.Basic.{pick, eq_list}
 use Rattle.rules.specs.Units.{NamedUnit}
 use Rattle.rules.specs.Event.{Text, Quantity}
 use Rattle.rules.specs.Model.{ingredient, trimmed_text}
+use Rattle.content.specs.Contents.{kept_in}
 use Rattle.units.specs.Lists.{units_from}
 use Rattle.parts.specs.declared.Part.{Part}
 use Rattle.compatible.specs.Fitting.{unit_code, trimmed_in}
@@ -66,6 +67,10 @@ kept_word codes i at end = pick (eqb (get_or codes (i * 3) 0) at) (pick (eqb (ge
 -- the words with one for the row i
 unfoldable pub with_word : List ℕ → ℕ → ℕ → ℕ → ℕ → List ℕ
 with_word codes i at end w = set (set (set codes (i * 3) at) (i * 3 + 1) end) (i * 3 + 2) w
+
+-- x is the field f, trimmed
+pub record Trims (f x : List ℕ) : Type 0 where
+  pub is : kept_in x ≡ trimmed_in f
 
 -- whether the unit of a line is that of a field
 pub record SameUnit (line f : List ℕ) (r : Bool) : Type 0 where

@@ -4,7 +4,6 @@ ghost use Rattle.rules.specs.Basic.{pick, eq_list};
 ghost use Rattle.rules.specs.Read.{parse_line};
 ghost use Rattle.rules.specs.Model.{ingredient};
 ghost use Rattle.content.specs.Contents.{kept_in};
-ghost use Rattle.text.specs.Trims.{TrimmedTo};
 ghost use Rattle.units.specs.Lists.{units_from};
 ghost use Rattle.compatible.specs.Fitting.{unit_code, trimmed_in};
 ghost use Rattle.model.specs.Rows.{component_of_line};
@@ -12,6 +11,7 @@ ghost use Rattle.model.specs.Fits.{is_of_kind};
 ghost use Rattle.unit_checks.specs.Checked.{fits_unit};
 ghost use Rattle.unit_checks.specs.Codes.{code_in, UnitPlaced, LineWord, PlaceWord, CodesKept, kept_word, with_word, SameUnit, code_fits, known_fits};
 
+use crate::{Codes, NewUnit};
 use parts::Part;
 use recall::UnitPlace;
 use unit_index::UnitList;
@@ -53,8 +53,8 @@ fn line_word(units: &UnitList, old: &[u8]) -> u32
 }
 
 // Keeps the word of the line from `at` to `end` for the row i.
-fn keep_word(codes: &mut [u32], i: usize, at: u32, end: u32, w: u32)
-    requires { (i < 513) × (length codes.old ≡ 1539) }
+fn keep_word(codes: &mut Codes, i: usize, at: u32, end: u32, w: u32)
+    requires { i < 513 }
     ensures { codes.new ≡ with_word codes.old i at end w }
 {
     let a = i * 3;
@@ -66,8 +66,8 @@ fn keep_word(codes: &mut [u32], i: usize, at: u32, end: u32, w: u32)
 }
 
 // The word that is kept for the row i, where it is that of this line; else 0.
-fn kept_word(codes: &[u32], i: usize, at: u32, end: u32) -> u32
-    requires { (i < 513) × (length codes.now ≡ 1539) }
+fn kept_word(codes: &Codes, i: usize, at: u32, end: u32) -> u32
+    requires { i < 513 }
     ensures { result ≡ kept_word codes.now i at end }
 {
     if codes[i * 3] == at {
@@ -79,7 +79,7 @@ fn kept_word(codes: &[u32], i: usize, at: u32, end: u32) -> u32
 }
 
 // The word of that line, from then on kept.
-fn row_word(units: &UnitList, codes: &mut [u32], sheet: &[u8], at: u32, end: u32, i: usize) -> u32
+fn row_word(units: &UnitList, codes: &mut Codes, sheet: &[u8], at: u32, end: u32, i: usize) -> u32
     requires { CodesKept units.now.lines.now sheet.now codes.old × (at ≤ end) × (end ≤ length sheet.now) × (is_of_kind ingredient (parse_line (take (end - at) (drop at sheet.now))) ≡ true) × (i < 513) }
     ensures { LineWord units.now.lines.now (take (end - at) (drop at sheet.now)) result × CodesKept units.now.lines.now sheet.now codes.new }
 {
@@ -94,32 +94,31 @@ fn row_word(units: &UnitList, codes: &mut [u32], sheet: &[u8], at: u32, end: u32
     w
 }
 
-// Whether the units of two fields are written alike, without the white space around them: `x` is `f` trimmed.
-fn same_written(a: &[u8], f: &[u8], x: &[u8]) -> bool
-    requires { TrimmedTo f.now x.now }
-    ensures { result ≡ eq_list (trimmed_in a.now) (trimmed_in f.now) }
+// Whether the unit of a field is written like a new one, without the white space around them.
+fn same_written(a: &[u8], new: &NewUnit) -> bool
+    ensures { result ≡ eq_list (trimmed_in a.now) (trimmed_in new.now.field.now) }
 {
-    if sheet::same_bytes(a, f) {
+    if sheet::same_bytes(a, new.field) {
         return true;
     }
     let y = text::text_outer_trimmed(a);
-    content::same_parts(y, x)
+    content::same_parts(y, new.trimmed)
 }
 
-// Whether the unit of an earlier ingredient's line is that of the field `f`: w is the line's word, `x` is `f` trimmed.
-fn same_unit(old: &[u8], w: u32, f: &[u8], x: &[u8]) -> bool
-    requires { (is_of_kind ingredient (parse_line old.now) ≡ true) × (16 ≤ w → UnitPlaced old.now w) × TrimmedTo f.now x.now }
-    ensures { SameUnit old.now f.now result }
+// Whether the unit of an earlier ingredient's line, whose word is w, is a new one.
+fn same_unit(old: &[u8], w: u32, new: &NewUnit) -> bool
+    requires { (is_of_kind ingredient (parse_line old.now) ≡ true) × (16 ≤ w → UnitPlaced old.now w) }
+    ensures { SameUnit old.now new.now.field.now result }
 {
     if 16 <= w {
         let from = (w / 65536) as usize;
         let to = (w % 65536) as usize;
-        return same_written(&old[from..to], f, x);
+        return same_written(&old[from..to], new);
     }
     match recall::unit_in(old) {
         UnitPlace::NoQuantity => false,
         UnitPlace::NoUnit => false,
-        UnitPlace::At(p) => same_written(parts::part_of(old, p), f, x),
+        UnitPlace::At(p) => same_written(parts::part_of(old, p), new),
     }
 }
 
@@ -153,8 +152,8 @@ fn code_fits(o: u32, has: bool, m: u32) -> bool
 }
 
 // Whether a word is kept that says that the row's line fits.
-pub(crate) fn known_fits(codes: &[u32], i: usize, at: u32, end: u32, has: bool, m: u32) -> bool
-    requires { (i < 513) × (length codes.now ≡ 1539) × (m ≤ 5) }
+pub(crate) fn known_fits(codes: &Codes, i: usize, at: u32, end: u32, has: bool, m: u32) -> bool
+    requires { (i < 513) × (m ≤ 5) }
     ensures { result ≡ known_fits (code_in (kept_word codes.now i at end)) has m }
 {
     let w = kept_word(codes, i, at, end);
@@ -165,32 +164,28 @@ pub(crate) fn known_fits(codes: &[u32], i: usize, at: u32, end: u32, has: bool, 
     code_fits(o, has, m)
 }
 
-// Whether the line of the row i draws nothing beside the unit of the field `f`, or beside none: `x` is `f` trimmed, and m the
-// number of its physical quantity.
+// Whether the line of the row i draws nothing beside a new unit.
 pub(crate) fn line_fits(
     units: &UnitList,
-    codes: &mut [u32],
+    codes: &mut Codes,
     sheet: &[u8],
     at: u32,
     end: u32,
     i: usize,
-    has: bool,
-    f: &[u8],
-    x: &[u8],
-    m: u32,
+    new: &NewUnit,
 ) -> bool
-    requires { CodesKept units.now.lines.now sheet.now codes.old × (at ≤ end) × (end ≤ length sheet.now) × (is_of_kind ingredient (parse_line (take (end - at) (drop at sheet.now))) ≡ true) × (i < 513) × TrimmedTo f.now x.now × (m ≡ unit_code (units_from units.now.lines.now 0) (kept_in x.now)) }
-    ensures { (result ≡ fits_unit (units_from units.now.lines.now 0) (component_of_line ingredient (take (end - at) (drop at sheet.now))).quantity (pick has (Some (trimmed_in f.now)) None)) × CodesKept units.now.lines.now sheet.now codes.new }
+    requires { CodesKept units.now.lines.now sheet.now codes.old × (at ≤ end) × (end ≤ length sheet.now) × (is_of_kind ingredient (parse_line (take (end - at) (drop at sheet.now))) ≡ true) × (i < 513) × (new.now.number ≡ unit_code (units_from units.now.lines.now 0) (kept_in new.now.trimmed.now)) }
+    ensures { (result ≡ fits_unit (units_from units.now.lines.now 0) (component_of_line ingredient (take (end - at) (drop at sheet.now))).quantity (pick new.now.has (Some (trimmed_in new.now.field.now)) None)) × CodesKept units.now.lines.now sheet.now codes.new }
 {
     let w = row_word(units, codes, sheet, at, end, i);
     let o = code_in(w);
     if o == 8 {
         return true;
     }
-    if both_unknown(o, has, m) {
+    if both_unknown(o, new.has, new.number) {
         let from = at as usize;
         let to = end as usize;
-        return same_unit(&sheet[from..to], w, f, x);
+        return same_unit(&sheet[from..to], w, new);
     }
-    code_fits(o, has, m)
+    code_fits(o, new.has, new.number)
 }

@@ -9,7 +9,6 @@ ghost use Rattle.rules.specs.Basic.{pick};
 ghost use Rattle.rules.specs.Units.{read_units};
 ghost use Rattle.rules.specs.Answer.{units_or};
 ghost use Rattle.content.specs.Contents.{kept_in};
-ghost use Rattle.text.specs.Trims.{TrimmedTo};
 ghost use Rattle.units.specs.Lists.{units_from};
 ghost use Rattle.compatible.specs.Fitting.{unit_code, trimmed_in};
 ghost use Rattle.parts.specs.Views.{OptQuantityWithin};
@@ -20,7 +19,7 @@ ghost use Rattle.model.specs.Fits.{AllFit};
 ghost use Rattle.model.specs.Searches.{NextReferrer};
 ghost use Rattle.memory.specs.Pushes.{count_of};
 ghost use Rattle.lookup.specs.Names.{rows_in};
-ghost use Rattle.unit_checks.specs.Codes.{CodesKept};
+ghost use Rattle.unit_checks.specs.Codes.{Trims, CodesKept};
 ghost use Rattle.unit_checks.specs.Checked.{InStep, SameBelow, HasUnit, UnitField, UnitKnown, fits_row, RowChecked, ReferrersChecked, UnitChecked, UnitsAfter, EntryChecked, ChecksDone};
 ghost use Rattle.model.specs.Kinds.{kind_of, room_of};
 
@@ -29,6 +28,19 @@ use memory::Memory;
 use model::{Kind, Noted, Relation, RelationRecord, Row};
 use parts::QuantityView;
 use unit_index::UnitList;
+
+// What is kept of earlier ingredients, three words for each: where its line begins and ends, and the word of its unit.
+pub type Codes = [u32; 1539];
+
+// The unit of a new quantity: whether there is one, its field, that trimmed, and the number of its physical quantity.
+#[derive(Clone, Copy)]
+pub(crate) struct NewUnit<'a> {
+    pub has: bool,
+    pub field: &'a [u8],
+    pub trimmed: &'a [u8],
+    pub number: u32,
+    ghost trims: { Trims field.now trimmed.now },
+}
 
 // ---- rows
 
@@ -94,21 +106,17 @@ fn unit_field<'a>(line: &'a [u8], a: Option<QuantityView>) -> &'a [u8]
     }
 }
 
-// Whether the row i draws nothing beside the unit of the field `f`, or beside none: `x` is `f` trimmed, and m the number of its
-// physical quantity. A row that is not there draws nothing.
+// Whether the row i draws nothing beside a new unit. A row that is not there draws nothing.
 fn row_fits(
     units: &UnitList,
-    codes: &mut [u32],
+    codes: &mut Codes,
     memory: &Memory,
     sheet: &[u8],
-    has: bool,
-    f: &[u8],
-    x: &[u8],
-    m: u32,
+    new: &NewUnit,
     i: usize,
 ) -> bool
-    requires { CodesKept units.now.lines.now sheet.now codes.old × AllFit sheet.now memory.now.words.now memory.now.held × TrimmedTo f.now x.now × (m ≡ unit_code (units_from units.now.lines.now 0) (kept_in x.now)) }
-    ensures { (result ≡ fits_row (units_from units.now.lines.now 0) sheet.now memory.now.words.now memory.now.held i (pick has (Some (trimmed_in f.now)) None)) × CodesKept units.now.lines.now sheet.now codes.new }
+    requires { CodesKept units.now.lines.now sheet.now codes.old × AllFit sheet.now memory.now.words.now memory.now.held × (new.now.number ≡ unit_code (units_from units.now.lines.now 0) (kept_in new.now.trimmed.now)) }
+    ensures { (result ≡ fits_row (units_from units.now.lines.now 0) sheet.now memory.now.words.now memory.now.held i (pick new.now.has (Some (trimmed_in new.now.field.now)) None)) × CodesKept units.now.lines.now sheet.now codes.new }
 {
     let n = memory.held.counts.ingredients;
     if n <= i {
@@ -117,8 +125,8 @@ fn row_fits(
     let r = model::row_at(&memory.words[0..6156], i);
     let at = r.line_at;
     let end = r.line_end;
-    kept::known_fits(codes, i, at, end, has, m)
-        || kept::line_fits(units, codes, sheet, at, end, i, has, f, x, m)
+    kept::known_fits(codes, i, at, end, new.has, new.number)
+        || kept::line_fits(units, codes, sheet, at, end, i, new)
 }
 
 // The unit of a new ingredient's quantity `a`, of its line, against that of the row i.
@@ -143,21 +151,18 @@ fn row_against(
 // The same where they do not fit; nothing where there is no such row.
 fn unit_against(
     units: &UnitList,
-    codes: &mut [u32],
+    codes: &mut Codes,
     memory: &Memory,
     sheet: &[u8],
     line: &[u8],
     a: Option<QuantityView>,
-    has: bool,
-    f: &[u8],
-    x: &[u8],
-    m: u32,
+    new: &NewUnit,
     i: usize,
 ) -> Option<Noted>
-    requires { OptQuantityWithin line.now a × UnitKnown (units_from units.now.lines.now 0) line.now a has f.now x.now m × AllFit sheet.now memory.now.words.now memory.now.held × CodesKept units.now.lines.now sheet.now codes.old }
+    requires { OptQuantityWithin line.now a × UnitKnown (units_from units.now.lines.now 0) line.now a new.now.has new.now.field.now new.now.trimmed.now new.now.number × AllFit sheet.now memory.now.words.now memory.now.held × CodesKept units.now.lines.now sheet.now codes.old }
     ensures { RowChecked (units_or (read_units units.now.lines.now)) sheet.now line.now a i memory.now.words.now memory.now.held result × CodesKept units.now.lines.now sheet.now codes.new }
 {
-    if row_fits(units, codes, memory, sheet, has, f, x, m, i) {
+    if row_fits(units, codes, memory, sheet, new, i) {
         return None;
     }
     row_against(units, memory, sheet, line, a, i)
@@ -174,18 +179,15 @@ fn next_pair(memory: &Memory, definition: u32, from: usize) -> Option<(u32, usiz
 // Against those of all rows that refer to the row d, oldest first.
 fn referrer_check(
     units: &UnitList,
-    codes: &mut [u32],
+    codes: &mut Codes,
     memory: &mut Memory,
     sheet: &[u8],
     line: &[u8],
     a: Option<QuantityView>,
-    has: bool,
-    f: &[u8],
-    x: &[u8],
-    m: u32,
+    new: &NewUnit,
     d: usize,
 )
-    requires { OptQuantityWithin line.now a × UnitKnown (units_from units.now.lines.now 0) line.now a has f.now x.now m × AllFit sheet.now memory.old.words.now memory.old.held × (d < memory.old.held.counts.ingredients) × (memory.old.held.counts.findings + memory.old.held.counts.ingredient_pairs ≤ 1544) × CodesKept units.now.lines.now sheet.now codes.old }
+    requires { OptQuantityWithin line.now a × UnitKnown (units_from units.now.lines.now 0) line.now a new.now.has new.now.field.now new.now.trimmed.now new.now.number × AllFit sheet.now memory.old.words.now memory.old.held × (d < memory.old.held.counts.ingredients) × (memory.old.held.counts.findings + memory.old.held.counts.ingredient_pairs ≤ 1544) × CodesKept units.now.lines.now sheet.now codes.old }
     ensures done { ReferrersChecked (units_or (read_units units.now.lines.now)) sheet.now line.now a d memory.old.words.now memory.old.held memory.new.words.now memory.new.held }
     ensures codes { CodesKept units.now.lines.now sheet.now codes.new }
     ensures lent { memory.new.words.ghost_name ≡ memory.old.words.ghost_name }
@@ -199,7 +201,7 @@ fn referrer_check(
         };
         let j = i as usize;
         // Not `unit_against`: with it 23 more instructions a row are written, 5 in a hundred on 512 amounts.
-        if !row_fits(units, codes, memory, sheet, has, f, x, m, j) {
+        if !row_fits(units, codes, memory, sheet, new, j) {
             let found = row_against(units, memory, sheet, line, a, j);
             memory.push_found(found);
         }
@@ -210,7 +212,7 @@ fn referrer_check(
 // Against that of the definition at d, then those of all that refer to it; nothing where there is no quantity.
 fn unit_check(
     units: &UnitList,
-    codes: &mut [u32],
+    codes: &mut Codes,
     memory: &mut Memory,
     sheet: &[u8],
     line: &[u8],
@@ -228,14 +230,18 @@ fn unit_check(
     let r = row_in(memory, Kind::Ingredient, d);
     let g = r.relation;
     let e = g.relation;
-    let has = has_unit(a);
-    let f = unit_field(line, a);
-    let x = text::text_outer_trimmed(f);
-    let m = compatible::unit_code(units, x);
-    let found = unit_against(units, codes, memory, sheet, line, a, has, f, x, m, d);
+    let field = unit_field(line, a);
+    let trimmed = text::text_outer_trimmed(field);
+    let new = NewUnit {
+        has: has_unit(a),
+        field,
+        trimmed,
+        number: compatible::unit_code(units, trimmed),
+    };
+    let found = unit_against(units, codes, memory, sheet, line, a, &new, d);
     memory.push_found(found);
     if matches!(e, Relation::Definition) {
-        referrer_check(units, codes, memory, sheet, line, a, has, f, x, m, d);
+        referrer_check(units, codes, memory, sheet, line, a, &new, d);
     }
 }
 
@@ -245,7 +251,7 @@ fn unit_check(
 fn units_after(
     units: &UnitList,
     flags: u32,
-    codes: &mut [u32],
+    codes: &mut Codes,
     memory: &mut Memory,
     sheet: &[u8],
     line: &[u8],
@@ -297,7 +303,7 @@ fn entry_check(
 pub fn checks_after(
     units: &UnitList,
     flags: u32,
-    codes: &mut [u32],
+    codes: &mut Codes,
     memory: &mut Memory,
     sheet: &[u8],
     line: &[u8],

@@ -16,37 +16,39 @@ ghost use Rattle.unit_index.specs.Index.{names, bucket, head, start, next, longe
 use refusals::Reason;
 use units::{Physical, UnitAt};
 
+// The words of an index.
+pub type Index = [u32; 2305];
+
 // A well-formed unit list in which no name stands twice, with its index.
 #[derive(Clone, Copy)]
 pub struct UnitList<'a> {
     pub lines: &'a [u8],
-    pub words: &'a [u32],
+    pub words: &'a Index,
     ghost indexed: { Indexed lines.now words.now },
 }
 
-fn head_at(index: &[u32], b: usize) -> usize
-    requires { (b < 256) × (length index.now ≡ 2305) }
+fn head_at(index: &Index, b: usize) -> usize
+    requires { b < 256 }
     ensures { result ≡ head index.now b }
 {
     index[b] as usize
 }
 
-fn start_at(index: &[u32], i: usize) -> usize
-    requires { (i < 1024) × (length index.now ≡ 2305) }
+fn start_at(index: &Index, i: usize) -> usize
+    requires { i < 1024 }
     ensures { result ≡ start index.now i }
 {
     index[256 + i * 2] as usize
 }
 
-fn next_at(index: &[u32], i: usize) -> usize
-    requires { (i < 1024) × (length index.now ≡ 2305) }
+fn next_at(index: &Index, i: usize) -> usize
+    requires { i < 1024 }
     ensures { result ≡ next index.now i }
 {
     index[257 + i * 2] as usize
 }
 
-fn longest_in(index: &[u32]) -> usize
-    requires { length index.now ≡ 2305 }
+fn longest_in(index: &Index) -> usize
     ensures { result ≡ longest index.now }
 {
     index[2304] as usize
@@ -82,8 +84,7 @@ pub fn find_named(units: &UnitList, name: &[u8]) -> Option<Physical>
 
 // The chain of the content of a field's part: one more than the number of its first line, or 0; also 0 where the content is seen
 // to be longer than any name.
-pub fn first_of(index: &[u32], name: &[u8]) -> usize
-    requires { length index.now ≡ 2305 }
+pub fn first_of(index: &Index, name: &[u8]) -> usize
     ensures { result ≡ first_of index.now name.now }
 {
     if longest_in(index) < name.len() / 2 {
@@ -106,8 +107,8 @@ pub fn is_named(units: &UnitList, p: usize, name: &[u8]) -> bool
 }
 
 // The next line of its chain.
-pub fn next_of(index: &[u32], p: usize) -> usize
-    requires { (0 < p) × (p ≤ 1024) × (length index.now ≡ 2305) }
+pub fn next_of(index: &Index, p: usize) -> usize
+    requires { (0 < p) × (p ≤ 1024) }
     ensures { result ≡ next index.now (p - 1) }
 {
     next_at(index, p - 1)
@@ -116,15 +117,14 @@ pub fn next_of(index: &[u32], p: usize) -> usize
 // ---- the lines of a list
 
 // No chain has a line.
-fn clear_heads(index: &mut [u32])
-    requires { length index.old ≡ 2305 }
+fn clear_heads(index: &mut Index)
     ensures { Cleared index.new }
 {
     index[..256].fill(0);
 }
 
 // Whether a name in UTF-8 of the chain b is that of one of the first n lines.
-fn has_name(units: &[u8], index: &[u32], n: usize, name: &[u8], b: usize) -> bool
+fn has_name(units: &[u8], index: &Index, n: usize, name: &[u8], b: usize) -> bool
     requires { Filled units.now index.now n × (is_utf8 name.now ≡ true) × (b ≡ bucket (chars name.now)) }
     ensures { result ≡ is_some (find_in (names units.now) (chars name.now) n) }
 {
@@ -142,8 +142,7 @@ fn has_name(units: &[u8], index: &[u32], n: usize, name: &[u8], b: usize) -> boo
 }
 
 // The last word is raised to the size of a name.
-fn keep_longest(index: &mut [u32], size: u32)
-    requires { length index.old ≡ 2305 }
+fn keep_longest(index: &mut Index, size: u32)
     ensures { LongestKept index.old size index.new }
 {
     if index[2304] < size {
@@ -152,8 +151,8 @@ fn keep_longest(index: &mut [u32], size: u32)
 }
 
 // One line more, first in its chain.
-fn push_line(index: &mut [u32], n: usize, b: usize, from: u32)
-    requires { (n < 1024) × (b < 256) × (length index.old ≡ 2305) }
+fn push_line(index: &mut Index, n: usize, b: usize, from: u32)
+    requires { (n < 1024) × (b < 256) }
     ensures { LinePushed index.old n b from index.new }
 {
     let first = index[b];
@@ -166,7 +165,7 @@ fn push_line(index: &mut [u32], n: usize, b: usize, from: u32)
 }
 
 // Line n, whose name stands from a place to another, unless an earlier line has its name.
-fn add_line(units: &[u8], index: &mut [u32], n: usize, from: usize, to: usize) -> bool
+fn add_line(units: &[u8], index: &mut Index, n: usize, from: usize, to: usize) -> bool
     requires { Filled units.now index.old n × Named units.now n from to × (length units.now ≤ 16384) }
     ensures { LineAdded units.now n index.new result }
 {
@@ -181,7 +180,7 @@ fn add_line(units: &[u8], index: &mut [u32], n: usize, from: usize, to: usize) -
 }
 
 // All lines of a well-formed list, up to one whose name an earlier line has.
-fn add_lines(units: &[u8], index: &mut [u32]) -> bool
+fn add_lines(units: &[u8], index: &mut Index) -> bool
     requires { (is_some (read_units units.now) ≡ true) × (length units.now ≤ 16384) × Cleared index.old }
     ensures { AllAdded units.now index.new result }
 {
@@ -198,8 +197,8 @@ fn add_lines(units: &[u8], index: &mut [u32]) -> bool
 }
 
 // The unit list as it is lent: refusal 5 where it is ill-formed, refusal 6 where a name stands twice; else its index.
-pub fn index_units(units: &[u8], index: &mut [u32]) -> Result<(), Reason>
-    requires { (length units.now ≤ 16384) × (length index.old ≡ 2305) }
+pub fn index_units(units: &[u8], index: &mut Index) -> Result<(), Reason>
+    requires { length units.now ≤ 16384 }
     ensures { UnitsIndexed units.now index.new result }
 {
     if !units::is_list(units) {

@@ -9,4 +9,4 @@ pub put_row-requires : goal.put_row-requires
 put_row-requires c = intermediate_roomy c.intermediate_reports.ensures.done c.requires.2
 
 pub returns-clause-done : goal.returns-clause-done
-returns-clause-done c = intermediate_done c.requires.0 c.requires.1 c.name_of-p.ensures c.intermediate_target-target.ensures c.is_components-in_step.ensures c.intermediate_relation-relation.ensures c.row_of-row.ensures c.intermediate_reports.ensures.done c.put_row.ensures.done
+returns-clause-done c = intermediate_done c.requires.0 c.requires.1 c.name_of-p.ensures (rw (c.stored.ensures.words, c.stored.ensures.held) at c.intermediate_target-target.ensures) c.is_components-in_step.ensures c.intermediate_relation-relation.ensures c.row_of-row.ensures c.intermediate_reports.ensures.done c.put_row.ensures.done

@@ -43,9 +43,6 @@ slice_bounds-name-start c = omega (arith, c.unit_part-span.ensures.order, c.unit
 pub slice_bounds-name-end : goal.slice_bounds-name-end
 slice_bounds-name-end c = omega (arith, c.unit_part-span.ensures.to, c.word_end-after.ensures.to)
 
-pub first_of-p-requires : goal.first_of-p-requires
-first_of-p-requires c = c.args.units.now.indexed.filled.long
-
 pub loop-p-init : goal.loop-p-init
 loop-p-init c = along_first _ c.args.units.now.indexed c.first_of-p.ensures
 
@@ -53,7 +50,7 @@ pub is_named-requires : goal.is_named-requires
 is_named-requires c = along_linked _ c.args.units.now.indexed c.loop-p.invariant c.loop-p-test.true
 
 pub next_of-p-requires : goal.next_of-p-requires
-next_of-p-requires c = ((along_few _ c.args.units.now.indexed c.loop-p.invariant c.loop-p-test.true).0, (along_few _ c.args.units.now.indexed c.loop-p.invariant c.loop-p-test.true).1, c.args.units.now.indexed.filled.long)
+next_of-p-requires c = along_few _ c.args.units.now.indexed c.loop-p.invariant c.loop-p-test.true
 
 pub loop-p-smaller : goal.loop-p-smaller
 loop-p-smaller c = along_less _ c.args.units.now.indexed c.loop-p.invariant c.loop-p-test.true c.next_of-p.ensures

@@ -1,5 +1,5 @@
 use native.Mathlib.Omega.{arith}
-use mathlib.Core.Path.{◌∙◌, sym, ap, refl}
+use mathlib.Core.Path.{◌∙◌, ap, refl}
 use Rattle.pass.specs.Walks.{left_if}
 use Rattle.unit_checks.proofs.Codes.{codes_none}
 use Prim.Native.Nat.{◌-◌}
@@ -23,9 +23,6 @@ slice_bounds-line-end c = omega (arith, (c.line_end.ensures.inside _ c.in-Some.i
 
 pub event_of-v-requires : goal.event_of-v-requires
 event_of-v-requires c = line_ready c.loop-at.invariant.0 c.line_end.ensures c.in-Some.is
-
-pub slice_bounds-step-end : goal.slice_bounds-step-end
-slice_bounds-step-end c = sym c.loop-at.invariant.1.long
 
 pub step-requires : goal.step-requires
 step-requires c = (event_here c.loop-at.invariant.0 c.line_end.ensures c.in-Some.is c.event_of-v.ensures, c.loop-at.invariant.0.running, c.loop-at.invariant.1)

@@ -4,9 +4,6 @@ use Rattle.inputs.proofs.Answers.{told_good}
 use Rattle.recipe.proofs.Forms.{plain_refused}
 use Rattle.recipe.proofs.formed.Goals as goal
 
-pub check_inputs-requires : goal.check_inputs-requires
-check_inputs-requires c = c.requires
-
 pub returns-in_err-check_inputs : goal.returns-in_err-check_inputs
 returns-in_err-check_inputs c = rw (err_is _ _ c.from_residual.ensures.1) (plain_refused _ c.check_inputs.ensures.0 _ refl c.in_err-check_inputs.was)
 

@@ -11,14 +11,11 @@ overflow_cast-definition c = omega (arith, c.requires.3, c.args.memory.now.sound
 pub loop-from-init : goal.loop-from-init
 loop-from-init c = (going_start c.requires.2 c.requires.4, c.requires.5, refl)
 
-pub shape_of-codes-in_default : goal.shape_of-codes-in_default
-shape_of-codes-in_default c = omega (arith, c.loop-from.invariant.1.long, c.requires.5.long)
-
 pub returns-in_default-clause-done : goal.returns-in_default-clause-done
 returns-in_default-clause-done c = going_end c.loop-from.invariant.0 c.next_pair.ensures c.in_default.is
 
 pub row_fits-requires : goal.row_fits-requires
-row_fits-requires c = (c.loop-from.invariant.1, c.loop-from.invariant.0.fit, c.requires.1.trimmed, c.requires.1.code)
+row_fits-requires c = (c.loop-from.invariant.1, c.loop-from.invariant.0.fit, c.requires.1.code)
 
 pub row_against-found-requires : goal.row_against-found-requires
 row_against-found-requires c = (c.requires.0, c.loop-from.invariant.0.fit, not_past _ _ _ _ _ _ c.row_fits.ensures.0 (not-true _ c.if-not-row_fits.true-raw))
@@ -37,9 +34,6 @@ loop-from-smaller c = omega (arith, going_less c.loop-from.invariant.0 c.next_pa
 
 pub loop-from-preserved : goal.loop-from-preserved
 loop-from-preserved c = (going_skip c.loop-from.invariant.0 c.next_pair.ensures _ _ c.in-Some.is c.loop-from-test.true (row_skipped c.loop-from.invariant.0.fit (units_start _ c.args.units.now.indexed.list) c.requires.1 c.row_fits.ensures.0 (not-false _ c.if-not-row_fits.false-raw)), c.row_fits.ensures.1, c.loop-from.invariant.2)
-
-pub shape_of-codes : goal.shape_of-codes
-shape_of-codes c = omega (arith, c.loop-from.invariant.1.long, c.requires.5.long)
 
 pub returns-clause-done : goal.returns-clause-done
 returns-clause-done c = going_past c.loop-from.invariant.0 c.loop-from-test.false

@@ -3,7 +3,7 @@ use Rattle.units.proofs.Walks.{units_start}
 use Rattle.unit_checks.proofs.unit_against.Goals as goal
 
 pub row_fits-requires : goal.row_fits-requires
-row_fits-requires c = (c.requires.3, c.requires.2, c.requires.1.trimmed, c.requires.1.code)
+row_fits-requires c = (c.requires.3, c.requires.2, c.requires.1.code)
 
 pub returns-then-row_fits : goal.returns-then-row_fits
 returns-then-row_fits c = (row_skipped c.requires.2 (units_start _ c.args.units.now.indexed.list) c.requires.1 c.row_fits.ensures.0 c.if-row_fits.true, c.row_fits.ensures.1)

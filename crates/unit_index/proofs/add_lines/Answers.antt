@@ -11,9 +11,6 @@ unit_at-requires c = c.loop-u.invariant.placed.list
 pub add_line-requires : goal.add_line-requires
 add_line-requires c = (c.loop-u.invariant.filled, add_named c.loop-u.invariant c.in-Some.ensures, c.requires.1)
 
-pub shape_of-index-then-add_line : goal.shape_of-index-then-add_line
-shape_of-index-then-add_line c = omega (arith, c.add_line.ensures.long, c.requires.2.long)
-
 pub returns-then-add_line : goal.returns-then-add_line
 returns-then-add_line c = add_twice c.loop-u.invariant c.in-Some.ensures c.add_line.ensures c.if-add_line.true
 
@@ -25,9 +22,6 @@ loop-u-smaller c = omega (arith, c.in-Some.ensures.named, c.in-Some.ensures.ende
 
 pub loop-u-preserved : goal.loop-u-preserved
 loop-u-preserved c = add_on c.loop-u.invariant c.in-Some.ensures c.add_line.ensures c.if-add_line.false
-
-pub shape_of-index : goal.shape_of-index
-shape_of-index c = omega (arith, c.loop-u.invariant.filled.long, c.requires.2.long)
 
 pub returns : goal.returns
 returns c = add_ends c.loop-u.invariant c.in_default.ensures

@@ -6,7 +6,7 @@ use Rattle.unit_index.proofs.Searches.{linked_below, line_few, line_in, line_nam
 use Rattle.unit_index.proofs.is_named.Goals as goal
 
 pub start_at-from-requires : goal.start_at-from-requires
-start_at-from-requires c = (line_few c.args.units.now.indexed.filled (linked_below c.requires), c.args.units.now.indexed.filled.long)
+start_at-from-requires c = line_few c.args.units.now.indexed.filled (linked_below c.requires)
 
 pub line_at-u-requires : goal.line_at-u-requires
 line_at-u-requires c = rw c.start_at-from.ensures (line_in c.args.units.now.indexed.filled (linked_below c.requires))

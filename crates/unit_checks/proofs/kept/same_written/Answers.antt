@@ -5,4 +5,4 @@ pub returns-then-same_bytes : goal.returns-then-same_bytes
 returns-then-same_bytes c = written_same _ _ c.same_bytes.ensures c.if-same_bytes.true
 
 pub returns : goal.returns
-returns c = written_trimmed c.text_outer_trimmed-y.ensures c.requires c.same_parts.ensures
+returns c = written_trimmed c.text_outer_trimmed-y.ensures c.args.new.now.trims c.same_parts.ensures
