@@ -103,10 +103,8 @@ fn pair_check(
     ensures done { PairChecked implicit in_step a span b memory.old.words.now memory.old.held memory.new.words.now memory.new.held }
     ensures lent { memory.new.words.ghost_name ≡ memory.old.words.ghost_name }
 {
-    let m = a.kind;
-    let n = b.kind;
-    let x = is_textual(m);
-    let y = is_textual(n);
+    let x = is_textual(a.kind);
+    let y = is_textual(b.kind);
     let conflict = conflict_check(implicit, in_step, a.span, span);
     memory.push_found(conflict);
     let text = text_check(implicit, x, y, a.span, b.span);

@@ -82,22 +82,5 @@ pub fn duplicate_value(f: &[u8]) -> Option<Duplicate>
 pub fn is_heeded(flags: u32, f: &[u8]) -> bool
     ensures { HeededKey flags f.now result }
 {
-    let odd = flags % 2;
-    if odd == 1 {
-        match key_of(f) {
-            Key::Define => {
-                return true;
-            }
-            Key::Duplicate => {
-                return true;
-            }
-            Key::Unknown => {
-                return false;
-            }
-            Key::Ordinary => {
-                return false;
-            }
-        }
-    }
-    false
+    flags % 2 == 1 && matches!(key_of(f), Key::Define | Key::Duplicate)
 }

@@ -2,8 +2,10 @@
 use Prim.Native.Nat.{ℕ, suc, ◌+◌, ◌%◌}
 use mathlib.Core.Path.{◌≡◌, refl, sym, ap, ◌∙◌, subst}
 use mathlib.Core.List.{List}
+use mathlib.Core.Logic.{◌⊎◌, inl, inr}
 use mathlib.Core.Bool.{Bool, true, false, ◌||◌, not}
 use Rattle.std.specs.Prelude.{Option, None, Some}
+use Rattle.std.specs.Option as option
 use native.Mathlib.Numerals.{add-one}
 use borrow.Author.Tests.{ne_eqb}
 use Rattle.rules.specs.Basic.{pick, is_some, on_some, word_in}
@@ -77,13 +79,14 @@ module _ {flags : ℕ} {line : List ℕ} {key value : TextView} (on : flags % 2 
 
 -- ---- blocks
 
-pub keeps_no : (d : Define) {b : Open} {x : Bool} → x ≡ is_components (define_of d) → x ≡ true → b ≡ block.Step → false ≡ keeps d b
+pub keeps_step : (d : Define) {b : Open} {x : Bool} → x ≡ is_components (define_of d) → b ≡ block.Step → not x ≡ keeps d b
 unfolding keeps
-keeps_no d e q k = arm (keeps d) block.Step (ap not (sym q ∙ e)) k
+keeps_step d e k = arm (keeps d) block.Step (ap not e) k
 
-pub keeps_yes : (d : Define) {b : Open} {x : Bool} → x ≡ is_components (define_of d) → x ≡ false → b ≡ block.Step → true ≡ keeps d b
+pub keeps_text : (d : Define) {b : Open} → (b ≡ block.Text) ⊎ (b ≡ block.TextMode) → true ≡ keeps d b
 unfolding keeps
-keeps_yes d e q k = arm (keeps d) block.Step (ap not (sym q ∙ e)) k
+keeps_text d (inl k) = arm (keeps d) block.Text refl k
+keeps_text d (inr k) = arm (keeps d) block.TextMode refl k
 
 pub opens_text : (d : Define) (k : BlockKind) {x : Bool} → x ≡ is_text (define_of d) → x ≡ true → block.TextMode ≡ opens_as d (block_in k)
 unfolding opens_as block_in
@@ -183,18 +186,20 @@ pub within_meta : (line : List ℕ) {b : Between} (k v : TextView) → b ≡ bet
 unfolding BetweenWithin
 within_meta line k v q z = subst (BetweenWithin line) q z
 
+-- a section is named in the line where it is in the event
+named_in : (line : List ℕ) (n : Option TextView) → option.is_some n ≡ is_some (opt_text_in line n)
+unfolding opt_text_in is_some
+named_in line None = refl
+named_in line (Some v) = refl
+
 module _ {flags : ℕ} {line : List ℕ} {b : Between} {f r : Follow} where
   pub between_meta : (k v : TextView) {m : Meta} → b ≡ between.Meta k v → MetaRead flags line k v m → r ≡ meta_follow m f → BetweenFollowed flags line b f r
   unfolding between_follow between_in
   between_meta k v q e w = record { is = arm (λ (x : Between). between_follow flags (between_in line x) f) (between.Meta k v) (w ∙ ap (λ (m : Meta). meta_follow m f) e.is) q }
 
-  pub between_bare : (n : Option TextView) → b ≡ between.Section n → n ≡ None → r ≡ section_follow false f → BetweenFollowed flags line b f r
-  unfolding between_follow between_in opt_text_in is_some
-  between_bare n q e w = record { is = arm (λ (x : Between). between_follow flags (between_in line x) f) (between.Section n) (arm (λ (y : Option TextView). section_follow (is_some (opt_text_in line y)) f) None w e) q }
-
-  pub between_named : (n : Option TextView) (v : TextView) → b ≡ between.Section n → n ≡ Some v → r ≡ section_follow true f → BetweenFollowed flags line b f r
-  unfolding between_follow between_in opt_text_in is_some
-  between_named n v q e w = record { is = arm (λ (x : Between). between_follow flags (between_in line x) f) (between.Section n) (arm (λ (y : Option TextView). section_follow (is_some (opt_text_in line y)) f) (Some v) w e) q }
+  pub between_section : (n : Option TextView) {x : Bool} → b ≡ between.Section n → x ≡ option.is_some n → r ≡ section_follow x f → BetweenFollowed flags line b f r
+  unfolding between_follow between_in
+  between_section n q e w = record { is = arm (λ (x : Between). between_follow flags (between_in line x) f) (between.Section n) (w ∙ ap (λ (x : Bool). section_follow x f) (e ∙ named_in line n)) q }
 
   pub between_start : (k : BlockKind) {o : Open} → b ≡ between.Start k → o ≡ opens_as f.define (block_in k) → r ≡ start_follow o f → BetweenFollowed flags line b f r
   unfolding between_follow between_in

@@ -102,28 +102,12 @@ pub fn meta_of(flags: u32, line: &[u8], key: TextView, value: TextView) -> Meta
     Meta::Ordinary
 }
 
-fn after_meta(m: Meta, mut f: Follow) -> Follow
+fn after_meta(m: Meta, f: Follow) -> Follow
     ensures { result ≡ meta_follow m f }
 {
     match m {
-        Meta::Defines(define) => {
-            let block = f.block;
-            Follow {
-                define,
-                block,
-                shown: f.shown,
-                counter: f.counter,
-                ingredients: f.ingredients,
-                cookware: f.cookware,
-                timers: f.timers,
-                inline: f.inline,
-                old: f.old,
-            }
-        }
-        Meta::Ordinary => {
-            f.old = true;
-            f
-        }
+        Meta::Defines(define) => Follow { define, ..f },
+        Meta::Ordinary => Follow { old: true, ..f },
         Meta::Other => f,
     }
 }
@@ -133,17 +117,11 @@ fn after_meta(m: Meta, mut f: Follow) -> Follow
 fn after_section(named: bool, f: Follow) -> Follow
     ensures { result ≡ section_follow named f }
 {
-    let define = f.define;
     Follow {
-        define,
         block: Open::Nothing,
         shown: named,
         counter: 1,
-        ingredients: f.ingredients,
-        cookware: f.cookware,
-        timers: f.timers,
-        inline: f.inline,
-        old: f.old,
+        ..f
     }
 }
 
@@ -153,14 +131,8 @@ pub fn keeps_block(d: Define, b: Open) -> bool
 {
     match b {
         Open::Nothing => false,
-        Open::Step => {
-            if blocks::is_components(d) {
-                return false;
-            }
-            true
-        }
-        Open::Text => true,
-        Open::TextMode => true,
+        Open::Step => !blocks::is_components(d),
+        Open::Text | Open::TextMode => true,
     }
 }
 
@@ -180,18 +152,11 @@ pub fn opens_as(d: Define, kind: BlockKind) -> Open
 fn after_start(block: Open, f: Follow) -> Follow
     ensures { result ≡ start_follow block f }
 {
-    let define = f.define;
-    let kept = keeps_block(define, block);
+    let kept = keeps_block(f.define, block);
     Follow {
-        define,
         block,
         shown: f.shown || kept,
-        counter: f.counter,
-        ingredients: f.ingredients,
-        cookware: f.cookware,
-        timers: f.timers,
-        inline: f.inline,
-        old: f.old,
+        ..f
     }
 }
 
@@ -216,17 +181,10 @@ fn counter_after(b: Open, f: Follow) -> u32
 fn with_closed(counter: u32, f: Follow) -> Follow
     ensures { result ≡ close_follow counter f }
 {
-    let define = f.define;
     Follow {
-        define,
         block: Open::Nothing,
-        shown: f.shown,
         counter,
-        ingredients: f.ingredients,
-        cookware: f.cookware,
-        timers: f.timers,
-        inline: f.inline,
-        old: f.old,
+        ..f
     }
 }
 
@@ -238,18 +196,15 @@ fn count_component(c: ComponentEvent, mut f: Follow) -> Follow
 {
     match c {
         ComponentEvent::Ingredient(v, i) => {
-            let n = f.ingredients + 1;
-            f.ingredients = n;
+            f.ingredients += 1;
             f
         }
         ComponentEvent::Cookware(v) => {
-            let n = f.cookware + 1;
-            f.cookware = n;
+            f.cookware += 1;
             f
         }
         ComponentEvent::Timer(s, n, q) => {
-            let m = f.timers + 1;
-            f.timers = m;
+            f.timers += 1;
             f
         }
     }
@@ -284,13 +239,12 @@ fn after_between(flags: u32, line: &[u8], b: Between, f: Follow) -> Follow
             let m = meta_of(flags, line, key, value);
             after_meta(m, f)
         }
-        Between::Section(name) => match name {
-            None => after_section(false, f),
-            Some(v) => after_section(true, f),
-        },
+        Between::Section(name) => {
+            let named = name.is_some();
+            after_section(named, f)
+        }
         Between::Start(kind) => {
-            let define = f.define;
-            let o = opens_as(define, kind);
+            let o = opens_as(f.define, kind);
             after_start(o, f)
         }
     }

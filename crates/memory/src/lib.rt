@@ -81,7 +81,7 @@ pub struct Memory<'a> {
 }
 
 impl<'a> Memory<'a> {
-    // It, to be read.
+    // What it holds, to be read.
     pub fn stored(&self) -> Stored<'_>
         ensures words { result.words.now ≡ self.now.words.now }
         ensures held { result.held ≡ self.now.held }

@@ -1,3 +1,4 @@
+pub mod Props
 pub mod Found
 pub mod Stored
 pub mod Printed

@@ -32,9 +32,8 @@ use Rattle.output.specs.Put.{Put}
 use Rattle.output.proofs.Texts.{text_is}
 use Rattle.finding_lines.proofs.Asides.{section_aside, start_aside, inside_aside}
 use Rattle.finding_lines.proofs.Parsers.{next_inj, stop_next, aside_next}
-use Rattle.meta_map.specs.Index.{map_in, Indexed, Cleared, MetasPut}
+use Rattle.meta_map.specs.Index.{map_in, Indexed, MetasPut}
 use Rattle.meta_map.specs.Maps.{map_key, map_meta, map_on, map_over, LineIndexed, SheetIndexed}
-use Rattle.meta_map.proofs.Stored.{indexed_none}
 
 -- ---- the map in the pass
 
@@ -138,16 +137,16 @@ pub record Indexing (flags : ℕ) (text bytes m : List ℕ) (n from : ℕ) : Typ
   pub count : n + 1 ≤ number
   pub is : map_over flags others (map_in bytes m n) ≡ map_over flags (events_or (read_sheet text bytes)) []
 
-pub index_starts : {text bytes m₀ m : List ℕ} (flags : ℕ) → read_sheet text bytes ≡ events (events_or (read_sheet text bytes)) → length m₀ ≡ 21504 → Cleared m₀ m → Indexing flags text bytes m 0 0
+pub index_starts : {text bytes m : List ℕ} {n : ℕ} (flags : ℕ) → read_sheet text bytes ≡ events (events_or (read_sheet text bytes)) → Indexed bytes m n → n ≡ 0 → Indexing flags text bytes m n 0
 unfolding map_in
-index_starts {text} {bytes} {m₀} {m} flags q h c =
+index_starts {text} {bytes} {m} flags q z e =
     record {
       number = 1;
       others = events_or (read_sheet text bytes);
       rest = record { is = unfold read_sheet in q };
-      indexed = indexed_none bytes h c;
-      count = omega arith;
-      is = refl;
+      indexed = z;
+      count = omega (arith, e);
+      is = rw e;
     }
 
 module _ {flags : ℕ} {text bytes m : List ℕ} {n from : ℕ} (v : Indexing flags text bytes m n from) where

@@ -35,24 +35,6 @@ fn head_at(m: &[u32], b: usize) -> usize
     m[20480 + b] as usize
 }
 
-// The row of a key with the hash b among the first n rows: the chain of b from its head on.
-fn find_row(sheet: &[u8], m: &[u32], n: usize, key: &[u8], b: usize) -> Option<usize>
-    requires { Indexed sheet.now m.now n × Hashed (kept_in key.now) b }
-    ensures { RowFound sheet.now m.now n key.now result }
-{
-    let mut p = head_at(m, b);
-    while p != 0 {
-        let i = p - 1;
-        let from = cell_at(m, i, 0);
-        let to = cell_at(m, i, 1);
-        if content::same_parts(key, &sheet[from..to]) {
-            return Some(i);
-        }
-        p = cell_at(m, i, 4);
-    }
-    None
-}
-
 // Another value for the key of a row.
 fn set_value(m: &mut [u32], i: usize, va: u32, ve: u32)
     requires { (i < 4096) × (length m.old ≡ 21504) }
@@ -73,33 +55,6 @@ fn push_key(m: &mut [u32], n: usize, b: usize, ka: u32, ke: u32, va: u32, ve: u3
     model::copy_words(m, at, &[ka, ke, va, ve, next]);
     let more = (n + 1) as u32;
     m[first] = more;
-}
-
-// A key and its value, both trimmed, by their places in the sheet.
-fn insert_meta(
-    sheet: &[u8],
-    m: &mut [u32],
-    n: usize,
-    ka: usize,
-    ke: usize,
-    va: usize,
-    ve: usize,
-) -> usize
-    requires { Indexed sheet.now m.old n × (n < 4096) × (length sheet.now ≤ 65536) × RowIn sheet.now ka ke va ve }
-    ensures { Inserted sheet.now m.old n ka ke va ve m.new result }
-{
-    let k = &sheet[ka..ke];
-    let b = chains::hash_kept(k);
-    match find_row(sheet, m, n, k, b) {
-        Some(i) => {
-            set_value(m, i, va as u32, ve as u32);
-            n
-        }
-        None => {
-            push_key(m, n, b, ka as u32, ke as u32, va as u32, ve as u32);
-            n + 1
-        }
-    }
 }
 
 // No chain has a row.
@@ -130,72 +85,121 @@ fn trim_part(line: &[u8], p: Part) -> Part
     }
 }
 
-// A `meta` line of the sheet, from `from` to `end`.
-fn index_meta(
-    flags: u32,
-    sheet: &[u8],
-    from: usize,
-    end: usize,
-    key: TextView,
-    value: TextView,
-    m: &mut [u32],
-    n: usize,
-) -> usize
-    requires { Indexed sheet.now m.old n × (n < 4096) × (length sheet.now ≤ 65536) × (from ≤ end) × (end ≤ length sheet.now) × TextWithin (part_at sheet.now from end) key × TextWithin (part_at sheet.now from end) value × TextField (part_at sheet.now from end) key × TextField (part_at sheet.now from end) value }
-    ensures { MetaIndexed flags sheet.now (part_at sheet.now from end) m.old n key value m.new result }
-{
-    let line = &sheet[from..end];
-    let kp = key.content;
-    let vp = value.content;
-    let kf = kp.from;
-    let kt = kp.to;
-    // A line that sets a mode stays out of the map.
-    if config_keys::is_heeded(flags, &line[kf..kt]) {
-        return n;
-    }
-    let a = trim_part(line, kp);
-    let b = trim_part(line, vp);
-    let ka = from + a.from;
-    let ke = from + a.to;
-    let va = from + b.from;
-    let ve = from + b.to;
-    insert_meta(sheet, m, n, ka, ke, va, ve)
+// The rows that the index has so far, and the sheet whose keys they are.
+#[derive(Drop)]
+struct Map<'a> {
+    sheet: &'a [u8],
+    words: &'a mut [u32],
+    rows: usize,
+    ghost indexed: { ∥ Indexed sheet.now words.now rows ∥₁ },
 }
 
-// A line of the sheet: only `meta` lines count.
-fn index_event(
-    flags: u32,
-    sheet: &[u8],
-    from: usize,
-    end: usize,
-    v: EventView,
-    m: &mut [u32],
-    n: usize,
-) -> usize
-    requires { Indexed sheet.now m.old n × (n < 4096) × (length sheet.now ≤ 65536) × (from ≤ end) × (end ≤ length sheet.now) × KnownEvent (part_at sheet.now from end) v }
-    ensures { EventIndexed flags sheet.now (part_at sheet.now from end) m.old n v m.new result }
-{
-    match v {
-        EventView::Between(b) => match b {
-            Between::Meta(key, value) => index_meta(flags, sheet, from, end, key, value, m, n),
-            Between::Section(name) => n,
-            Between::Start(kind) => n,
-        },
-        EventView::Inside(i) => n,
-        EventView::Finding(s, k) => n,
+impl<'a> Map<'a> {
+    // The row of a key with the hash b: the chain of b from its head on.
+    fn find(&self, key: &[u8], b: usize) -> Option<usize>
+        requires { Hashed (kept_in key.now) b }
+        ensures { RowFound self.now.sheet.now self.now.words.now self.now.rows key.now result }
+    {
+        let mut p = head_at(self.words, b);
+        while p != 0 {
+            let i = p - 1;
+            let from = cell_at(self.words, i, 0);
+            let to = cell_at(self.words, i, 1);
+            if content::same_parts(key, &self.sheet[from..to]) {
+                return Some(i);
+            }
+            p = cell_at(self.words, i, 4);
+        }
+        None
+    }
+
+    // A key and its value, both trimmed, by their places in the sheet.
+    fn insert(&mut self, ka: usize, ke: usize, va: usize, ve: usize)
+        requires { (self.old.rows < 4096) × (length self.old.sheet.now ≤ 65536) × RowIn self.old.sheet.now ka ke va ve }
+        ensures inserted { Inserted self.old.sheet.now self.old.words.now self.old.rows ka ke va ve self.new.words.now self.new.rows }
+        ensures lent { self.new.words.ghost_name ≡ self.old.words.ghost_name }
+        ensures sheet { self.new.sheet.now ≡ self.old.sheet.now }
+    {
+        let k = &self.sheet[ka..ke];
+        let b = chains::hash_kept(k);
+        match self.find(k, b) {
+            Some(i) => set_value(self.words, i, va as u32, ve as u32),
+            None => {
+                let n = self.rows;
+                push_key(self.words, n, b, ka as u32, ke as u32, va as u32, ve as u32);
+                self.rows = n + 1;
+            }
+        }
+    }
+
+    // A `meta` line of the sheet, from `from` to `end`.
+    fn index_meta(&mut self, flags: u32, from: usize, end: usize, key: TextView, value: TextView)
+        requires { (self.old.rows < 4096) × (length self.old.sheet.now ≤ 65536) × (from ≤ end) × (end ≤ length self.old.sheet.now) × TextWithin (part_at self.old.sheet.now from end) key × TextWithin (part_at self.old.sheet.now from end) value × TextField (part_at self.old.sheet.now from end) key × TextField (part_at self.old.sheet.now from end) value }
+        ensures indexed { MetaIndexed flags self.old.sheet.now (part_at self.old.sheet.now from end) self.old.words.now self.old.rows key value self.new.words.now self.new.rows }
+        ensures lent { self.new.words.ghost_name ≡ self.old.words.ghost_name }
+        ensures sheet { self.new.sheet.now ≡ self.old.sheet.now }
+    {
+        let line = &self.sheet[from..end];
+        // A line that sets a mode stays out of the map.
+        if config_keys::is_heeded(flags, &line[key.content.from..key.content.to]) {
+            return;
+        }
+        let a = trim_part(line, key.content);
+        let b = trim_part(line, value.content);
+        let ka = from + a.from;
+        let ke = from + a.to;
+        let va = from + b.from;
+        let ve = from + b.to;
+        self.insert(ka, ke, va, ve);
+    }
+
+    // A line of the sheet: only `meta` lines count.
+    fn index_event(&mut self, flags: u32, from: usize, end: usize, v: EventView)
+        requires { (self.old.rows < 4096) × (length self.old.sheet.now ≤ 65536) × (from ≤ end) × (end ≤ length self.old.sheet.now) × KnownEvent (part_at self.old.sheet.now from end) v }
+        ensures indexed { EventIndexed flags self.old.sheet.now (part_at self.old.sheet.now from end) self.old.words.now self.old.rows v self.new.words.now self.new.rows }
+        ensures lent { self.new.words.ghost_name ≡ self.old.words.ghost_name }
+        ensures sheet { self.new.sheet.now ≡ self.old.sheet.now }
+    {
+        match v {
+            EventView::Between(b) => match b {
+                Between::Meta(key, value) => self.index_meta(flags, from, end, key, value),
+                Between::Section(name) => {}
+                Between::Start(kind) => {}
+            },
+            EventView::Inside(i) => {}
+            EventView::Finding(s, k) => {}
+        }
+    }
+
+    // A line of the sheet before it is read: `meta` lines alone begin with an m.
+    fn index_line(&mut self, flags: u32, from: usize, end: usize)
+        requires { (self.old.rows < 4096) × (length self.old.sheet.now ≤ 65536) × (from ≤ end) × (end < length self.old.sheet.now) × (is_some (parse_line (part_at self.old.sheet.now from end)) ≡ true) × Without lf (part_at self.old.sheet.now from end) }
+        ensures indexed { LineIndexed flags self.old.sheet.now (part_at self.old.sheet.now from end) self.old.words.now self.old.rows self.new.words.now self.new.rows }
+        ensures lent { self.new.words.ghost_name ≡ self.old.words.ghost_name }
+        ensures sheet { self.new.sheet.now ≡ self.old.sheet.now }
+    {
+        if self.sheet[from] != b'm' {
+            return;
+        }
+        let v = known_events::event_of(&self.sheet[from..end]);
+        self.index_event(flags, from, end, v);
     }
 }
 
-// A line of the sheet before it is read: `meta` lines alone begin with an m.
-fn index_line(flags: u32, sheet: &[u8], from: usize, end: usize, m: &mut [u32], n: usize) -> usize
-    requires { Indexed sheet.now m.old n × (n < 4096) × (length sheet.now ≤ 65536) × (from ≤ end) × (end < length sheet.now) × (is_some (parse_line (part_at sheet.now from end)) ≡ true) × Without lf (part_at sheet.now from end) }
-    ensures { LineIndexed flags sheet.now (part_at sheet.now from end) m.old n m.new result }
+// All lines of a sheet that was read, into its map without rows.
+fn index_lines(flags: u32, sheet: &ReadSheet, map: &mut Map)
+    requires { (length sheet.now.bytes.now ≤ 65536) × (map.old.sheet.now ≡ sheet.now.bytes.now) × (map.old.rows ≡ 0) }
+    ensures indexed { SheetIndexed flags sheet.now.text.now sheet.now.bytes.now map.new.words.now map.new.rows }
+    ensures lent { map.new.words.ghost_name ≡ map.old.words.ghost_name }
 {
-    if sheet[from] != b'm' {
-        return n;
+    let mut from = 0;
+    while from < sheet.bytes.len() {
+        let Some(end) = sheet::line_end(sheet.bytes, from) else {
+            return;
+        };
+        map.index_line(flags, from, end);
+        from = end + 1;
     }
-    let v = known_events::event_of(&sheet[from..end]);
-    index_event(flags, sheet, from, end, v, m, n)
 }
 
 // The index of a sheet that was read: how many keys it has.
@@ -204,16 +208,13 @@ fn fill_index(flags: u32, sheet: &ReadSheet, m: &mut [u32]) -> usize
     ensures { SheetIndexed flags sheet.now.text.now sheet.now.bytes.now m.new result }
 {
     clear_heads(m);
-    let mut n = 0;
-    let mut from = 0;
-    while from < sheet.bytes.len() {
-        let Some(end) = sheet::line_end(sheet.bytes, from) else {
-            return n;
-        };
-        n = index_line(flags, sheet.bytes, from, end, m, n);
-        from = end + 1;
-    }
-    n
+    let mut map = Map {
+        sheet: sheet.bytes,
+        words: m,
+        rows: 0,
+    };
+    index_lines(flags, sheet, &mut map);
+    map.rows
 }
 
 // The same in the window of work memory.

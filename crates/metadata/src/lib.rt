@@ -55,27 +55,23 @@ pub fn on_meta(flags: u32, line: &[u8], key: TextView, value: TextView, memory: 
 {
     let odd = flags % 2;
     if odd == 1 {
-        let kp = key.content;
-        let vp = value.content;
-        let ks = key.span;
-        let vs = value.span;
-        let k = parts::part_of(line, kp);
-        let v = parts::part_of(line, vp);
+        let k = parts::part_of(line, key.content);
+        let v = parts::part_of(line, value.content);
         match config_keys::key_of(k) {
             config_keys::Key::Define => {
                 match config_keys::define_value(v) {
                     Some(define) => memory.held = with_define(memory.held, define),
-                    None => memory.push_finding(wrong_value(ks, vs)),
+                    None => memory.push_finding(wrong_value(key.span, value.span)),
                 }
             }
             config_keys::Key::Duplicate => {
                 match config_keys::duplicate_value(v) {
                     Some(duplicate) => memory.held = with_duplicate(memory.held, duplicate),
-                    None => memory.push_finding(wrong_value(ks, vs)),
+                    None => memory.push_finding(wrong_value(key.span, value.span)),
                 }
             }
             config_keys::Key::Unknown => {
-                memory.push_finding(unknown_key(ks));
+                memory.push_finding(unknown_key(key.span));
             }
             config_keys::Key::Ordinary => {
                 memory.held = count_ordinary(memory.held);

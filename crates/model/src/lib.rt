@@ -114,7 +114,7 @@ pub fn copy_words(words: &mut [u32], at: usize, row: &[u32])
 fn bit(b: bool) -> u32
     ensures { result ≡ bit_of b }
 {
-    if b { 1 } else { 0 }
+    u32::from(b)
 }
 
 fn relation_word(r: Relation) -> u32

@@ -213,19 +213,13 @@ module _ {us : List NamedUnit} {flags : ℕ} {sheet line w₀ w : List ℕ} {v :
 
 -- ---- errors
 
-module _ {v : EventView} where
-  pub error_between : (b : Between) → v ≡ event.Between b → ErrorView v false
-  unfolding is_error_event event_in
-  error_between b q = rw q record { is = λ line. refl }
+pub error_not : (v : EventView) → ((n : ℕ) → v ≡ event.Finding severity.Severe n → ⊥) → ErrorView v false
+unfolding is_error_event event_in severity_in
+error_not (event.Between b) k = record { is = λ line. refl }
+error_not (event.Inside e) k = record { is = λ line. refl }
+error_not (event.Finding severity.Severe n) k = absurd (k n refl)
+error_not (event.Finding severity.Mild n) k = record { is = λ line. refl }
 
-  pub error_inside : (e : Inside) → v ≡ event.Inside e → ErrorView v false
-  unfolding is_error_event event_in
-  error_inside e q = rw q record { is = λ line. refl }
-
-  pub error_severe : (s : Severity) (n : ℕ) → v ≡ event.Finding s n → s ≡ severity.Severe → ErrorView v true
-  unfolding is_error_event event_in severity_in
-  error_severe s n q p = rw (q, p) record { is = λ line. refl }
-
-  pub error_mild : (s : Severity) (n : ℕ) → v ≡ event.Finding s n → s ≡ severity.Mild → ErrorView v false
-  unfolding is_error_event event_in severity_in
-  error_mild s n q p = rw (q, p) record { is = λ line. refl }
+pub error_severe : {v : EventView} (s : Severity) (n : ℕ) → v ≡ event.Finding s n → s ≡ severity.Severe → ErrorView v true
+unfolding is_error_event event_in severity_in
+error_severe s n q p = rw (q, p) record { is = λ line. refl }

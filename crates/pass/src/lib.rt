@@ -153,14 +153,7 @@ fn on_event(
 pub fn is_error(v: EventView) -> bool
     ensures { ErrorView v result }
 {
-    match v {
-        EventView::Between(b) => false,
-        EventView::Inside(e) => false,
-        EventView::Finding(s, n) => match s {
-            Severity::Severe => true,
-            Severity::Mild => false,
-        },
-    }
+    matches!(v, EventView::Finding(Severity::Severe, _))
 }
 
 // One line, and 17 after it. Whether the pass goes on: after an `error` line there will be no recipe.

@@ -122,11 +122,8 @@ fn with_reference(m: Modifiers) -> Modifiers
     ensures { modifiers_in result ≡ with_ref (modifiers_in m) }
 {
     Modifiers {
-        recipe: m.recipe,
         reference: true,
-        hidden: m.hidden,
-        opt: m.opt,
-        new: m.new,
+        ..m
     }
 }
 

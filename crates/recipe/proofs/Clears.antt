@@ -1,10 +1,11 @@
 -- The answer once memory is cleared, and as one number.
-use Prim.Native.Nat.{ℕ, ◌+◌, ◌-◌, ◌*◌, ◌≤◌, ◌<◌}
+use Prim.Native.Nat.{ℕ, ◌+◌, ◌-◌, ◌*◌, ◌≤◌, ◌<◌, min}
 use mathlib.Core.Path.{◌≡◌, refl, ap, sym, ◌∙◌, subst}
 use mathlib.Core.List.{List, ◌++◌, append_assoc}
 use native.Mathlib.Omega.{arith}
 use Rattle.std.specs.Prelude.{Result, Ok, Err}
-use borrow.Author.Tests.{leb-true, leb-false, le-leb, lt-leb}
+use Rattle.std.specs.Result.{result_unwrap_or}
+use borrow.Author.Tests.{leb-true, leb-false}
 use borrow.Rule.Slice.PartMut.{put_mid}
 use lib.Dec.{leb}
 use lib.ListN.{length, take, drop, length-drop, replicate, length-append, length-replicate, replicate-append-replicate}
@@ -18,15 +19,12 @@ use Rattle.refusals.specs.declared.Refusal.{Refusal}
 use Rattle.recipe.specs.Answers.{answer_of, used_of, code_of, answer_code, usable_of, lends, usable_lent, Answered, AnswerLeft, Coded}
 
 -- ---- an answer's variants
+pub used_is : (r : Result ℕ Refusal) → result_unwrap_or r 0 ≡ used_of r
+unfolding used_of
+used_is (Ok n) = refl
+used_is (Err f) = refl
+
 module _ {r : Result ℕ Refusal} where
-  pub used_page : {n : ℕ} → r ≡ Ok n → n ≡ used_of r
-  unfolding used_of
-  used_page q = rw q
-
-  pub used_refused : {f : Refusal} → r ≡ Err f → 0 ≡ used_of r
-  unfolding used_of
-  used_refused q = rw q
-
   pub code_page : {n : ℕ} → r ≡ Ok n → n ≡ answer_code r
   unfolding answer_code
   code_page q = rw q
@@ -95,13 +93,12 @@ usable_short : (room : ℕ) → usable_of room < 4294967296
 unfolding usable_of
 usable_short room = pick_either (λ (n : ℕ). n < 4294967296) (leb room 4294967295) _ _ (λ h. let l : room ≤ 4294967295 = leb-true room 4294967295 h in omega arith) (λ h. omega arith)
 
-pub usable_all : {room : ℕ} → room ≤ 4294967295 → (room ≡ usable_of room) × (room ≤ room)
+pub usable_least : (room : ℕ) → min room 4294967295 ≡ usable_of room
 unfolding usable_of
-usable_all {room} l = (rw (le-leb room 4294967295 l), omega arith)
-
-pub usable_front : {room : ℕ} → 4294967295 < room → (4294967295 ≡ usable_of room) × (4294967295 ≤ room)
-unfolding usable_of
-usable_front {room} l = (rw (lt-leb room 4294967295 l), omega arith)
+usable_least room =
+    pick_either (λ (n : ℕ). min room 4294967295 ≡ n) (leb room 4294967295) _ _
+    (λ h. let l : room ≤ 4294967295 = leb-true room 4294967295 h in omega arith)
+    (λ h. let l : 4294967295 < room = leb-false room 4294967295 h in omega arith)
 
 -- an output of which the front was used, and the rest cleared
 out_longer : (n room : ℕ) (a : rules.Answer) → n ≤ room → ((bytes : List ℕ) → a ≡ answered bytes → length bytes ≤ n) → out_after n a ++ replicate (room - n) 0 ≡ out_after room a

@@ -81,10 +81,7 @@ fn collected(
 fn used(r: Answer) -> usize
     ensures { result ≡ used_of r }
 {
-    match r {
-        Ok(n) => n,
-        Err(_) => 0,
-    }
+    r.unwrap_or(0)
 }
 
 // The page of a sheet with its text, its units and flags, at the front of `out`; or a refusal.
@@ -143,10 +140,13 @@ fn error_line(sheet: &ReadSheet) -> u32
 fn tells_17(r: Result<Option<Held>, Refusal>) -> bool
     ensures { result ≡ tells17 r }
 {
-    match r {
-        Ok(_) => false,
-        Err(f) => matches!(f.reason, Reason::OverLimits),
-    }
+    matches!(
+        r,
+        Err(Refusal {
+            reason: Reason::OverLimits,
+            ..
+        })
+    )
 }
 
 // A form that is not too long: collected again, then copied to the output.
@@ -297,10 +297,7 @@ fn code(r: Answer) -> u64
 fn usable(room: usize) -> usize
     ensures { (result ≡ usable_of room) × (result ≤ room) }
 {
-    if room <= 4294967295 {
-        return room;
-    }
-    4294967295
+    room.min(4294967295)
 }
 
 pub fn recipe_words() -> usize

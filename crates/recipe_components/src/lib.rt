@@ -21,6 +21,15 @@ pub struct ComponentCounts {
     pub cookware_pairs: usize,
 }
 
+// What is lent: how many records of each kind, and how many words for its pairs, two a pair.
+#[derive(Clone, Copy)]
+struct Lent {
+    ingredients: usize,
+    ingredient_pairs: usize,
+    cookware: usize,
+    cookware_pairs: usize,
+}
+
 // The counts of a recipe; `None`: an `error` line, there is no recipe; or a refusal.
 pub type Components = Result<Option<ComponentCounts>, Refusal>;
 
@@ -70,20 +79,19 @@ fn table_fits(count: usize, pairs: usize, records: usize, words: usize) -> bool
 }
 
 // The counts of a recipe, or 20 where some of it does not fit.
-fn recipe_counts(
-    stored: &Stored,
-    ingredients: usize,
-    ingredient_pairs: usize,
-    cookware: usize,
-    cookware_pairs: usize,
-) -> Components
-    ensures { result ≡ counts_or20 stored.now.words.now stored.now.held (room_for ingredients ingredient_pairs) (room_for cookware cookware_pairs) }
+fn recipe_counts(stored: &Stored, room: Lent) -> Components
+    ensures { result ≡ counts_or20 stored.now.words.now stored.now.held (room_for room.ingredients room.ingredient_pairs) (room_for room.cookware room.cookware_pairs) }
 {
     let h = stored.held;
     let i = own_references(stored.words, 0, h.counts.ingredients);
     let c = own_references(stored.words, 6156, h.counts.cookware);
-    if table_fits(h.counts.ingredients, i, ingredients, ingredient_pairs) {
-        if table_fits(h.counts.cookware, c, cookware, cookware_pairs) {
+    if table_fits(
+        h.counts.ingredients,
+        i,
+        room.ingredients,
+        room.ingredient_pairs,
+    ) {
+        if table_fits(h.counts.cookware, c, room.cookware, room.cookware_pairs) {
             return Ok(Some(ComponentCounts {
                 ingredients: h.counts.ingredients,
                 cookware: h.counts.cookware,
@@ -104,42 +112,30 @@ fn pass_rows(
     units: &UnitList,
     flags: u32,
     words: &mut [u32],
-    ingredients: usize,
-    ingredient_pairs: usize,
-    cookware: usize,
-    cookware_pairs: usize,
+    room: Lent,
 ) -> Components
     requires { GoodInputs sheet.now.bytes.now sheet.now.text.now units.now.lines.now flags (length words.old) 65536 }
-    ensures { RowsCollected sheet.now.bytes.now sheet.now.text.now units.now.lines.now flags (room_of (length words.old) ingredients ingredient_pairs cookware cookware_pairs) words.new result }
+    ensures { RowsCollected sheet.now.bytes.now sheet.now.text.now units.now.lines.now flags (room_of (length words.old) room.ingredients room.ingredient_pairs room.cookware room.cookware_pairs) words.new result }
 {
     match pass::run(sheet, units, flags, words)? {
         Some(held) => {
             let stored = Stored { words, held };
-            recipe_counts(
-                &stored,
-                ingredients,
-                ingredient_pairs,
-                cookware,
-                cookware_pairs,
-            )
+            recipe_counts(&stored, room)
         }
         None => Ok(None),
     }
 }
 
-// The answer, for so many records and words for pairs of each kind. The rows of the recipe stay in the words.
+// The answer, for what is lent. The rows of the recipe stay in the words.
 fn collect_rows(
     sheet: &[u8],
     text: &[u8],
     units: &[u8],
     flags: u32,
     words: &mut [u32],
-    ingredients: usize,
-    ingredient_pairs: usize,
-    cookware: usize,
-    cookware_pairs: usize,
+    room: Lent,
 ) -> Components
-    ensures { RowsCollected sheet.now text.now units.now flags (room_of (length words.old) ingredients ingredient_pairs cookware cookware_pairs) words.new result }
+    ensures { RowsCollected sheet.now text.now units.now flags (room_of (length words.old) room.ingredients room.ingredient_pairs room.cookware room.cookware_pairs) words.new result }
 {
     let mut index = [0u32; 2305];
     inputs::check_inputs(
@@ -156,16 +152,7 @@ fn collect_rows(
         lines: units,
         words: &index,
     };
-    pass_rows(
-        &read,
-        &list,
-        flags,
-        words,
-        ingredients,
-        ingredient_pairs,
-        cookware,
-        cookware_pairs,
-    )
+    pass_rows(&read, &list, flags, words, room)
 }
 
 // ---- records
@@ -207,17 +194,13 @@ pub fn collect_components(
         (room_of (length words.old) (length ingredients.old) (length ingredient_pairs.old) (length cookware.old) (length cookware_pairs.old))
         words.new ingredients.new ingredient_pairs.new cookware.new cookware_pairs.new result }
 {
-    let r = collect_rows(
-        sheet,
-        text,
-        units,
-        flags,
-        words,
-        ingredients.len(),
-        ingredient_pairs.len(),
-        cookware.len(),
-        cookware_pairs.len(),
-    );
+    let room = Lent {
+        ingredients: ingredients.len(),
+        ingredient_pairs: ingredient_pairs.len(),
+        cookware: cookware.len(),
+        cookware_pairs: cookware_pairs.len(),
+    };
+    let r = collect_rows(sheet, text, units, flags, words, room);
     let counts = counts_of(r);
     lend_tables(
         words,

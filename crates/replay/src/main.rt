@@ -42,16 +42,8 @@ fn count_of(counts: &[u64; 29], i: usize) -> u64 {
 
 // ---- what has to be zero
 
-// How many bytes of the output an answer hands out.
-fn used(r: Answer) -> usize {
-    match r {
-        Ok(n) => n,
-        Err(_) => 0,
-    }
-}
-
 fn is_cleared(r: Answer, words: &[u32], bytes: &[u8], out: &[u8]) -> bool {
-    let n = used(r);
+    let n = r.unwrap_or(0);
     n <= out.len()
         && words.iter().all(|w| *w == 0)
         && bytes.iter().all(|b| *b == 0)

@@ -27,7 +27,7 @@ struct Sum {
 fn one(yes: bool) -> u64
     ensures { result ≤ 1 }
 {
-    if yes { 1 } else { 0 }
+    u64::from(yes)
 }
 
 fn count(s: &[u8]) -> Counts {

@@ -49,12 +49,6 @@ fn word(s: &[u8], i: usize) -> u32
     lower + upper * 65536
 }
 
-fn shorter(n: usize, m: usize) -> usize
-    ensures { (result ≤ n) × (result ≤ m) }
-{
-    if n < m { n } else { m }
-}
-
 // From how many places on four bytes follow, in names of so many bytes.
 fn words_in(n: usize) -> usize
     ensures { (result ≤ n) × ((i : ℕ) → i < result → i + 4 ≤ n) }
@@ -69,7 +63,7 @@ fn words_in(n: usize) -> usize
 fn common_words(a: &[u8], b: &[u8]) -> usize
     ensures { Common a.now b.now result }
 {
-    let n = words_in(shorter(a.len(), b.len()));
+    let n = words_in(a.len().min(b.len()));
     let mut i = 0;
     while i < n {
         if word(a, i) != word(b, i) {
@@ -84,7 +78,7 @@ fn common_words(a: &[u8], b: &[u8]) -> usize
 fn common(a: &[u8], b: &[u8]) -> usize
     ensures { Common a.now b.now result }
 {
-    let n = shorter(a.len(), b.len());
+    let n = a.len().min(b.len());
     for i in common_words(a, b)..n {
         if a[i] != b[i] {
             return i;
@@ -149,7 +143,7 @@ fn is_same_letter(x: u8, y: u8) -> bool
 fn blanks(a: &[u8], b: &[u8]) -> usize
     ensures { Common a.now b.now result }
 {
-    let n = shorter(a.len(), b.len());
+    let n = a.len().min(b.len());
     for i in 0..n {
         if a[i] != b' ' || b[i] != b' ' {
             return i;
@@ -172,7 +166,7 @@ fn letters(a: &[u8], b: &[u8], at: usize) -> usize
     requires { Seam a.now b.now at }
     ensures { Seam a.now b.now result }
 {
-    let n = shorter(a.len(), b.len());
+    let n = a.len().min(b.len());
     let mut i = at;
     while i < n {
         if is_same_letter(a[i], b[i]) {

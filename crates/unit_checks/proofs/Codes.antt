@@ -30,7 +30,7 @@ use Rattle.recall.specs.Places.{content_if, unit_of, unit_as, UnitRecalled}
 use Rattle.recall.specs.declared.UnitPlace.{UnitPlace}
 use Rattle.recall.specs.declared.UnitPlace.TheVariants.{NoQuantity, NoUnit, At}
 use Rattle.unit_checks.specs.Checked.{fits_unit}
-use Rattle.unit_checks.specs.Codes.{Trims, text_code, amount_code, line_code, code_in, start_in, end_in, UnitPlaced, LineWord, PlaceWord, CodesKept, kept_word, with_word, SameUnit, code_fits, known_fits}
+use Rattle.unit_checks.specs.Codes.{Trims, text_code, amount_code, line_code, code_in, start_in, end_in, UnitPlaced, LineWord, PlaceWord, CodesKept, kept_word, with_word, SameUnit, new_text, NewCode, UpToFive, is_unlisted, code_fits, known_fits}
 
 pub up_to_five : (us : List NamedUnit) (a : List ℕ) {m : ℕ} → m ≡ unit_code us a → m ≤ 5
 up_to_five us a e = rw e (code_small us a)
@@ -143,13 +143,17 @@ module _ (codes : List ℕ) (i at end : ℕ) where
   unfolding kept_word
   kept_end a b = rw (eq-eqb _ _ a, ne_eqb _ _ b)
 
+pub and_none : (b : Bool) → false ≡ (b && false)
+and_none true = refl
+and_none false = refl
+
 -- what it says
-module _ (o : ℕ) (has : Bool) (m : ℕ) {k : ℕ} (e : k ≡ o) {b : Bool} (s : b ≡ (eqb k 6 && has && eqb m 5)) where
-  pub known_not : b ≡ true → false ≡ known_fits o has m
+module _ (o : ℕ) (n : Option ℕ) {k : ℕ} (e : k ≡ o) {b : Bool} (s : b ≡ (eqb k 6 && is_unlisted n)) where
+  pub known_not : b ≡ true → false ≡ known_fits o n
   unfolding known_fits
   known_not h = rw (← e, ← s, h)
 
-  pub known_code : {r : Bool} → b ≡ false → r ≡ code_fits k has m → r ≡ known_fits o has m
+  pub known_code : {r : Bool} → b ≡ false → r ≡ code_fits k n → r ≡ known_fits o n
   unfolding known_fits
   known_code h c = rw (← e, ← s, h) c
 
@@ -247,21 +251,28 @@ unfolding fits_unit amount_code
 fits_absent us None b e n = refl
 fits_absent us (Some q) b e n = absurd (omega (arith, text_small us q.unit, e))
 
-module _ (us : List NamedUnit) {f x : List ℕ} (t : Trims f x) {m : ℕ} (c : m ≡ unit_code us (kept_in x)) where
-  new_small : m ≤ 5
-  new_small = up_to_five us (kept_in x) c
+module _ (us : List NamedUnit) {f x : List ℕ} (t : Trims f x) {n : Option ℕ} (c : NewCode us x n) where
+  new_small : (m : ℕ) → n ≡ Some m → m ≤ 5
+  new_small m p = up_to_five us (kept_in x) (c.is m p)
 
-  new_code : m ≡ unit_code us (trimmed_in f)
-  new_code = c ∙ ap (unit_code us) t.is
+  new_code : (m : ℕ) → n ≡ Some m → m ≡ unit_code us (trimmed_in f)
+  new_code m p = c.is m p ∙ ap (unit_code us) t.is
+
+  pub number_small : UpToFive n
+  number_small = go n refl
+    where
+      go : (z : Option ℕ) → n ≡ z → UpToFive z
+      go None p = tt
+      go (Some m) p = new_small m p
 
   module _ {o : ℕ} {r : Bool} where
-    unit_fits : (u : Option Text) (has : Bool) → o ≡ text_code us u → (eqb o 6 && has && eqb m 5) ≡ false → r ≡ code_fits o has m → r ≡ eqb (compatible_unit us (on_some trimmed_text u) (pick has (Some (trimmed_in f)) None)) 0
-    unfolding text_code code_fits on_some compatible_unit
-    unit_fits None true e n k = k ∙ ne_eqb o (m + 1) (λ z. omega (arith, new_small))
-    unit_fits None false e n k = k ∙ eq-eqb o 7 e
-    unit_fits (Some s) false e n k = k ∙ ne_eqb o 7 (λ z. omega (arith, code_small us (trimmed_text s)))
-    unit_fits (Some s) true e n k =
-        unfold known_of in codes_fit us (trimmed_text s) (trimmed_in f) refl new_code (λ z y. no_truth (sym n ∙ rw (eq-eqb o 6 (omega arith), eq-eqb m 5 y) refl)) r (k ∙ both)
+    unit_fits : (u : Option Text) (z : Option ℕ) → n ≡ z → o ≡ text_code us u → (eqb o 6 && is_unlisted z) ≡ false → r ≡ code_fits o z → r ≡ eqb (compatible_unit us (on_some trimmed_text u) (new_text z f)) 0
+    unfolding text_code code_fits is_unlisted on_some compatible_unit
+    unit_fits None (Some m) p e l k = k ∙ ne_eqb o (m + 1) (λ z. omega (arith, new_small m p))
+    unit_fits None None p e l k = k ∙ eq-eqb o 7 e
+    unit_fits (Some s) None p e l k = k ∙ ne_eqb o 7 (λ z. omega (arith, code_small us (trimmed_text s)))
+    unit_fits (Some s) (Some m) p e l k =
+        unfold known_of in codes_fit us (trimmed_text s) (trimmed_in f) refl (new_code m p) (λ z y. no_truth (sym l ∙ rw (eq-eqb o 6 (omega arith), eq-eqb m 5 y) refl)) r (k ∙ both)
       where
         both : eqb o (m + 1) ≡ eqb (unit_code us (trimmed_text s)) m
         both = same (eqb (unit_code us (trimmed_text s)) m) refl
@@ -271,51 +282,57 @@ module _ (us : List NamedUnit) {f x : List ℕ} (t : Trims f x) {m : ℕ} (c : m
             same false w = ne_eqb o (m + 1) (λ y. eqb-false (unit_code us (trimmed_text s)) m w (omega arith))
 
     -- where no unit has to be compared as it is written
-    pub fits_coded : (old : Option Quantity) (has : Bool) {b : Bool} → o ≡ amount_code us old → (o ≡ 8 → ⊥) → b ≡ (eqb o 6 && has && eqb m 5) → b ≡ false → r ≡ code_fits o has m → r ≡ fits_unit us old (pick has (Some (trimmed_in f)) None)
+    pub fits_coded : (old : Option Quantity) {b : Bool} → o ≡ amount_code us old → (o ≡ 8 → ⊥) → b ≡ (eqb o 6 && is_unlisted n) → b ≡ false → r ≡ code_fits o n → r ≡ fits_unit us old (new_text n f)
     unfolding fits_unit amount_code
-    fits_coded None has e n s l k = absurd (n e)
-    fits_coded (Some q) has e n s l k = unit_fits q.unit has e (sym s ∙ l) k
+    fits_coded None e g s l k = absurd (g e)
+    fits_coded (Some q) e g s l k = unit_fits q.unit n refl e (sym s ∙ l) k
 
     -- where it has
     text_fits : (u : Option Text) → o ≡ text_code us u → o ≡ 6 → ((s : Text) → u ≡ Some s → r ≡ eq_list (trimmed_text s) (trimmed_in f)) → r ≡ eqb (compatible_unit us (on_some trimmed_text u) (Some (trimmed_in f))) 0
     unfolding text_code on_some compatible_unit
-    text_fits None e n k = absurd (omega arith)
-    text_fits (Some s) e n k = unfold known_of in names_fit us (trimmed_text s) (trimmed_in f) refl (omega arith) r (k s refl)
+    text_fits None e w k = absurd (omega arith)
+    text_fits (Some s) e w k = unfold known_of in names_fit us (trimmed_text s) (trimmed_in f) refl (omega arith) r (k s refl)
 
-    pub fits_written : (line : List ℕ) (has : Bool) {b : Bool} → o ≡ amount_code us (component_of_line ingredient line).quantity → b ≡ (eqb o 6 && has && eqb m 5) → b ≡ true → SameUnit line f r
-        → r ≡ fits_unit us (component_of_line ingredient line).quantity (pick has (Some (trimmed_in f)) None)
-    unfolding fits_unit amount_code
-    fits_written line has e s l k = go has (sym s ∙ l) (component_of_line ingredient line).quantity refl e
+    pub fits_written : (line : List ℕ) {b : Bool} → o ≡ amount_code us (component_of_line ingredient line).quantity → b ≡ (eqb o 6 && is_unlisted n) → b ≡ true → SameUnit line f r
+        → r ≡ fits_unit us (component_of_line ingredient line).quantity (new_text n f)
+    unfolding fits_unit amount_code is_unlisted
+    fits_written line e s l k = go n (sym s ∙ l) (component_of_line ingredient line).quantity refl e
       where
-        go : (h : Bool) → (eqb o 6 && h && eqb m 5) ≡ true → (q : Option Quantity) → (component_of_line ingredient line).quantity ≡ q → o ≡ amount_code us q → r ≡ fits_unit us q (pick h (Some (trimmed_in f)) None)
-        go h z None a w = absurd (omega (arith, eqb-true o 6 (and_left _ _ (and_left _ _ z))))
-        go false z (Some q) a w = no_truth (and_right (eqb o 6) false (and_left _ _ z))
-        go true z (Some q) a w = text_fits q.unit w (eqb-true o 6 (and_left _ _ (and_left _ _ z))) (λ t u. k.is q t a u)
+        go : (z : Option ℕ) → (eqb o 6 && is_unlisted z) ≡ true → (q : Option Quantity) → (component_of_line ingredient line).quantity ≡ q → o ≡ amount_code us q → r ≡ fits_unit us q (new_text z f)
+        go z y None a w = absurd (omega (arith, eqb-true o 6 (and_left _ _ y)))
+        go None y (Some q) a w = no_truth (and_right (eqb o 6) false y)
+        go (Some m) y (Some q) a w = text_fits q.unit w (eqb-true o 6 (and_left _ _ y)) (λ t u. k.is q t a u)
 
-  zero_not : (has : Bool) → code_fits 0 has m ≡ true → ⊥
+  zero_not : code_fits 0 n ≡ true → ⊥
   unfolding code_fits
-  zero_not true e = omega (arith, eqb-true 0 (m + 1) e)
-  zero_not false e = omega (arith, eqb-true 0 7 e)
+  zero_not = go n
+    where
+      go : (z : Option ℕ) → code_fits 0 z ≡ true → ⊥
+      go (Some m) e = omega (arith, eqb-true 0 (m + 1) e)
+      go None e = omega (arith, eqb-true 0 7 e)
 
-  eight_not : (has : Bool) → code_fits 8 has m ≡ true → ⊥
+  eight_not : code_fits 8 n ≡ true → ⊥
   unfolding code_fits
-  eight_not true e = omega (arith, new_small, eqb-true 8 (m + 1) e)
-  eight_not false e = omega (arith, eqb-true 8 7 e)
+  eight_not = go n refl
+    where
+      go : (z : Option ℕ) → n ≡ z → code_fits 8 z ≡ true → ⊥
+      go (Some m) p e = omega (arith, new_small m p, eqb-true 8 (m + 1) e)
+      go None p e = omega (arith, eqb-true 8 7 e)
 
 -- by the word that is kept
-module _ {units sheet codes : List ℕ} (v : CodesKept units sheet codes) (i : ℕ) (l : i < 513) {f x : List ℕ} (t : Trims f x) {m : ℕ} (c : m ≡ unit_code (units_from units 0) (kept_in x)) where
-  pub fits_kept : (at end : ℕ) (has : Bool) {r : Bool} → r ≡ known_fits (code_in (kept_word codes i at end)) has m → r ≡ true
-      → true ≡ fits_unit (units_from units 0) (component_of_line ingredient (take (end - at) (drop at sheet))).quantity (pick has (Some (trimmed_in f)) None)
+module _ {units sheet codes : List ℕ} (v : CodesKept units sheet codes) (i : ℕ) (l : i < 513) {f x : List ℕ} (t : Trims f x) {n : Option ℕ} (c : NewCode (units_from units 0) x n) where
+  pub fits_kept : (at end : ℕ) {r : Bool} → r ≡ known_fits (code_in (kept_word codes i at end)) n → r ≡ true
+      → true ≡ fits_unit (units_from units 0) (component_of_line ingredient (take (end - at) (drop at sheet))).quantity (new_text n f)
   unfolding known_fits line_code
-  fits_kept at end has {r} k z = by (code_in (kept_word codes i at end)) refl (eqb (code_in (kept_word codes i at end)) 6 && has && eqb m 5) refl (sym k ∙ z)
+  fits_kept at end {r} k z = by (code_in (kept_word codes i at end)) refl (eqb (code_in (kept_word codes i at end)) 6 && is_unlisted n) refl (sym k ∙ z)
     where
-      by : (o : ℕ) → code_in (kept_word codes i at end) ≡ o → (b : Bool) → (eqb (code_in (kept_word codes i at end)) 6 && has && eqb m 5) ≡ b → pick b false (code_fits (code_in (kept_word codes i at end)) has m) ≡ true
-          → true ≡ fits_unit (units_from units 0) (component_of_line ingredient (take (end - at) (drop at sheet))).quantity (pick has (Some (trimmed_in f)) None)
+      by : (o : ℕ) → code_in (kept_word codes i at end) ≡ o → (b : Bool) → (eqb (code_in (kept_word codes i at end)) 6 && is_unlisted n) ≡ b → pick b false (code_fits (code_in (kept_word codes i at end)) n) ≡ true
+          → true ≡ fits_unit (units_from units 0) (component_of_line ingredient (take (end - at) (drop at sheet))).quantity (new_text n f)
       by o e true p q = no_truth q
       by o e false p q =
-          let u : code_fits o has m ≡ true = rw e at q in
-          let w : (eqb o 6 && has && eqb m 5) ≡ false = rw e at p in
+          let u : code_fits o n ≡ true = rw e at q in
+          let w : (eqb o 6 && is_unlisted n) ≡ false = rw e at p in
           let no_word : code_in 0 ≡ 0 = unfold code_in in refl in
-          fits_coded (units_from units 0) t c (component_of_line ingredient (take (end - at) (drop at sheet))).quantity has
-          (sym e ∙ (word_kept v i l at end refl (λ n. zero_not (units_from units 0) t c has (rw (sym e ∙ ap code_in n ∙ no_word) at u))).is)
-          (λ n. eight_not (units_from units 0) t c has (rw n at u)) refl w (sym u)
+          fits_coded (units_from units 0) t c (component_of_line ingredient (take (end - at) (drop at sheet))).quantity
+          (sym e ∙ (word_kept v i l at end refl (λ g. zero_not (units_from units 0) t c (rw (sym e ∙ ap code_in g ∙ no_word) at u))).is)
+          (λ g. eight_not (units_from units 0) t c (rw g at u)) refl w (sym u)

@@ -1,16 +1,16 @@
 -- A new unit that fits that of an earlier ingredient draws nothing.
 use Prim.Native.Nat.{ℕ, ◌-◌}
-use mathlib.Core.Path.{◌≡◌, refl, ap, ◌∙◌}
+use mathlib.Core.Path.{◌≡◌, refl, ap, sym, ◌∙◌}
 use mathlib.Core.Bool.{Bool, true, false}
 use mathlib.Core.List.{List, []}
 use Rattle.std.specs.Prelude.{Option, None, Some}
 use borrow.Author.Tests.{eqb-true}
-use Rattle.rules.specs.Basic.{pick, is_some, on_some}
+use Rattle.rules.specs.Basic.{is_some, on_some}
 use Rattle.rules.specs.Event.{Text, Quantity}
 use Rattle.rules.specs.Units.{NamedUnit}
 use Rattle.rules.specs.Model.{trimmed_text, amount_of, Entry}
 use Rattle.rules.specs.Checks.{compatible_unit, unit_finding, unit_pair}
-use Rattle.rules.proofs.Basics.{no_some, some_inj}
+use Rattle.rules.proofs.Basics.{no_some, no_truth, some_inj}
 use Rattle.content.specs.Contents.{kept_in}
 use Rattle.content.proofs.Plains as plains
 use Rattle.parts.specs.declared.TextView.{TextView}
@@ -18,7 +18,8 @@ use Rattle.parts.specs.declared.QuantityView.{QuantityView}
 use Rattle.parts.specs.Views.{part_of, text_in, opt_text_in, quantity_in, opt_quantity_in, TextWithin, OptTextWithin, QuantityWithin, OptQuantityWithin}
 use Rattle.parts.proofs.Contents.{content_of_lem}
 use Rattle.compatible.specs.Fitting.{unit_code, trimmed_in}
-use Rattle.unit_checks.specs.Checked.{HasUnit, UnitField, UnitKnown, fits_unit}
+use Rattle.unit_checks.specs.Codes.{new_text}
+use Rattle.unit_checks.specs.Checked.{HasUnit, UnitField, NumberRead, UnitKnown, fits_unit}
 
 -- ---- the unit of a new quantity
 
@@ -57,13 +58,25 @@ module _ {a : Option QuantityView} where
               rw (← some_inj y, p, plains.content_of_lem (part_of line u.content) (content_of_lem line u.content x.content));
         }
 
-module _ {us : List NamedUnit} {line : List ℕ} {a : Option QuantityView} {has : Bool} {f x : List ℕ} {m : ℕ} where
-  pub unit_known : OptQuantityWithin line a → HasUnit a has → UnitField line a f → m ≡ unit_code us (kept_in x) → UnitKnown us line a has f x m
-  unit_known w h u c = record { is = λ q e. go q.unit (h.is line q e) (λ s k. u.is w q s e k); code = c }
+module _ {us : List NamedUnit} {a : Option QuantityView} {x : List ℕ} {b : Bool} (h : HasUnit a b) where
+  pub number_read : {m : ℕ} → b ≡ true → m ≡ unit_code us (kept_in x) → NumberRead us a x (Some m)
+  unfolding is_some
+  number_read e c = record { has = rw e at h; code = record { is = λ k p. sym (some_inj p) ∙ c } }
+
+  pub number_none : b ≡ false → NumberRead us a x None
+  unfolding is_some
+  number_none e = record { has = rw e at h; code = record { is = λ k p. no_some p } }
+
+module _ {us : List NamedUnit} {line : List ℕ} {a : Option QuantityView} {f x : List ℕ} {n : Option ℕ} where
+  pub unit_known : OptQuantityWithin line a → UnitField line a f → NumberRead us a x n → UnitKnown us line a f x n
+  unfolding is_some on_some
+  unit_known w u c = record { is = λ q e. go q.unit n (c.has.is line q e) (λ s k. u.is w q s e k); code = c.code }
     where
-      go : (o : Option Text) → is_some o ≡ has → ((s : Text) → o ≡ Some s → trimmed_text s ≡ trimmed_in f) → on_some trimmed_text o ≡ pick has (Some (trimmed_in f)) None
-      go None e g = rw (← e) (unfold is_some on_some in refl)
-      go (Some s) e g = rw (← e) (unfold is_some on_some in rw (g s refl))
+      go : (o : Option Text) (z : Option ℕ) → is_some o ≡ is_some z → ((s : Text) → o ≡ Some s → trimmed_text s ≡ trimmed_in f) → on_some trimmed_text o ≡ new_text z f
+      go None None e g = refl
+      go None (Some m) e g = no_truth e
+      go (Some s) None e g = no_truth (sym e)
+      go (Some s) (Some m) e g = rw (g s refl)
 
 -- ---- nothing is drawn
 

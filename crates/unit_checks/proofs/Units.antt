@@ -7,7 +7,7 @@ use mathlib.Core.List.{List, [], ◌∷◌, ◌++◌, append-nil}
 use native.Mathlib.Omega.{arith}
 use borrow.Author.Tests.{lt-ltb, le-ltb}
 use lib.ListN.{length, take, drop}
-use Rattle.rules.specs.Basic.{pick, on_some}
+use Rattle.rules.specs.Basic.{on_some}
 use Rattle.rules.specs.Event as rules
 use Rattle.rules.proofs.Basics.{no_truth, by_order}
 use Rattle.rules.specs.Read.{no_modifiers}
@@ -18,7 +18,6 @@ use Rattle.rules.specs.Checks.{unit_finding, unit_pair, unit_against, units_agai
 use Rattle.rules.specs.State.{table_of}
 use Rattle.parts.specs.Views.{opt_quantity_in}
 use Rattle.model.specs.Blank.{blank_span}
-use Rattle.compatible.specs.Fitting.{trimmed_in}
 use Rattle.model.specs.Rows.{row_at, row_of, component_of_line, entry_as, relation_in, relation_as, referrers_in, referrers_from, if_found}
 use Rattle.model.specs.Memory.{windows_of, state_in, Sound}
 use Rattle.model.specs.Fits.{Fits, AllFit}
@@ -40,6 +39,7 @@ use Rattle.memory.proofs.Frames.{Framed, framed_none, framed_seq, framed_count, 
 use Rattle.checks.proofs.Laws.{nothing_found, none_found, said}
 use Rattle.lookup.specs.Names.{rows_in, pairs_in, earlier_in, earlier_at}
 use Rattle.recall.specs.Recalls.{QuantityRecalled}
+use Rattle.unit_checks.specs.Codes.{new_text}
 use Rattle.unit_checks.specs.Checked.{QuantityOf, UnitKnown, fits_unit, fits_row, RowChecked, ReferrersChecked, UnitChecked}
 use Rattle.unit_checks.proofs.Rows.{entry_past, entry_there, earlier_row, row_fits, line_amount, quantity_source}
 use Rattle.unit_checks.proofs.Fitting.{finding_none}
@@ -88,8 +88,8 @@ module _ (i : ℕ) {sheet w₀ : List ℕ} {h₀ : Held} {r : Row} (f : AllFit s
       ∙ ap (λ (x : Option Amount). unit_pair us new x (entry_as ingredient sheet r by).quantity (entry_as ingredient sheet r by)) (amount_is n)
       ∙ ap (λ (x : Option Amount). unit_pair us new (on_some (amount_of true) (opt_quantity_in line a)) x (entry_as ingredient sheet r by)) (line_amount (window_fits w₀ i f l e) by)
 
-  pub row_fitting : {us vs : List NamedUnit} {line : List ℕ} {a : Option QuantityView} {has : Bool} {g x : List ℕ} {m : ℕ} {t : Bool} → us ≡ vs → UnitKnown us line a has g x m
-      → t ≡ fits_unit us (component_of_line ingredient (take (r.line_end - r.line_at) (drop r.line_at sheet))).quantity (pick has (Some (trimmed_in g)) None) → t ≡ true
+  pub row_fitting : {us vs : List NamedUnit} {line : List ℕ} {a : Option QuantityView} {g x : List ℕ} {n : Option ℕ} {t : Bool} → us ≡ vs → UnitKnown us line a g x n
+      → t ≡ fits_unit us (component_of_line ingredient (take (r.line_end - r.line_at) (drop r.line_at sheet))).quantity (new_text n g) → t ≡ true
       → RowChecked vs sheet line a i w₀ h₀ None
   row_fitting {us} {line = line} {a} ev k t z =
       rw (← ev)
@@ -120,12 +120,12 @@ module _ (us : List NamedUnit) (sheet w : List ℕ) (h : Held) (i : ℕ) (b : Op
   not_past e n = by_order h.counts.ingredients i (λ l. no_truth (sym n ∙ e ∙ sym (fits_past l))) (λ l. l)
 
 -- a row that fits draws nothing
-pub row_skipped : {us vs : List NamedUnit} {sheet line : List ℕ} {a : Option QuantityView} {has : Bool} {g x : List ℕ} {m i : ℕ} {w : List ℕ} {h : Held} {t : Bool} → AllFit sheet w h → us ≡ vs → UnitKnown us line a has g x m
-    → t ≡ fits_row us sheet w h i (pick has (Some (trimmed_in g)) None) → t ≡ true → RowChecked vs sheet line a i w h None
-row_skipped {us} {vs} {sheet} {line} {a} {has} {g} {i = i} {w} {h} {t} f ev k e z = by_order h.counts.ingredients i row_none there
+pub row_skipped : {us vs : List NamedUnit} {sheet line : List ℕ} {a : Option QuantityView} {g x : List ℕ} {n : Option ℕ} {i : ℕ} {w : List ℕ} {h : Held} {t : Bool} → AllFit sheet w h → us ≡ vs → UnitKnown us line a g x n
+    → t ≡ fits_row us sheet w h i (new_text n g) → t ≡ true → RowChecked vs sheet line a i w h None
+row_skipped {us} {vs} {sheet} {line} {a} {g} {n = n} {i} {w} {h} {t} f ev k e z = by_order h.counts.ingredients i row_none there
   where
     there : i < h.counts.ingredients → RowChecked vs sheet line a i w h None
-    there l = row_fitting i f l refl ev k (e ∙ sym (fits_there i f l refl us (pick has (Some (trimmed_in g)) None) refl)) z
+    there l = row_fitting i f l refl ev k (e ∙ sym (fits_there i f l refl us (new_text n g) refl)) z
 
 -- ---- what it leaves, whatever the entry is
 

@@ -9,8 +9,8 @@ use Rattle.rules.specs.Reference.{entry_at}
 use Rattle.rules.specs.Checks.{is_defined_in_step, compatible_unit, unit_against, units_against, unit_check, reference_checks}
 use Rattle.rules.specs.Components.{checks_after}
 use Rattle.rules.specs.State.{table_of}
-use Rattle.content.specs.Contents.{kept_in}
-use Rattle.compatible.specs.Fitting.{unit_code, trimmed_in}
+use Rattle.compatible.specs.Fitting.{trimmed_in}
+use Rattle.unit_checks.specs.Codes.{new_text, NewCode}
 use Rattle.parts.specs.Views.{opt_quantity_in, OptQuantityWithin}
 use Rattle.components.specs.declared.ComponentView.{ComponentView}
 use Rattle.components.specs.Views.{component_in}
@@ -45,10 +45,15 @@ pub record HasUnit (a : Option QuantityView) (r : Bool) : Type 0 where
 pub record UnitField (line : List ℕ) (a : Option QuantityView) (f : List ℕ) : Type 0 where
   pub is : OptQuantityWithin line a → (q : Quantity) (t : Text) → opt_quantity_in line a ≡ Some q → q.unit ≡ Some t → trimmed_text t ≡ trimmed_in f
 
--- what a new unit is compared by: whether there is one, its field, that trimmed, and the number of its physical quantity
-pub record UnitKnown (us : List NamedUnit) (line : List ℕ) (a : Option QuantityView) (has : Bool) (f x : List ℕ) (m : ℕ) : Type 0 where
-  pub is : (q : Quantity) → opt_quantity_in line a ≡ Some q → on_some trimmed_text q.unit ≡ pick has (Some (trimmed_in f)) None
-  pub code : m ≡ unit_code us (kept_in x)
+-- the number of its physical quantity, where there is a unit: x is the field, trimmed
+pub record NumberRead (us : List NamedUnit) (a : Option QuantityView) (x : List ℕ) (n : Option ℕ) : Type 0 where
+  pub has : HasUnit a (is_some n)
+  pub code : NewCode us x n
+
+-- what a new unit is compared by: its field, that trimmed, and the number of its physical quantity, where there is one
+pub record UnitKnown (us : List NamedUnit) (line : List ℕ) (a : Option QuantityView) (f x : List ℕ) (n : Option ℕ) : Type 0 where
+  pub is : (q : Quantity) → opt_quantity_in line a ≡ Some q → on_some trimmed_text q.unit ≡ new_text n f
+  pub code : NewCode us x n
 
 -- the line that a row points at
 abbrev row_line : List ℕ → Row → List ℕ

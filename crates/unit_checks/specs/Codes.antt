@@ -76,10 +76,32 @@ pub record Trims (f x : List ℕ) : Type 0 where
 pub record SameUnit (line f : List ℕ) (r : Bool) : Type 0 where
   pub is : (q : Quantity) (s : Text) → (component_of_line ingredient line).quantity ≡ Some q → q.unit ≡ Some s → r ≡ eq_list (trimmed_text s) (trimmed_in f)
 
--- whether a line with the code o fits a new unit whose physical quantity has the number m, or no unit
-unfoldable pub code_fits : ℕ → Bool → ℕ → Bool
-code_fits o has m = pick has (eqb o (m + 1)) (eqb o 7)
+-- ---- a new unit: n is the number of its physical quantity, where there is a unit
+
+-- f is its field: how it is written
+abbrev pub new_text : Option ℕ → List ℕ → Option (List ℕ)
+new_text None f = None
+new_text (Some m) f = Some (trimmed_in f)
+
+-- x is that, trimmed
+pub record NewCode (us : List NamedUnit) (x : List ℕ) (n : Option ℕ) : Type 0 where
+  pub is : (m : ℕ) → n ≡ Some m → m ≡ unit_code us (kept_in x)
+
+-- numbers go up to 5
+abbrev pub UpToFive : Option ℕ → Type 0
+UpToFive None = Unit {0}
+UpToFive (Some m) = m ≤ 5
+
+-- it is not in the list
+unfoldable pub is_unlisted : Option ℕ → Bool
+is_unlisted None = false
+is_unlisted (Some m) = eqb m 5
+
+-- whether a line with the code o fits it
+unfoldable pub code_fits : ℕ → Option ℕ → Bool
+code_fits o None = eqb o 7
+code_fits o (Some m) = eqb o (m + 1)
 
 -- the same where the two need not be compared as they are written
-unfoldable pub known_fits : ℕ → Bool → ℕ → Bool
-known_fits o has m = pick (eqb o 6 && has && eqb m 5) false (code_fits o has m)
+unfoldable pub known_fits : ℕ → Option ℕ → Bool
+known_fits o n = pick (eqb o 6 && is_unlisted n) false (code_fits o n)

@@ -1,15 +1,14 @@
 // What the units of earlier ingredients are, kept in words so that each line is read for its unit once, and whether a new unit fits.
 ghost use Rattle.std.specs.Prelude.{◌≡◌, true, ◌&&◌, ◌+◌, ◌-◌, ◌<◌, ◌≤◌, eqb, length, take, drop, None, Some};
-ghost use Rattle.rules.specs.Basic.{pick, eq_list};
+ghost use Rattle.rules.specs.Basic.{eq_list};
 ghost use Rattle.rules.specs.Read.{parse_line};
 ghost use Rattle.rules.specs.Model.{ingredient};
-ghost use Rattle.content.specs.Contents.{kept_in};
 ghost use Rattle.units.specs.Lists.{units_from};
 ghost use Rattle.compatible.specs.Fitting.{unit_code, trimmed_in};
 ghost use Rattle.model.specs.Rows.{component_of_line};
 ghost use Rattle.model.specs.Fits.{is_of_kind};
 ghost use Rattle.unit_checks.specs.Checked.{fits_unit};
-ghost use Rattle.unit_checks.specs.Codes.{code_in, UnitPlaced, LineWord, PlaceWord, CodesKept, kept_word, with_word, SameUnit, code_fits, known_fits};
+ghost use Rattle.unit_checks.specs.Codes.{code_in, UnitPlaced, LineWord, PlaceWord, CodesKept, kept_word, with_word, SameUnit, new_text, NewCode, UpToFive, is_unlisted, code_fits, known_fits};
 
 use crate::{Codes, NewUnit};
 use parts::Part;
@@ -132,36 +131,39 @@ fn code_in(w: u32) -> u32
     6
 }
 
-// Whether two units are to be compared as they are written: the earlier one has the code o, the new one the number m, and
-// neither is in the list.
-fn both_unknown(o: u32, has: bool, m: u32) -> bool
-    ensures { result ≡ (eqb o 6 && has && eqb m 5) }
+// Whether two units are to be compared as they are written: the earlier one has the code o, the new one a number, and neither
+// is in the list.
+fn both_unknown(o: u32, number: Option<u32>) -> bool
+    ensures { result ≡ (eqb o 6 && is_unlisted number) }
 {
-    (o == 6) & has & (m == 5)
+    match number {
+        None => false,
+        Some(m) => (o == 6) & (m == 5),
+    }
 }
 
 // Else whether they fit; the new amount may have no unit.
-fn code_fits(o: u32, has: bool, m: u32) -> bool
-    requires { m ≤ 5 }
-    ensures { result ≡ code_fits o has m }
+fn code_fits(o: u32, number: Option<u32>) -> bool
+    requires { UpToFive number }
+    ensures { result ≡ code_fits o number }
 {
-    if has {
-        return o == m + 1;
+    match number {
+        Some(m) => o == m + 1,
+        None => o == 7,
     }
-    o == 7
 }
 
 // Whether a word is kept that says that the row's line fits.
-pub(crate) fn known_fits(codes: &Codes, i: usize, at: u32, end: u32, has: bool, m: u32) -> bool
-    requires { (i < 513) × (m ≤ 5) }
-    ensures { result ≡ known_fits (code_in (kept_word codes.now i at end)) has m }
+pub(crate) fn known_fits(codes: &Codes, i: usize, at: u32, end: u32, number: Option<u32>) -> bool
+    requires { (i < 513) × UpToFive number }
+    ensures { result ≡ known_fits (code_in (kept_word codes.now i at end)) number }
 {
     let w = kept_word(codes, i, at, end);
     let o = code_in(w);
-    if both_unknown(o, has, m) {
+    if both_unknown(o, number) {
         return false;
     }
-    code_fits(o, has, m)
+    code_fits(o, number)
 }
 
 // Whether the line of the row i draws nothing beside a new unit.
@@ -174,18 +176,18 @@ pub(crate) fn line_fits(
     i: usize,
     new: &NewUnit,
 ) -> bool
-    requires { CodesKept units.now.lines.now sheet.now codes.old × (at ≤ end) × (end ≤ length sheet.now) × (is_of_kind ingredient (parse_line (take (end - at) (drop at sheet.now))) ≡ true) × (i < 513) × (new.now.number ≡ unit_code (units_from units.now.lines.now 0) (kept_in new.now.trimmed.now)) }
-    ensures { (result ≡ fits_unit (units_from units.now.lines.now 0) (component_of_line ingredient (take (end - at) (drop at sheet.now))).quantity (pick new.now.has (Some (trimmed_in new.now.field.now)) None)) × CodesKept units.now.lines.now sheet.now codes.new }
+    requires { CodesKept units.now.lines.now sheet.now codes.old × (at ≤ end) × (end ≤ length sheet.now) × (is_of_kind ingredient (parse_line (take (end - at) (drop at sheet.now))) ≡ true) × (i < 513) × NewCode (units_from units.now.lines.now 0) new.now.trimmed.now new.now.number }
+    ensures { (result ≡ fits_unit (units_from units.now.lines.now 0) (component_of_line ingredient (take (end - at) (drop at sheet.now))).quantity (new_text new.now.number new.now.field.now)) × CodesKept units.now.lines.now sheet.now codes.new }
 {
     let w = row_word(units, codes, sheet, at, end, i);
     let o = code_in(w);
     if o == 8 {
         return true;
     }
-    if both_unknown(o, new.has, new.number) {
+    if both_unknown(o, new.number) {
         let from = at as usize;
         let to = end as usize;
         return same_unit(&sheet[from..to], w, new);
     }
-    code_fits(o, new.has, new.number)
+    code_fits(o, new.number)
 }

@@ -5,12 +5,10 @@
 mod kept;
 
 ghost use Rattle.std.specs.Prelude.{◌≡◌, true, ◌+◌, ◌-◌, ◌<◌, ◌≤◌, length, None, Some};
-ghost use Rattle.rules.specs.Basic.{pick};
 ghost use Rattle.rules.specs.Units.{read_units};
 ghost use Rattle.rules.specs.Answer.{units_or};
-ghost use Rattle.content.specs.Contents.{kept_in};
 ghost use Rattle.units.specs.Lists.{units_from};
-ghost use Rattle.compatible.specs.Fitting.{unit_code, trimmed_in};
+ghost use Rattle.compatible.specs.Fitting.{unit_code};
 ghost use Rattle.parts.specs.Views.{OptQuantityWithin};
 ghost use Rattle.components.specs.Views.{ComponentWithin};
 ghost use Rattle.model.specs.Rows.{row_at, row_of};
@@ -19,8 +17,8 @@ ghost use Rattle.model.specs.Fits.{AllFit};
 ghost use Rattle.model.specs.Searches.{NextReferrer};
 ghost use Rattle.memory.specs.Pushes.{count_of};
 ghost use Rattle.lookup.specs.Names.{rows_in};
-ghost use Rattle.unit_checks.specs.Codes.{Trims, CodesKept};
-ghost use Rattle.unit_checks.specs.Checked.{InStep, SameBelow, HasUnit, UnitField, UnitKnown, fits_row, RowChecked, ReferrersChecked, UnitChecked, UnitsAfter, EntryChecked, ChecksDone};
+ghost use Rattle.unit_checks.specs.Codes.{Trims, new_text, NewCode, CodesKept};
+ghost use Rattle.unit_checks.specs.Checked.{InStep, SameBelow, HasUnit, UnitField, NumberRead, UnitKnown, fits_row, RowChecked, ReferrersChecked, UnitChecked, UnitsAfter, EntryChecked, ChecksDone};
 ghost use Rattle.model.specs.Kinds.{kind_of, room_of};
 
 use components::ComponentView;
@@ -32,13 +30,12 @@ use unit_index::UnitList;
 // What is kept of earlier ingredients, three words for each: where its line begins and ends, and the word of its unit.
 pub type Codes = [u32; 1539];
 
-// The unit of a new quantity: whether there is one, its field, that trimmed, and the number of its physical quantity.
+// The unit of a new quantity: its field, that trimmed, and the number of its physical quantity, where there is a unit.
 #[derive(Clone, Copy)]
 pub(crate) struct NewUnit<'a> {
-    pub has: bool,
     pub field: &'a [u8],
     pub trimmed: &'a [u8],
-    pub number: u32,
+    pub number: Option<u32>,
     ghost trims: { Trims field.now trimmed.now },
 }
 
@@ -55,7 +52,7 @@ pub fn kind_row(words: &[u32], kind: Kind, i: usize) -> Row
     }
 }
 
-// The same of the whole of work memory: what a `&mut Memory` lends in part is not known to stay as it is.
+// The same of a whole `Memory`: of the words that a `&mut Memory` lends in part the check knows only their length afterwards.
 fn row_in(memory: &Memory, kind: Kind, i: usize) -> Row
     requires { i < room_of (kind_of kind) }
     ensures { result ≡ row_of (row_at 12 (rows_in (kind_of kind) memory.now.words.now) i) }
@@ -90,6 +87,16 @@ fn has_unit(a: Option<QuantityView>) -> bool
     }
 }
 
+// The number of its physical quantity, where there is one: `x` is its field, trimmed.
+fn number_of(units: &UnitList, a: Option<QuantityView>, x: &[u8]) -> Option<u32>
+    ensures { NumberRead (units_from units.now.lines.now 0) a x.now result }
+{
+    if has_unit(a) {
+        return Some(compatible::unit_code(units, x));
+    }
+    None
+}
+
 // The field of a quantity's unit in its line; nothing where there is none.
 fn unit_field<'a>(line: &'a [u8], a: Option<QuantityView>) -> &'a [u8]
     ensures { UnitField line.now a result.now }
@@ -115,8 +122,8 @@ fn row_fits(
     new: &NewUnit,
     i: usize,
 ) -> bool
-    requires { CodesKept units.now.lines.now sheet.now codes.old × AllFit sheet.now memory.now.words.now memory.now.held × (new.now.number ≡ unit_code (units_from units.now.lines.now 0) (kept_in new.now.trimmed.now)) }
-    ensures { (result ≡ fits_row (units_from units.now.lines.now 0) sheet.now memory.now.words.now memory.now.held i (pick new.now.has (Some (trimmed_in new.now.field.now)) None)) × CodesKept units.now.lines.now sheet.now codes.new }
+    requires { CodesKept units.now.lines.now sheet.now codes.old × AllFit sheet.now memory.now.words.now memory.now.held × NewCode (units_from units.now.lines.now 0) new.now.trimmed.now new.now.number }
+    ensures { (result ≡ fits_row (units_from units.now.lines.now 0) sheet.now memory.now.words.now memory.now.held i (new_text new.now.number new.now.field.now)) × CodesKept units.now.lines.now sheet.now codes.new }
 {
     let n = memory.held.counts.ingredients;
     if n <= i {
@@ -125,7 +132,7 @@ fn row_fits(
     let r = model::row_at(&memory.words[0..6156], i);
     let at = r.line_at;
     let end = r.line_end;
-    kept::known_fits(codes, i, at, end, new.has, new.number)
+    kept::known_fits(codes, i, at, end, new.number)
         || kept::line_fits(units, codes, sheet, at, end, i, new)
 }
 
@@ -159,7 +166,7 @@ fn unit_against(
     new: &NewUnit,
     i: usize,
 ) -> Option<Noted>
-    requires { OptQuantityWithin line.now a × UnitKnown (units_from units.now.lines.now 0) line.now a new.now.has new.now.field.now new.now.trimmed.now new.now.number × AllFit sheet.now memory.now.words.now memory.now.held × CodesKept units.now.lines.now sheet.now codes.old }
+    requires { OptQuantityWithin line.now a × UnitKnown (units_from units.now.lines.now 0) line.now a new.now.field.now new.now.trimmed.now new.now.number × AllFit sheet.now memory.now.words.now memory.now.held × CodesKept units.now.lines.now sheet.now codes.old }
     ensures { RowChecked (units_or (read_units units.now.lines.now)) sheet.now line.now a i memory.now.words.now memory.now.held result × CodesKept units.now.lines.now sheet.now codes.new }
 {
     if row_fits(units, codes, memory, sheet, new, i) {
@@ -187,7 +194,7 @@ fn referrer_check(
     new: &NewUnit,
     d: usize,
 )
-    requires { OptQuantityWithin line.now a × UnitKnown (units_from units.now.lines.now 0) line.now a new.now.has new.now.field.now new.now.trimmed.now new.now.number × AllFit sheet.now memory.old.words.now memory.old.held × (d < memory.old.held.counts.ingredients) × (memory.old.held.counts.findings + memory.old.held.counts.ingredient_pairs ≤ 1544) × CodesKept units.now.lines.now sheet.now codes.old }
+    requires { OptQuantityWithin line.now a × UnitKnown (units_from units.now.lines.now 0) line.now a new.now.field.now new.now.trimmed.now new.now.number × AllFit sheet.now memory.old.words.now memory.old.held × (d < memory.old.held.counts.ingredients) × (memory.old.held.counts.findings + memory.old.held.counts.ingredient_pairs ≤ 1544) × CodesKept units.now.lines.now sheet.now codes.old }
     ensures done { ReferrersChecked (units_or (read_units units.now.lines.now)) sheet.now line.now a d memory.old.words.now memory.old.held memory.new.words.now memory.new.held }
     ensures codes { CodesKept units.now.lines.now sheet.now codes.new }
     ensures lent { memory.new.words.ghost_name ≡ memory.old.words.ghost_name }
@@ -233,10 +240,9 @@ fn unit_check(
     let field = unit_field(line, a);
     let trimmed = text::text_outer_trimmed(field);
     let new = NewUnit {
-        has: has_unit(a),
         field,
         trimmed,
-        number: compatible::unit_code(units, trimmed),
+        number: number_of(units, a, trimmed),
     };
     let found = unit_against(units, codes, memory, sheet, line, a, &new, d);
     memory.push_found(found);

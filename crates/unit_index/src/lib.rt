@@ -164,7 +164,7 @@ fn push_line(index: &mut Index, n: usize, b: usize, from: u32)
     index[b] = more;
 }
 
-// Line n, whose name stands from a place to another, unless an earlier line has its name.
+// Adds line n, whose name stands from a place to another. True where an earlier line has its name: then nothing is added.
 fn add_line(units: &[u8], index: &mut Index, n: usize, from: usize, to: usize) -> bool
     requires { Filled units.now index.old n × Named units.now n from to × (length units.now ≤ 16384) }
     ensures { LineAdded units.now n index.new result }
@@ -179,7 +179,8 @@ fn add_line(units: &[u8], index: &mut Index, n: usize, from: usize, to: usize) -
     false
 }
 
-// All lines of a well-formed list, up to one whose name an earlier line has.
+// Adds the lines of a well-formed list, up to the first whose name an earlier line has. True where there is such a line: then the
+// index is of no use.
 fn add_lines(units: &[u8], index: &mut Index) -> bool
     requires { (is_some (read_units units.now) ≡ true) × (length units.now ≤ 16384) × Cleared index.old }
     ensures { AllAdded units.now index.new result }

@@ -1,14 +1,13 @@
-use Rattle.pass.proofs.Lines.{error_between, error_inside, error_severe, error_mild}
+use native.Mathlib.Omega.{arith}
+use mathlib.Core.Path.{◌≡◌, refl}
+use Rattle.pass.proofs.Lines.{error_not, error_severe}
 use Rattle.pass.proofs.is_error.Goals as goal
 
-pub returns-in-Between : goal.returns-in-Between
-returns-in-Between c = error_between _ c.in-Between.is
+pub returns-in-Finding-Severe-default : goal.returns-in-Finding-Severe-default
+returns-in-Finding-Severe-default c = error_severe _ _ c.in-Finding-Severe-default.is (rw c.in-Finding-Severe-default.is at c.in-Finding-Severe-default.field-0-is)
 
-pub returns-in-Inside : goal.returns-in-Inside
-returns-in-Inside c = error_inside _ c.in-Inside.is
+pub returns-in_default : goal.returns-in_default
+returns-in_default c = error_not _ (λ n e. let z : 0 ≡ 1 = rw e at c.in_default.in-Mild-own.keys2 in omega (arith, z))
 
-pub returns-in-Severe : goal.returns-in-Severe
-returns-in-Severe c = error_severe _ _ c.in-Finding.is c.in-Severe.is
-
-pub returns-in-Mild : goal.returns-in-Mild
-returns-in-Mild c = error_mild _ _ c.in-Finding.is c.in-Mild.is
+pub returns-in_default-2 : goal.returns-in_default-2
+returns-in_default-2 c = error_not _ (λ n e. (rw e at c.in_default.in_default-own.refused-1).1 refl)

@@ -1,8 +1,7 @@
-use Rattle.recipe.proofs.Clears.{usable_all, usable_front}
+use native.Mathlib.Omega.{arith}
+use mathlib.Core.Path.{◌∙◌}
+use Rattle.recipe.proofs.Clears.{usable_least}
 use Rattle.recipe.proofs.usable.Goals as goal
 
-pub returns-then-room-le4294967295 : goal.returns-then-room-le4294967295
-returns-then-room-le4294967295 c = usable_all c.if-room-le4294967295.true
-
 pub returns : goal.returns
-returns c = usable_front c.if-room-le4294967295.false
+returns c = (c.min.ensures ∙ usable_least c.args.room, omega (arith, c.min.ensures))

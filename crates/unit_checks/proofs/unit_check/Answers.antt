@@ -16,13 +16,13 @@ pub row_in-r-requires : goal.row_in-r-requires
 row_in-r-requires c = row_room c.args.memory.now.sound ingredient c.args.d c.requires.2
 
 pub unit_against-found-requires : goal.unit_against-found-requires
-unit_against-found-requires c = (c.requires.0, unit_known c.requires.0 c.has_unit.ensures c.unit_field-field.ensures c.unit_code.ensures, c.requires.1, c.requires.4)
+unit_against-found-requires c = (c.requires.0, unit_known c.requires.0 c.unit_field-field.ensures c.number_of.ensures, c.requires.1, c.requires.4)
 
 pub push_found-requires : goal.push_found-requires
 push_found-requires c = omega (arith, c.requires.3)
 
 pub referrer_check-requires : goal.referrer_check-requires
-referrer_check-requires c = (c.requires.0, unit_known c.requires.0 c.has_unit.ensures c.unit_field-field.ensures c.unit_code.ensures, reported_fit c.push_found.ensures.found _ c.requires.1, row_below _ c.push_found.ensures.found c.requires.2, row_left _ c.push_found.ensures.found c.requires.3, c.unit_against-found.ensures.1)
+referrer_check-requires c = (c.requires.0, unit_known c.requires.0 c.unit_field-field.ensures c.number_of.ensures, reported_fit c.push_found.ensures.found _ c.requires.1, row_below _ c.push_found.ensures.found c.requires.2, row_left _ c.push_found.ensures.found c.requires.3, c.unit_against-found.ensures.1)
 
 pub returns-then-matches-clause-done : goal.returns-then-matches-clause-done
 returns-then-matches-clause-done c =

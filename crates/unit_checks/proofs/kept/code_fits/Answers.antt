@@ -1,10 +1,10 @@
 use Rattle.unit_checks.specs.Codes.{code_fits}
 use Rattle.unit_checks.proofs.kept.code_fits.Goals as goal
 
-pub returns-then-has : goal.returns-then-has
+pub returns-in-Some : goal.returns-in-Some
 unfolding code_fits
-returns-then-has c = rw c.if-has.true
+returns-in-Some c = rw c.in-Some.is
 
-pub returns : goal.returns
+pub returns-in-None : goal.returns-in-None
 unfolding code_fits
-returns c = rw c.if-has.false
+returns-in-None c = rw c.in-None.is

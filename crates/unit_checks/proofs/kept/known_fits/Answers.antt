@@ -4,7 +4,7 @@ use Rattle.unit_checks.specs.Codes.{code_in}
 use Rattle.unit_checks.proofs.kept.known_fits.Goals as goal
 
 pub returns-then-both_unknown : goal.returns-then-both_unknown
-returns-then-both_unknown c = known_not _ _ _ (c.code_in-o.ensures ∙ ap code_in c.kept_word-w.ensures) c.both_unknown.ensures c.if-both_unknown.true
+returns-then-both_unknown c = known_not _ _ (c.code_in-o.ensures ∙ ap code_in c.kept_word-w.ensures) c.both_unknown.ensures c.if-both_unknown.true
 
 pub returns : goal.returns
-returns c = known_code _ _ _ (c.code_in-o.ensures ∙ ap code_in c.kept_word-w.ensures) c.both_unknown.ensures c.if-both_unknown.false c.code_fits.ensures
+returns c = known_code _ _ (c.code_in-o.ensures ∙ ap code_in c.kept_word-w.ensures) c.both_unknown.ensures c.if-both_unknown.false c.code_fits.ensures
