@@ -238,7 +238,7 @@ pub fn over_limits(h: Held) -> bool
     1024 < h.counts.findings
 }
 
-// Whether the open block is one.
+// Whether a block is open.
 pub fn is_open(b: Open) -> bool
     ensures { result ≡ is_open_block b }
 {

@@ -92,6 +92,7 @@ struct Map<'a> {
     words: &'a mut [u32],
     rows: usize,
     ghost indexed: { ∥ Indexed sheet.now words.now rows ∥₁ },
+    ghost short: { length sheet.now ≤ 65536 },
 }
 
 impl<'a> Map<'a> {
@@ -115,7 +116,7 @@ impl<'a> Map<'a> {
 
     // A key and its value, both trimmed, by their places in the sheet.
     fn insert(&mut self, ka: usize, ke: usize, va: usize, ve: usize)
-        requires { (self.old.rows < 4096) × (length self.old.sheet.now ≤ 65536) × RowIn self.old.sheet.now ka ke va ve }
+        requires { (self.old.rows < 4096) × RowIn self.old.sheet.now ka ke va ve }
         ensures inserted { Inserted self.old.sheet.now self.old.words.now self.old.rows ka ke va ve self.new.words.now self.new.rows }
         ensures lent { self.new.words.ghost_name ≡ self.old.words.ghost_name }
         ensures sheet { self.new.sheet.now ≡ self.old.sheet.now }
@@ -134,7 +135,7 @@ impl<'a> Map<'a> {
 
     // A `meta` line of the sheet, from `from` to `end`.
     fn index_meta(&mut self, flags: u32, from: usize, end: usize, key: TextView, value: TextView)
-        requires { (self.old.rows < 4096) × (length self.old.sheet.now ≤ 65536) × (from ≤ end) × (end ≤ length self.old.sheet.now) × TextWithin (part_at self.old.sheet.now from end) key × TextWithin (part_at self.old.sheet.now from end) value × TextField (part_at self.old.sheet.now from end) key × TextField (part_at self.old.sheet.now from end) value }
+        requires { (self.old.rows < 4096) × (from ≤ end) × (end ≤ length self.old.sheet.now) × TextWithin (part_at self.old.sheet.now from end) key × TextWithin (part_at self.old.sheet.now from end) value × TextField (part_at self.old.sheet.now from end) key × TextField (part_at self.old.sheet.now from end) value }
         ensures indexed { MetaIndexed flags self.old.sheet.now (part_at self.old.sheet.now from end) self.old.words.now self.old.rows key value self.new.words.now self.new.rows }
         ensures lent { self.new.words.ghost_name ≡ self.old.words.ghost_name }
         ensures sheet { self.new.sheet.now ≡ self.old.sheet.now }
@@ -155,7 +156,7 @@ impl<'a> Map<'a> {
 
     // A line of the sheet: only `meta` lines count.
     fn index_event(&mut self, flags: u32, from: usize, end: usize, v: EventView)
-        requires { (self.old.rows < 4096) × (length self.old.sheet.now ≤ 65536) × (from ≤ end) × (end ≤ length self.old.sheet.now) × KnownEvent (part_at self.old.sheet.now from end) v }
+        requires { (self.old.rows < 4096) × (from ≤ end) × (end ≤ length self.old.sheet.now) × KnownEvent (part_at self.old.sheet.now from end) v }
         ensures indexed { EventIndexed flags self.old.sheet.now (part_at self.old.sheet.now from end) self.old.words.now self.old.rows v self.new.words.now self.new.rows }
         ensures lent { self.new.words.ghost_name ≡ self.old.words.ghost_name }
         ensures sheet { self.new.sheet.now ≡ self.old.sheet.now }
@@ -173,7 +174,7 @@ impl<'a> Map<'a> {
 
     // A line of the sheet before it is read: `meta` lines alone begin with an m.
     fn index_line(&mut self, flags: u32, from: usize, end: usize)
-        requires { (self.old.rows < 4096) × (length self.old.sheet.now ≤ 65536) × (from ≤ end) × (end < length self.old.sheet.now) × (is_some (parse_line (part_at self.old.sheet.now from end)) ≡ true) × Without lf (part_at self.old.sheet.now from end) }
+        requires { (self.old.rows < 4096) × (from ≤ end) × (end < length self.old.sheet.now) × (is_some (parse_line (part_at self.old.sheet.now from end)) ≡ true) × Without lf (part_at self.old.sheet.now from end) }
         ensures indexed { LineIndexed flags self.old.sheet.now (part_at self.old.sheet.now from end) self.old.words.now self.old.rows self.new.words.now self.new.rows }
         ensures lent { self.new.words.ghost_name ≡ self.old.words.ghost_name }
         ensures sheet { self.new.sheet.now ≡ self.old.sheet.now }
@@ -188,7 +189,7 @@ impl<'a> Map<'a> {
 
 // All lines of a sheet that was read, into its map without rows.
 fn index_lines(flags: u32, sheet: &ReadSheet, map: &mut Map)
-    requires { (length sheet.now.bytes.now ≤ 65536) × (map.old.sheet.now ≡ sheet.now.bytes.now) × (map.old.rows ≡ 0) }
+    requires { (map.old.sheet.now ≡ sheet.now.bytes.now) × (map.old.rows ≡ 0) }
     ensures indexed { SheetIndexed flags sheet.now.text.now sheet.now.bytes.now map.new.words.now map.new.rows }
     ensures lent { map.new.words.ghost_name ≡ map.old.words.ghost_name }
 {

@@ -194,8 +194,8 @@ fn finish(h: Held) -> Result<Option<Held>, Refusal>
     }
 }
 
-// The whole pass, over work memory as it is at the start. From an `error` line on nothing more is refused; `None`: there was one,
-// and there is no recipe.
+// The whole pass, over a `Memory` whose small state is the first one; what its words held does not matter. From an `error` line
+// on nothing more is refused; `None`: there was one, and there is no recipe.
 fn parse_events(
     sheet: &ReadSheet,
     units: &UnitList,
@@ -245,7 +245,7 @@ fn parse_events(
     finish(memory.held)
 }
 
-// The same over words whose content does not matter.
+// The same over words that are lent: the `Memory` is made here.
 pub fn run(
     sheet: &ReadSheet,
     units: &UnitList,

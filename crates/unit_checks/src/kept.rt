@@ -93,7 +93,7 @@ fn row_word(units: &UnitList, codes: &mut Codes, sheet: &[u8], at: u32, end: u32
     w
 }
 
-// Whether the unit of a field is written like a new one, without the white space around them.
+// Whether the unit of a field is written like the new one, without the white space around them.
 fn same_written(a: &[u8], new: &NewUnit) -> bool
     ensures { result ≡ eq_list (trimmed_in a.now) (trimmed_in new.now.field.now) }
 {
@@ -104,7 +104,7 @@ fn same_written(a: &[u8], new: &NewUnit) -> bool
     content::same_parts(y, new.trimmed)
 }
 
-// Whether the unit of an earlier ingredient's line, whose word is w, is a new one.
+// Whether the unit of an earlier ingredient's line, whose word is w, is the new one.
 fn same_unit(old: &[u8], w: u32, new: &NewUnit) -> bool
     requires { (is_of_kind ingredient (parse_line old.now) ≡ true) × (16 ≤ w → UnitPlaced old.now w) }
     ensures { SameUnit old.now new.now.field.now result }

@@ -207,7 +207,7 @@ fn referrer_check(
             return;
         };
         let j = i as usize;
-        // Not `unit_against`: with it 23 more instructions a row are written, 5 in a hundred on 512 amounts.
+        // Not `unit_against`: with it a row takes 23 more instructions, 5 in a hundred on 512 amounts.
         if !row_fits(units, codes, memory, sheet, new, j) {
             let found = row_against(units, memory, sheet, line, a, j);
             memory.push_found(found);

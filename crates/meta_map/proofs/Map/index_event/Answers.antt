@@ -4,8 +4,8 @@ use Rattle.meta_map.proofs.Map.index_event.Goals as goal
 
 pub index_meta-requires : goal.index_meta-requires
 index_meta-requires c =
-    let w = meta_within c.requires.4 c.in-Between.is c.in-Meta.is in
-    (c.requires.0, c.requires.1, c.requires.2, c.requires.3, w.0, w.1, w.2, w.3)
+    let w = meta_within c.requires.3 c.in-Between.is c.in-Meta.is in
+    (c.requires.0, c.requires.1, c.requires.2, w.0, w.1, w.2, w.3)
 
 pub returns-in-Meta-clause-indexed : goal.returns-in-Meta-clause-indexed
 returns-in-Meta-clause-indexed c = event_meta c.in-Between.is c.in-Meta.is c.index_meta.ensures.indexed
