@@ -95,6 +95,7 @@ pub record Shown (a : rules.Answer) (o₀ o : List ℕ) (n : ℕ) : Type 0 where
   pub rest : drop n o ≡ drop n o₀
   pub fits : n ≤ length o
 
+-- that, of an answer r as the code has it
 abbrev pub PrintedAt : Result ℕ Refusal → List ℕ → List ℕ → ℕ → Type 0
 PrintedAt r o₀ o n = Shown (answer_of r o₀) o₀ o n
 
@@ -103,5 +104,6 @@ unfoldable pub answer_told : Result ℕ (ℕ × ℕ) → List ℕ → rules.Answ
 answer_told (Ok n) out = answered (take n out)
 answer_told (Err f) out = declined f.0 f.1
 
+-- that, of such an answer
 abbrev pub ToldPrinted : Result ℕ (ℕ × ℕ) → List ℕ → List ℕ → ℕ → Type 0
 ToldPrinted r o₀ o n = Shown (answer_told r o₀) o₀ o n

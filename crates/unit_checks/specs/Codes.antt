@@ -68,7 +68,7 @@ kept_word codes i at end = pick (eqb (get_or codes (i * 3) 0) at) (pick (eqb (ge
 unfoldable pub with_word : List ℕ → ℕ → ℕ → ℕ → ℕ → List ℕ
 with_word codes i at end w = set (set (set codes (i * 3) at) (i * 3 + 1) end) (i * 3 + 2) w
 
--- x is the field f, trimmed
+-- x stands for what the field f does, trimmed
 pub record Trims (f x : List ℕ) : Type 0 where
   pub is : kept_in x ≡ trimmed_in f
 
@@ -78,21 +78,21 @@ pub record SameUnit (line f : List ℕ) (r : Bool) : Type 0 where
 
 -- ---- a new unit: n is the number of its physical quantity, where there is a unit
 
--- f is its field: how it is written
+-- how it is written, where there is one: f is its field
 abbrev pub new_text : Option ℕ → List ℕ → Option (List ℕ)
 new_text None f = None
 new_text (Some m) f = Some (trimmed_in f)
 
--- x is that, trimmed
+-- n is the number that the list gives it: x is its field, trimmed
 pub record NewCode (us : List NamedUnit) (x : List ℕ) (n : Option ℕ) : Type 0 where
   pub is : (m : ℕ) → n ≡ Some m → m ≡ unit_code us (kept_in x)
 
--- numbers go up to 5
+-- that number is 5 at most
 abbrev pub UpToFive : Option ℕ → Type 0
 UpToFive None = Unit {0}
 UpToFive (Some m) = m ≤ 5
 
--- it is not in the list
+-- whether it is in no list: the number is 5 (`unit_code` of crates/compatible)
 unfoldable pub is_unlisted : Option ℕ → Bool
 is_unlisted None = false
 is_unlisted (Some m) = eqb m 5
