@@ -16,11 +16,11 @@ use Rattle.blocks.specs.Lined.{Told, ItemsPushed}
 
 ingredients_count : (sheet w : List ℕ) (h : Held) → length (state_in sheet w h).tables.ingredients ≡ h.counts.ingredients
 unfolding state_in state_of
-ingredients_count sheet w h = entries_length _ _ _ _ _ h.counts.ingredients
+ingredients_count sheet w h = entries_length _ _ _ _ h.counts.ingredients
 
 cookware_count : (sheet w : List ℕ) (h : Held) → length (state_in sheet w h).tables.cookware ≡ h.counts.cookware
 unfolding state_in state_of
-cookware_count sheet w h = entries_length _ _ _ _ _ h.counts.cookware
+cookware_count sheet w h = entries_length _ _ _ _ h.counts.cookware
 
 blank_ingredients : (st : State) → (blank st).tables.ingredients ≡ st.tables.ingredients
 unfolding blank blank_tables

@@ -9,9 +9,9 @@ ghost use Rattle.rules.specs.Modes.{is_components, is_text};
 ghost use Rattle.rules.specs.State.{report};
 ghost use Rattle.rules.specs.Pass.{close_step, close_text};
 ghost use Rattle.events.specs.Views.{severity_in};
-ghost use Rattle.model.specs.Small.{with_block};
 ghost use Rattle.blocks.specs.Lined.{Told, Went, left, start_block, kind_open, OpenNow, SectionDone, ItemsPushed, SpanOf, InTextBlock, InTextMode, StepEnded, ComponentInText};
 ghost use Rattle.sheet.specs.Words.{define_of};
+ghost use Rattle.model.specs.declared.layout.TheConstants.{MOST_FINDINGS, MOST_KINDS};
 
 use events::{ComponentEvent, Inside, Severity};
 use memory::Memory;
@@ -19,12 +19,6 @@ use model::{Held, Open};
 use parts::{Span, TextView};
 use refusals::Reason;
 use sheet::{BlockKind, Define};
-
-fn with_block(h: Held, block: Open) -> Held
-    ensures { result ≡ with_block block h }
-{
-    Held { block, ..h }
-}
 
 pub fn is_open(h: Held) -> bool
     ensures { OpenNow h result }
@@ -59,10 +53,10 @@ pub fn on_start(h: Held, kind: BlockKind) -> Held
 {
     let define = h.define;
     if is_text(define) {
-        return with_block(h, Open::TextMode);
+        return model::with_block(h, Open::TextMode);
     }
     let block = block_of(kind);
-    with_block(h, block)
+    model::with_block(h, block)
 }
 
 pub fn on_section(h: Held, name: Option<TextView>) -> Held
@@ -75,7 +69,7 @@ pub fn on_section(h: Held, name: Option<TextView>) -> Held
 
 // An `error` or `warning` of the parser.
 pub fn on_finding(memory: &mut Memory, severity: Severity, number: u32)
-    requires { memory.old.held.counts.findings < 1544 }
+    requires { memory.old.held.counts.findings < MOST_FINDINGS }
     ensures done { Went (report (parsed (severity_in severity) number ∷ [])) memory.old.words.now memory.old.held memory.new.words.now memory.new.held }
     ensures lent { memory.new.words.ghost_name ≡ memory.old.words.ghost_name }
 {
@@ -97,24 +91,24 @@ pub fn push_items(mut h: Held, n: usize) -> Held
 {
     let more = h.counts.items + n;
     h.counts.items = items_after(h.define, h.counts.items, more);
-    with_block(h, Open::Step)
+    model::with_block(h, Open::Step)
 }
 
 // A step closed: components mode drops it.
 fn close_step(memory: &mut Memory)
-    requires { (memory.old.held.counts.here < 1025) × (memory.old.held.counts.blocks < 100000) × (memory.old.held.counts.counter < 100000) }
+    requires { (memory.old.held.counts.here < MOST_KINDS) × (memory.old.held.counts.blocks < 100000) × (memory.old.held.counts.counter < 100000) }
     ensures done { Went (close_step []) memory.old.words.now memory.old.held memory.new.words.now memory.new.held }
     ensures lent { memory.new.words.ghost_name ≡ memory.old.words.ghost_name }
 {
     if is_components(memory.held.define) {
-        memory.held = with_block(memory.held, Open::Nothing);
+        memory.held = model::with_block(memory.held, Open::Nothing);
     } else {
         memory.keep_step();
     }
 }
 
 pub fn end_step(memory: &mut Memory, kind: BlockKind) -> Result<(), Reason>
-    requires { (memory.old.held.counts.here < 1025) × (memory.old.held.counts.blocks < 100000) × (memory.old.held.counts.counter < 100000) }
+    requires { (memory.old.held.counts.here < MOST_KINDS) × (memory.old.held.counts.blocks < 100000) × (memory.old.held.counts.counter < 100000) }
     ensures done { StepEnded kind memory.old.words.now memory.old.held memory.new.words.now (left memory.new.held result) }
     ensures lent { memory.new.words.ghost_name ≡ memory.old.words.ghost_name }
 {
@@ -128,7 +122,7 @@ pub fn end_step(memory: &mut Memory, kind: BlockKind) -> Result<(), Reason>
 }
 
 fn close_text(memory: &mut Memory)
-    requires { (memory.old.held.counts.here < 1025) × (memory.old.held.counts.blocks < 100000) }
+    requires { (memory.old.held.counts.here < MOST_KINDS) × (memory.old.held.counts.blocks < 100000) }
     ensures done { Went (close_text []) memory.old.words.now memory.old.held memory.new.words.now memory.new.held }
     ensures lent { memory.new.words.ghost_name ≡ memory.old.words.ghost_name }
 {
@@ -136,7 +130,7 @@ fn close_text(memory: &mut Memory)
 }
 
 pub fn in_text_block(memory: &mut Memory, e: Inside) -> Result<(), Reason>
-    requires { (memory.old.held.counts.here < 1025) × (memory.old.held.counts.blocks < 100000) }
+    requires { (memory.old.held.counts.here < MOST_KINDS) × (memory.old.held.counts.blocks < 100000) }
     ensures done { InTextBlock e memory.old.words.now memory.old.held memory.new.words.now (left memory.new.held result) }
     ensures lent { memory.new.words.ghost_name ≡ memory.old.words.ghost_name }
 {
@@ -149,7 +143,7 @@ pub fn in_text_block(memory: &mut Memory, e: Inside) -> Result<(), Reason>
             }
         },
         Inside::Text(t) => {
-            memory.held = with_block(memory.held, Open::Text);
+            memory.held = model::with_block(memory.held, Open::Text);
             Ok(())
         }
         Inside::Component(c) => Err(Reason::ComponentInText),
@@ -169,18 +163,18 @@ pub fn component_span(c: ComponentEvent) -> Span
 
 // 5, component in text mode.
 fn component_in_text(memory: &mut Memory, c: ComponentEvent)
-    requires { memory.old.held.counts.findings < 1544 }
+    requires { memory.old.held.counts.findings < MOST_FINDINGS }
     ensures done { ComponentInText c memory.old.words.now memory.old.held memory.new.words.now memory.new.held }
     ensures lent { memory.new.words.ghost_name ≡ memory.old.words.ghost_name }
 {
     let s = component_span(c);
     let x = model::one_span(5, s.start, s.end, false);
-    memory.held = with_block(memory.held, Open::TextMode);
+    memory.held = model::with_block(memory.held, Open::TextMode);
     memory.push_finding(x);
 }
 
 pub fn in_text_mode(memory: &mut Memory, e: Inside) -> Result<(), Reason>
-    requires { (memory.old.held.counts.here < 1025) × (memory.old.held.counts.blocks < 100000) × (memory.old.held.counts.findings < 1544) }
+    requires { (memory.old.held.counts.here < MOST_KINDS) × (memory.old.held.counts.blocks < 100000) × (memory.old.held.counts.findings < MOST_FINDINGS) }
     ensures done { InTextMode e memory.old.words.now memory.old.held memory.new.words.now (left memory.new.held result) }
     ensures lent { memory.new.words.ghost_name ≡ memory.old.words.ghost_name }
 {
@@ -190,7 +184,7 @@ pub fn in_text_mode(memory: &mut Memory, e: Inside) -> Result<(), Reason>
             Ok(())
         }
         Inside::Text(t) => {
-            memory.held = with_block(memory.held, Open::TextMode);
+            memory.held = model::with_block(memory.held, Open::TextMode);
             Ok(())
         }
         Inside::Component(c) => {

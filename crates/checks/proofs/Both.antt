@@ -20,6 +20,7 @@ use Rattle.memory.proofs.Reports.{reported_seq, reported_as, reported_count}
 use Rattle.checks.proofs.Laws.{said}
 use Rattle.parts.specs.declared.QuantityView.{QuantityView}
 use Rattle.parts.specs.declared.TextView.{TextView}
+use Rattle.model.specs.declared.layout.TheConstants.{MOST_FINDINGS}
 
 -- a note makes one finding at most
 note_one : (implicit : Bool) (o : Option rules.Text) (d : Source) → length (note_check implicit o d) ≤ 1
@@ -35,7 +36,7 @@ module _ {implicit : Bool} {note : Option TextView} {s : Span} {old : Option Tex
   unfolding plain
   noted = reported_as l (k.is [] [] plain refl refl)
 
-  pub note_room : h₀.counts.findings + 2 < 1544 → h.counts.findings + 1 < 1544
+  pub note_room : h₀.counts.findings + 2 < MOST_FINDINGS → h.counts.findings + 1 < MOST_FINDINGS
   note_room z = let c = reported_count noted in let m = note_one implicit (opt_text_in [] note) plain in omega arith
 
   pub both_checked : {in_step : Bool} {a b : Option QuantityView} {w₁ : List ℕ} {h₁ : Held} → QuantityChecked implicit in_step a s b w h w₁ h₁

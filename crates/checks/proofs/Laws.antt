@@ -27,6 +27,7 @@ use Rattle.memory.proofs.Reports.{reported_seq, reported_count}
 use Rattle.sheet.specs.Words.{kind_in}
 use Rattle.sheet.specs.declared.ValueKind.{ValueKind}
 use Rattle.sheet.specs.declared.ValueKind.TheVariants.{Number, Range, Textual}
+use Rattle.model.specs.declared.layout.TheConstants.{MOST_FINDINGS}
 
 -- what a check found: nothing, or one finding
 pub nothing_found : {fs : List Finding} → fs ≡ [] → if_found None ≡ fs
@@ -131,7 +132,7 @@ module _ (implicit a b : Bool) (s t : rules.Span) where
   text_neither p q = rw (p, q)
 
 -- there is room for one more
-pub when_room : (b : Bool) (f : Finding) {w w₁ : List ℕ} {h h₁ : Held} → Reported (when b f) w h w₁ h₁ → h.counts.findings + 1 < 1544 → h₁.counts.findings < 1544
+pub when_room : (b : Bool) (f : Finding) {w w₁ : List ℕ} {h h₁ : Held} → Reported (when b f) w h w₁ h₁ → h.counts.findings + 1 < MOST_FINDINGS → h₁.counts.findings < MOST_FINDINGS
 when_room b f r l = let k = reported_count r in let m = short b in omega arith
   where
     short : (b : Bool) → length (when b f) ≤ 1

@@ -13,6 +13,7 @@ ghost use Rattle.parts.specs.Views.{span_in, SpanWithin, OptQuantityWithin};
 ghost use Rattle.model.specs.Rows.{finding_of, if_found};
 ghost use Rattle.checks.specs.Reports.{place_of, NoteWithin, NoteChecked, PairChecked, QuantityChecked, UnitsChecked, ReferenceChecked};
 ghost use Rattle.sheet.specs.Words.{kind_in};
+ghost use Rattle.model.specs.declared.layout.TheConstants.{MOST_FINDINGS};
 
 use memory::Memory;
 use model::Noted;
@@ -99,7 +100,7 @@ fn pair_check(
     span: Span,
     b: QuantityView,
 )
-    requires { memory.old.held.counts.findings + 1 < 1544 }
+    requires { memory.old.held.counts.findings + 1 < MOST_FINDINGS }
     ensures done { PairChecked implicit in_step a span b memory.old.words.now memory.old.held memory.new.words.now memory.new.held }
     ensures lent { memory.new.words.ghost_name ≡ memory.old.words.ghost_name }
 {
@@ -120,7 +121,7 @@ fn quantity_check(
     span: Span,
     b: Option<QuantityView>,
 )
-    requires { memory.old.held.counts.findings + 1 < 1544 }
+    requires { memory.old.held.counts.findings + 1 < MOST_FINDINGS }
     ensures done { QuantityChecked implicit in_step a span b memory.old.words.now memory.old.held memory.new.words.now memory.new.held }
     ensures lent { memory.new.words.ghost_name ≡ memory.old.words.ghost_name }
 {
@@ -173,7 +174,7 @@ pub fn reference_checks(
     old: Option<TextView>,
     b: Option<QuantityView>,
 )
-    requires { (memory.old.held.counts.findings + 2 < 1544) × NoteWithin note }
+    requires { (memory.old.held.counts.findings + 2 < MOST_FINDINGS) × NoteWithin note }
     ensures done { ReferenceChecked implicit in_step note a span old b memory.old.words.now memory.old.held memory.new.words.now memory.new.held }
     ensures lent { memory.new.words.ghost_name ≡ memory.old.words.ghost_name }
 {

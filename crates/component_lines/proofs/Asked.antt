@@ -14,9 +14,9 @@ use Rattle.rules.specs.Components.{made_with}
 use Rattle.rules.proofs.Basics.{no_truth}
 use Rattle.model.specs.declared.Held.{Held}
 use Rattle.lookup.specs.Names.{SameFound}
-use Rattle.lookup.specs.References.{modes_of}
+use Rattle.lookup.specs.References.{modes_of, asks_same}
 use Rattle.unit_checks.specs.Checked.{SameBelow}
-use Rattle.component_lines.specs.Steps.{asks_same, SameAsked}
+use Rattle.component_lines.specs.Steps.{SameAsked}
 
 or_left : (a b : Bool) → (a || b) ≡ false → a ≡ false
 or_left true b e = e
@@ -28,17 +28,6 @@ or_right false b e = e
 
 not_at : {P : Type 0} {i : ℕ} → None ≡ Some i → P
 not_at e = absurd (let z : ◌≡◌ {A = ℕ} 0 1 = cc in omega arith)
-
--- ---- what `asks_same` answers
-
-module _ (modes : Modes) (ref : Bool) {v : Bool} (e : v ≡ (ref || is_steps modes.define)) where
-  pub asks_steps : v ≡ true → v ≡ asks_same modes ref
-  unfolding asks_same
-  asks_steps h = rw (← e, h)
-
-  pub asks_last : {r : Bool} → v ≡ false → r ≡ is_reference modes.duplicate → r ≡ asks_same modes ref
-  unfolding asks_same
-  asks_last h k = rw (← e, h) k
 
 -- ---- the answer of the search, or none
 

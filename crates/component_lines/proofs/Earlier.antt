@@ -1,12 +1,9 @@
 -- What the search found, what a component refers to, and their modifiers.
-use Prim.Native.Nat.{ℕ, ◌-◌, ◌≤◌, ◌<◌}
+use Prim.Native.Nat.{ℕ, ◌<◌}
 use mathlib.Core.Path.{◌≡◌, refl, ap, sym, ◌∙◌}
-use mathlib.Core.Bool.{Bool}
 use mathlib.Core.List.{List}
 use Rattle.std.specs.Prelude.{Option, None, Some}
 use native.Mathlib.Omega.{arith}
-use lib.ListN.{length, take, drop}
-use lib.Seq.{slice}
 use Rattle.rules.specs.Basic.{on_some}
 use Rattle.rules.specs.Model.{Kind, ingredient, cookware, Entry, set_relation, set_modifiers}
 use Rattle.rules.specs.Modes.{Modes}
@@ -16,15 +13,16 @@ use Rattle.rules.proofs.Chained.{refers_same}
 use Rattle.components.specs.Views.{modifiers_in}
 use Rattle.components.specs.declared.Modifiers.{Modifiers}
 use Rattle.model.specs.Rows as rows
-use Rattle.model.specs.Rows.{row_at, row_of, entry_in, entry_as}
-use Rattle.model.specs.Memory.{Sound}
+use Rattle.model.specs.Rows.{row_on, entry_in, entry_as}
+use Rattle.model.specs.Memory.{Sound, rows_in}
 use Rattle.model.specs.declared.Row.{Row}
 use Rattle.model.specs.declared.Held.{Held}
 use Rattle.unit_checks.specs.Checked.{SameBelow}
-use Rattle.unit_checks.proofs.Rows.{row_room, framed_earlier}
-use Rattle.lookup.specs.Names.{rows_in, earlier_in, earlier_at, SameFound}
-use Rattle.lookup.proofs.Names.{part_slice}
-use Rattle.memory.proofs.Frames.{Framed, framed_count}
+use Rattle.memory.proofs.Reading.{row_room}
+use Rattle.unit_checks.proofs.Rows.{framed_earlier}
+use Rattle.lookup.specs.Names.{earlier_in, earlier_at}
+use Rattle.memory.specs.Frames.{Framed}
+use Rattle.memory.proofs.Frames.{framed_count}
 use Rattle.reference_findings.specs.Reports.{hands_down, SameAs}
 use Rattle.component_lines.specs.Steps.{SameSmall, OldRead, ReferredBelow}
 use Rattle.model.specs.Kinds.{room_of}
@@ -36,17 +34,14 @@ module _ (k : Kind) (w : List ℕ) (h : Held) {same : Option ℕ} where
   unfolding on_some
   old_none e = record { is = λ sheet. record { is = rw e } }
 
-  pub old_read : (i : ℕ) → same ≡ Some i → {r : Row} {m : Modifiers} → r ≡ row_of (row_at 12 (rows_in k w) i) → modifiers_in m ≡ rows.modifiers_in r → OldRead k w h same (Some m)
+  pub old_read : (i : ℕ) → same ≡ Some i → {r : Row} {m : Modifiers} → r ≡ row_on (rows_in k w) i → modifiers_in m ≡ rows.modifiers_in r → OldRead k w h same (Some m)
   unfolding on_some hands_down earlier_in entry_in entry_as set_relation set_modifiers
   old_read i e er em = record { is = λ sheet. record { is = rw (e, em, er) } }
 
 -- ---- as the code comes to it, for each kind
 
-pub kind_ready : {k : Kind} {w : List ℕ} {h : Held} {same : Option ℕ} (i : ℕ) → same ≡ Some i → Sound w h → SameBelow k h same → (24157 ≤ length w) × (i < room_of k)
-kind_ready {k} i e z s = (z.long, row_room z k i (s.below i e))
-
-pub same_before : {k : Kind} {x y : Bool} {sheet w : List ℕ} {h : Held} {from to : ℕ} {r : Option ℕ} → from ≤ to → SameFound k sheet w h (take (to - from) (drop from sheet)) x y r → SameFound k sheet w h (slice from to sheet) x y r
-same_before {sheet = sheet} {from = from} {to} l s = rw (part_slice from to sheet l) at s
+pub kind_ready : {k : Kind} {w : List ℕ} {h : Held} {same : Option ℕ} (i : ℕ) → same ≡ Some i → Sound w h → SameBelow k h same → i < room_of k
+kind_ready {k} i e z s = row_room k z (s.below i e)
 
 -- ---- what is referred to is what was found
 
@@ -75,8 +70,8 @@ module _ (f : ℕ → Earlier) (ef : (i : ℕ) → (f i).index ≡ i) (modes : M
 -- an index that is small
 
 pub small_same : (k : Kind) {w : List ℕ} {h : Held} {same : Option ℕ} → Sound w h → SameBelow k h same → SameSmall same
-small_same ingredient z b = record { below = λ i q. omega (arith, b.below i q, z.room.ingredients) }
-small_same cookware z b = record { below = λ i q. omega (arith, b.below i q, z.room.cookware) }
+small_same ingredient z b = record { below = λ i q. omega (arith, b.below i q, z.room.rows ingredient) }
+small_same cookware z b = record { below = λ i q. omega (arith, b.below i q, z.room.rows cookware) }
 
 pub found_below : {k : Kind} {h : Held} {to r : Option ℕ} → r ≡ to → SameBelow k h to → ReferredBelow k h r
 found_below {r = Some d} e b = record { is = b.below d (sym e) }

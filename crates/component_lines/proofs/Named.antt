@@ -26,15 +26,16 @@ use Rattle.model.specs.declared.Noted.{Noted}
 use Rattle.model.specs.declared.Held.{Held}
 use Rattle.lookup.specs.declared.NamePart.{NamePart}
 use Rattle.lookup.specs.Names.{earlier_at, SameFound}
-use Rattle.lookup.specs.References.{modes_of, Marked, Refers}
+use Rattle.lookup.specs.References.{modes_of, asks_same, Marked, Refers}
 use Rattle.lookup.proofs.Names.{part_slice}
 use Rattle.memory.specs.Reports.{Reported}
 use Rattle.memory.proofs.Reports.{reported_seq, reported_fit, found_count}
-use Rattle.memory.proofs.Frames.{Framed, reported_framed, framed_pairs, reported_table}
+use Rattle.memory.specs.Frames.{Framed}
+use Rattle.memory.proofs.Frames.{reported_framed, framed_count, reported_table}
 use Rattle.unit_checks.specs.Checked.{SameBelow, ChecksDone}
 use Rattle.timers.specs.Timed.{LockChecked}
 use Rattle.reference_findings.specs.Reports.{hands_down, SameAs, NewAs, ReferenceReported}
-use Rattle.component_lines.specs.Steps.{ComponentHere, NamePlaced, asks_same, SameAsked, Roomy, SameSmall, OldRead, NamedReported, RowNamed, ReferredBelow, RowPut, NamedDone}
+use Rattle.component_lines.specs.Steps.{ComponentHere, NamePlaced, SameAsked, Roomy, SameSmall, OldRead, NamedReported, RowNamed, ReferredBelow, RowPut, NamedDone}
 use Rattle.component_lines.proofs.Places.{own_content, row_fits}
 use Rattle.component_lines.proofs.Rows.{entry_named}
 use Rattle.component_lines.proofs.Earlier.{old_referred, to_below, small_same, found_below, earliers_kept, below_kept, earlier_index}
@@ -43,6 +44,7 @@ use Rattle.component_lines.proofs.Rooms.{reference_short, short_count}
 use Rattle.component_lines.proofs.Whole.{locked, reported_roomy, new_entry_lem, pushed_done}
 use Rattle.components.specs.declared.Modifiers.{Modifiers}
 use Rattle.sheet.specs.Words.{define_of}
+use Rattle.model.specs.declared.layout.TheConstants.{MOST_FINDINGS}
 
 -- ---- a new entry
 
@@ -111,11 +113,11 @@ module _ {k : Kind} (line : List ℕ) (v : ComponentView) {o : Option Modifiers}
   both_count = omega (arith, found_count _ p, short_count (reference_short (modes_of h₀.define h₀.duplicate) (entry_of k true (component_in line v)) (inherits k) any) (referred true any any_as))
 
   checks_ready : {sheet : List ℕ} {to : Option ℕ} → Sound w₀ h₀ → AllFit sheet w₀ h₀ → Roomy h₀ → h₀.counts.findings ≤ 1024 → SameBelow k h₀ to
-      → AllFit sheet w₂ h₂ × SameBelow k h₂ to × (h₂.counts.findings + h₂.counts.ingredient_pairs + 3 < 1544)
+      → AllFit sheet w₂ h₂ × SameBelow k h₂ to × (h₂.counts.findings + h₂.counts.ingredients + 3 < MOST_FINDINGS)
   checks_ready {sheet} z a y n s =
       let q = both true any any_as in
-      let m : h₂.counts.ingredient_pairs ≡ h₀.counts.ingredient_pairs = framed_pairs both_framed ingredient in
-      (reported_fit q sheet a, below_kept both_framed k s, omega (arith, both_count, z.room.ingredient_pairs, y.ingredients))
+      let m : h₂.counts.ingredients ≡ h₀.counts.ingredients = framed_count both_framed ingredient in
+      (reported_fit q sheet a, below_kept both_framed k s, omega (arith, both_count, y.ingredients))
 
   module _ {us : List NamedUnit} {flags : ℕ} {sheet : List ℕ} {to : Option ℕ} {w : List ℕ} {h : Held} (d : ChecksDone us flags k sheet line v to w₂ h₂ w h) where
     checked : (in_step : Bool) (same : Option Earlier) → SameAs same o
@@ -141,7 +143,7 @@ module _ {k : Kind} {sheet : List ℕ} {at end : ℕ} {v : ComponentView} (x : C
 
 pub checks_ready_at : {k : Kind} {sheet : List ℕ} {at end : ℕ} {v : ComponentView} {o : Option Modifiers} {to : Option ℕ} {y : Option Noted} {w₀ w₁ w₂ : List ℕ} {h₀ h₁ h₂ : Held} → ComponentHere k sheet at end v → LockChecked v.quantity y → Reported (if_found y) w₀ h₀ w₁ h₁
     → ReferenceReported k v.modifiers v.span v.modifiers_span o w₁ h₁ w₂ h₂ → Sound w₀ h₀ → AllFit sheet w₀ h₀ → Roomy h₀ → h₀.counts.findings ≤ 1024 → SameBelow k h₀ to
-    → AllFit sheet w₂ h₂ × SameBelow k h₂ to × (h₂.counts.findings + h₂.counts.ingredient_pairs + 3 < 1544)
+    → AllFit sheet w₂ h₂ × SameBelow k h₂ to × (h₂.counts.findings + h₂.counts.ingredients + 3 < MOST_FINDINGS)
 checks_ready_at {sheet = sheet} {at} {end} {v} x l p r z a y n s = checks_ready (slice at end sheet) v l p r z a y n s
 
 pub named_found : {k : Kind} {sheet : List ℕ} {at end : ℕ} {v : ComponentView} {o : Option Modifiers} {us : List NamedUnit} {flags : ℕ} {to : Option ℕ} {y : Option Noted} {w₀ w₁ w₂ w : List ℕ} {h₀ h₁ h₂ h : Held} → ComponentHere k sheet at end v

@@ -21,7 +21,7 @@ use Rattle.model.specs.declared.Held.{Held}
 use Rattle.model.proofs.Tables.{entries_length, findings_length}
 use Rattle.memory.specs.Reports.{Reported}
 use Rattle.memory.proofs.Reports.{reported_count}
-use Rattle.memory.proofs.Frames.{Framed}
+use Rattle.memory.specs.Frames.{Framed}
 use Rattle.component_lines.specs.Steps.{Roomy}
 
 -- ---- the counts before a line
@@ -54,11 +54,11 @@ findings_count sheet w h = findings_length _ h.counts.findings
 
 ingredients_count : (sheet w : List ℕ) (h : Held) → length (state_in sheet w h).tables.ingredients ≡ h.counts.ingredients
 unfolding state_in state_of
-ingredients_count sheet w h = entries_length _ _ _ _ _ h.counts.ingredients
+ingredients_count sheet w h = entries_length _ _ _ _ h.counts.ingredients
 
 cookware_count : (sheet w : List ℕ) (h : Held) → length (state_in sheet w h).tables.cookware ≡ h.counts.cookware
 unfolding state_in state_of
-cookware_count sheet w h = entries_length _ _ _ _ _ h.counts.cookware
+cookware_count sheet w h = entries_length _ _ _ _ h.counts.cookware
 
 items_count : (sheet w : List ℕ) (h : Held) → (state_in sheet w h).kept.items ≡ h.counts.items
 unfolding state_in state_of

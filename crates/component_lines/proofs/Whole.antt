@@ -22,13 +22,13 @@ use Rattle.components.specs.Views.{modifiers_in, component_in, intermediate_in}
 use Rattle.components.specs.declared.ComponentView.{ComponentView}
 use Rattle.components.specs.declared.Intermediate.{Intermediate}
 use Rattle.model.specs.Rows.{entry_as, if_found}
-use Rattle.model.specs.Memory.{state_of, state_in}
+use Rattle.model.specs.Memory.{state_of, state_in, count_of}
 use Rattle.model.specs.Fits.{Fits, AllFit}
 use Rattle.model.specs.declared.RelationRecord.{RelationRecord}
 use Rattle.model.specs.declared.Row.{Row}
 use Rattle.model.specs.declared.Noted.{Noted}
 use Rattle.model.specs.declared.Held.{Held}
-use Rattle.memory.specs.Pushes.{count_of, held_with, FoundBelow, ComponentAdded}
+use Rattle.memory.specs.Pushes.{held_with, FoundBelow, ComponentAdded}
 use Rattle.lookup.specs.declared.NamePart.{NamePart}
 use Rattle.memory.specs.Reports.{Reported}
 use Rattle.memory.proofs.Reports.{reported_as, reported_fit}

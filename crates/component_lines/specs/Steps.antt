@@ -1,11 +1,10 @@
 -- What the steps of a component's line come to.
-use Rattle.std.specs.Prelude.{ℕ, ◌+◌, ◌≤◌, ◌<◌, ◌≡◌, Bool, true, false, ◌||◌, List, [], length, Option, None, Some}
+use Rattle.std.specs.Prelude.{ℕ, ◌+◌, ◌≤◌, ◌<◌, ◌≡◌, Bool, true, false, List, [], length, Option, None, Some}
 use Rattle.std.proofs.Math.Seq.{slice}
 use Rattle.rules.specs.Basic.{on_some}
 use Rattle.rules.specs.Event as rules
 use Rattle.rules.specs.Read.{parse_line}
 use Rattle.rules.specs.Units.{NamedUnit}
-use Rattle.rules.specs.Modes.{Modes, is_steps, is_reference}
 use Rattle.rules.specs.Model.{Kind, ingredient, both, either, with_ref, inherits, target_of, Relation, definition, reference, Entry, entry_of}
 use Rattle.rules.specs.Reference.{Earlier, refers_to}
 use Rattle.rules.specs.State.{table_of}
@@ -18,19 +17,20 @@ use Rattle.components.specs.declared.Intermediate.{Intermediate}
 use Rattle.known_events.specs.Fields.{TextField}
 use Rattle.model.specs.Blank.{blank}
 use Rattle.model.specs.Rows.{component_of_line, relation_in}
-use Rattle.model.specs.Memory.{state_in, Sound}
+use Rattle.model.specs.Memory.{state_in, Sound, count_of}
 use Rattle.model.specs.Fits.{is_of_kind, WholeLine, AllFit}
 use Rattle.model.specs.declared.RelationRecord.{RelationRecord}
 use Rattle.model.specs.declared.Row.{Row}
 use Rattle.model.specs.declared.Held.{Held}
-use Rattle.memory.specs.Pushes.{count_of, FoundBelow, ComponentAdded}
+use Rattle.memory.specs.Pushes.{FoundBelow, ComponentAdded}
 use Rattle.lookup.specs.declared.NamePart.{NamePart}
 use Rattle.lookup.specs.Names.{earlier_at, SameFound, NewName}
-use Rattle.lookup.specs.References.{modes_of}
+use Rattle.lookup.specs.References.{modes_of, asks_same}
 use Rattle.memory.specs.Reports.{Reported}
 use Rattle.reference_findings.specs.Reports.{SameAs}
 use Rattle.blocks.specs.Lined.{ItemsPushed}
 use Rattle.new_rows.specs.Rows.{RowMade}
+use Rattle.model.specs.declared.layout.TheConstants.{MOST_ROWS}
 
 -- ---- the line
 
@@ -56,10 +56,6 @@ pub record Roomy (h : Held) : Type 0 where
 
 -- ---- what it refers to
 
--- whether what is made of a component depends on the same-name search (the Rust's `same_name` is lazy)
-unfoldable pub asks_same : Modes → Bool → Bool
-asks_same modes ref = ref || is_steps modes.define || is_reference modes.duplicate
-
 -- same is what the search finds, where it is asked for
 pub record SameAsked (k : Kind) (sheet w : List ℕ) (h : Held) (name : List ℕ) (ref opt : Bool) (same : Option ℕ) : Type 0 where
   pub found : asks_same (modes_of h.define h.duplicate) ref ≡ true → SameFound k sheet w h name ref opt same
@@ -67,7 +63,7 @@ pub record SameAsked (k : Kind) (sheet w : List ℕ) (h : Held) (name : List ℕ
 
 -- the index of what was found is small
 pub record SameSmall (same : Option ℕ) : Type 0 where
-  pub below : (i : ℕ) → same ≡ Some i → i < 513
+  pub below : (i : ℕ) → same ≡ Some i → i < MOST_ROWS
 
 -- the modifiers of what was found
 pub record OldRead (k : Kind) (w : List ℕ) (h : Held) (same : Option ℕ) (old : Option Modifiers) : Type 0 where

@@ -13,11 +13,9 @@ ghost use Rattle.events.specs.Views.{component_event_in, ComponentEventWithin};
 ghost use Rattle.events.specs.declared.ComponentEvent.TheVariants as event;
 ghost use Rattle.known_events.specs.Fields.{ComponentEventFields};
 ghost use Rattle.model.specs.Fits.{AllFit};
-ghost use Rattle.lookup.specs.Names.{SameFound};
-ghost use Rattle.lookup.specs.References.{modes_of};
 ghost use Rattle.blocks.specs.Lined.{left};
 ghost use Rattle.component_lines.specs.Lines.{LineHere, Kept, ComponentDone};
-ghost use Rattle.component_lines.specs.Steps.{ComponentHere, NamePlaced, asks_same, SameAsked, Roomy, SameSmall, OldRead, NamedReported, heir_of, RelatedTo, RowNamed, ReferredBelow, RowPut, IntermediateReported, IntermediateDone, NamedDone};
+ghost use Rattle.component_lines.specs.Steps.{ComponentHere, NamePlaced, SameAsked, Roomy, SameSmall, OldRead, NamedReported, heir_of, RelatedTo, RowNamed, ReferredBelow, RowPut, IntermediateReported, IntermediateDone, NamedDone};
 ghost use Rattle.new_rows.specs.Rows.{RowMade};
 ghost use Rattle.unit_checks.specs.Checked.{SameBelow};
 ghost use Rattle.unit_checks.specs.Codes.{CodesKept};
@@ -28,8 +26,7 @@ use lookup::NamePart;
 use memory::Memory;
 use model::{Kind, Relation, RelationRecord, Row};
 use refusals::Reason;
-use sheet::{Define, Duplicate};
-use unit_checks::Codes;
+use unit_codes::Codes;
 use unit_index::UnitList;
 
 // ---- names
@@ -44,47 +41,15 @@ fn name_of(sheet: &[u8], at: usize, v: ComponentView, kind: Kind) -> NamePart
     lookup::new_name(sheet, from, to, kind)
 }
 
-// Whether the search is needed at all: elsewhere nothing that is made of a component depends on it.
-fn asks_same(define: Define, duplicate: Duplicate, reference: bool) -> bool
-    ensures { result ≡ asks_same (modes_of define duplicate) reference }
-{
-    reference || lookup::is_steps(define) || lookup::is_reference(duplicate)
-}
-
-// The earlier component of the name; an explicit REF does not ask for OPT.
-fn found_before(
-    sheet: &[u8],
-    memory: &Memory,
-    p: NamePart,
-    m: Modifiers,
-    kind: Kind,
-) -> Option<usize>
-    requires { (p.at ≤ p.end) × (p.end ≤ length sheet.now) × AllFit sheet.now memory.now.words.now memory.now.held }
-    ensures { SameFound (kind_of kind) sheet.now memory.now.words.now memory.now.held (slice p.at p.end sheet.now) m.reference m.opt result }
-{
-    let from = p.at;
-    let to = p.end;
-    let any_opt = m.reference;
-    let opt = m.opt;
-    lookup::same_component(
-        sheet,
-        &memory.stored(),
-        kind,
-        &sheet[from..to],
-        any_opt,
-        opt,
-    )
-}
-
-// The same, where it is needed.
+// The earlier component of the name, where it is needed.
 fn same_of(sheet: &[u8], memory: &Memory, p: NamePart, m: Modifiers, kind: Kind) -> Option<usize>
     requires { (p.at ≤ p.end) × (p.end ≤ length sheet.now) × AllFit sheet.now memory.now.words.now memory.now.held }
     ensures { SameAsked (kind_of kind) sheet.now memory.now.words.now memory.now.held (slice p.at p.end sheet.now) m.reference m.opt result }
 {
     let define = memory.held.define;
     let duplicate = memory.held.duplicate;
-    if asks_same(define, duplicate, m.reference) {
-        return found_before(sheet, memory, p, m, kind);
+    if lookup::asks_same(define, duplicate, m.reference) {
+        return lookup::found_before(sheet, &memory.stored(), kind, p, m.reference, m.opt);
     }
     None
 }
@@ -97,7 +62,7 @@ fn old_of(memory: &Memory, same: Option<usize>, kind: Kind) -> Option<Modifiers>
     match same {
         None => None,
         Some(i) => {
-            let r = unit_checks::kind_row(memory.words, kind, i);
+            let r = memory.row(kind, i);
             let m = new_rows::modifiers_of(r);
             Some(m)
         }

@@ -3,3 +3,4 @@ pub mod Rows
 pub mod Records
 pub mod Pairs
 pub mod Lent
+pub mod Counts

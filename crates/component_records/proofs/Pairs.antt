@@ -12,6 +12,7 @@ use Rattle.model.specs.declared.Relation.TheVariants.{Definition}
 use Rattle.component_records.specs.declared.Component.{Component}
 use Rattle.component_records.specs.Records.{no_component}
 use Rattle.component_records.specs.Links.{is_own, pair_at, pairs_from, pairs_of, own_at, own_count, RefersBack, LinkableAt, Linkable}
+use Rattle.model.specs.declared.layout.TheConstants.{MOST_ROWS}
 
 -- ---- their number: two words a pair
 length_by : (t : Bool) (a b : ℕ) → length (pick t (a ∷ b ∷ []) []) ≡ pick t 1 0 * 2
@@ -165,9 +166,9 @@ module _ (all : List Component) where
         }
 
     -- a turn may be done
-    pub asked : {all' : List Component} {i n : ℕ} {ps' : List ℕ} → all' ≡ all → n ≡ counted i → ps' ≡ linked ps i → m ≤ 513 → i < m
-        → (i < length all') × (i < 513) × (n < 513) × LinkableAt all' i n (length ps')
+    pub asked : {all' : List Component} {i n : ℕ} {ps' : List ℕ} → all' ≡ all → n ≡ counted i → ps' ≡ linked ps i → m ≤ MOST_ROWS → i < m
+        → (i < length all') × (i < MOST_ROWS) × (n < MOST_ROWS) × LinkableAt all' i n (length ps')
     asked {i = i} a b c few l =
         let le = counted_le i in
-        let k : counted i < 513 = omega (arith, le) in
+        let k : counted i < MOST_ROWS = omega (arith, le) in
         rw (a, b, c) (omega arith, omega arith, k, linkable_at i l)

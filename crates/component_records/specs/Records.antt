@@ -1,6 +1,6 @@
 -- What a lent record says: the fields of a component's row in work memory.
 use Rattle.std.specs.Prelude.{ℕ, zero, suc, List, [], ◌∷◌, ◌++◌, Bool, false, drop}
-use Rattle.model.specs.Rows.{row_at, row_of}
+use Rattle.model.specs.Rows.{row_on}
 use Rattle.model.specs.declared.Relation.{Relation}
 use Rattle.model.specs.declared.Relation.TheVariants.{Definition, Reference}
 use Rattle.model.specs.declared.RelationRecord.{RelationRecord}
@@ -46,11 +46,11 @@ component_of r =
       relation = lent_relation r.relation;
     }
 
--- the rows of 12 words that begin at `from`
+-- the rows that begin at `from`
 module _ (words : List ℕ) (from : ℕ) where
   -- the record of the i-th
   unfoldable pub component_in : ℕ → Component
-  component_in i = component_of (row_of (row_at 12 (drop from words) i))
+  component_in i = component_of (row_on (drop from words) i)
 
   -- those of the first n, in order
   unfoldable pub records_in : ℕ → List Component

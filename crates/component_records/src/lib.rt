@@ -7,8 +7,10 @@ ghost use Rattle.std.proofs.lemmas.List.Edits.{sets};
 ghost use Rattle.rules.specs.Basic.{pick};
 ghost use Rattle.component_records.specs.Records.{no_component, lent_relation, component_of, component_in, records_in};
 ghost use Rattle.component_records.specs.Links.{is_own, pair_at, pairs_of, own_at, own_count, LinkedAs, place_after, Linkable, LinkableAt};
+ghost use Rattle.component_records.specs.Tables.{OwnCounted, room_for, is_room_for, Ready, Laid};
+ghost use Rattle.model.specs.declared.layout.TheConstants.{ROW, MOST_ROWS, INGREDIENTS, COOKWARE};
 
-use model::{Relation, RelationRecord, Row, Target};
+use model::{Relation, RelationRecord, Row, Target, layout};
 use refusals::Reason;
 
 // A component of a recipe as it is lent: its line in the sheet, its name in it (after a path, still escaped), its modifiers
@@ -88,15 +90,15 @@ pub fn component_of(r: Row) -> Component
 
 // The record of the i-th row.
 fn component_in(words: &[u32], from: usize, i: usize) -> Component
-    requires { (i < 513) × (from + (i * 12 + 12) ≤ length words.now) }
+    requires { (i < MOST_ROWS) × (from + (i * ROW + ROW) ≤ length words.now) }
     ensures { result ≡ component_in words.now from i }
 {
-    component_of(model::row_at(&words[from..], i))
+    component_of(model::row_on(&words[from..], i))
 }
 
 // The record of the i-th of `count` rows; an empty one past them.
 pub fn component_at(words: &[u32], from: usize, count: usize, i: usize) -> Component
-    requires { (count ≤ 513) × (0 < count → from + count * 12 ≤ length words.now) }
+    requires { (count ≤ MOST_ROWS) × (0 < count → from + count * ROW ≤ length words.now) }
     ensures { result ≡ pick (ltb i count) (component_in words.now from i) no_component }
 {
     if count <= i {
@@ -107,7 +109,7 @@ pub fn component_at(words: &[u32], from: usize, count: usize, i: usize) -> Compo
 
 // All records that the caller lends: those of the rows, and empty ones after them.
 pub fn lend_records(words: &[u32], from: usize, count: usize, all: &mut [Component])
-    requires { (count ≤ 513) × (0 < count → from + count * 12 ≤ length words.now) × (count ≤ length all.old) }
+    requires { (count ≤ MOST_ROWS) × (0 < count → from + count * ROW ≤ length words.now) × (count ≤ length all.old) }
     ensures { all.new ≡ records_in words.now from count ++ replicate (length all.old - count) no_component }
 {
     for (i, c) in all.iter_mut().enumerate() {
@@ -126,7 +128,7 @@ pub fn link(
     definition: usize,
     referrer: usize,
 ) -> Result<(), Reason>
-    requires { (definition < 513) × (referrer ≤ 513) × (n < 513) × (n * 2 + 2 ≤ length pairs.old) }
+    requires { (definition < MOST_ROWS) × (referrer ≤ MOST_ROWS) × (n < MOST_ROWS) × (n * 2 + 2 ≤ length pairs.old) }
     ensures { LinkedAs relation pairs.old n definition referrer pairs.new result }
 {
     let Relation::Reference(_) = relation else {
@@ -144,7 +146,7 @@ pub fn set_referenced_from(
     pairs: &mut [u32],
     n: usize,
 ) -> Result<(), Reason>
-    requires { (references_to < count) × (count ≤ length all.old) × (count ≤ 513) × (n < 513) × (n * 2 + 2 ≤ length pairs.old) }
+    requires { (references_to < count) × (count ≤ length all.old) × (count ≤ MOST_ROWS) × (n < MOST_ROWS) × (n * 2 + 2 ≤ length pairs.old) }
     ensures { (all.new ≡ all.old)
         × LinkedAs (get_or all.old references_to no_component).relation.relation pairs.old n references_to count pairs.new result }
 {
@@ -167,7 +169,7 @@ pub fn is_own_reference(g: RelationRecord) -> bool
 
 // The place of the next pair.
 fn place_after(l: Result<(), Reason>, n: usize) -> usize
-    requires { n < 513 }
+    requires { n < MOST_ROWS }
     ensures { result ≡ place_after l n }
 {
     match l {
@@ -178,7 +180,7 @@ fn place_after(l: Result<(), Reason>, n: usize) -> usize
 
 // The pair of the component at i, at n, where it has one; the place of the next pair.
 fn link_record(all: &mut [Component], i: usize, pairs: &mut [u32], n: usize) -> usize
-    requires { (i < length all.old) × (i < 513) × (n < 513) × LinkableAt all.old i n (length pairs.old) }
+    requires { (i < length all.old) × (i < MOST_ROWS) × (n < MOST_ROWS) × LinkableAt all.old i n (length pairs.old) }
     ensures { (all.new ≡ all.old)
         × (pairs.new ≡ sets pairs.old (n * 2) (pair_at i (get_or all.old i no_component)))
         × (result ≡ n + own_at (get_or all.old i no_component)) }
@@ -192,7 +194,7 @@ fn link_record(all: &mut [Component], i: usize, pairs: &mut [u32], n: usize) -> 
 
 // The pairs of the first `count` records, and how many they are.
 pub fn link_records(all: &mut [Component], count: usize, pairs: &mut [u32]) -> usize
-    requires { (count ≤ 513) × (count ≤ length all.old) × Linkable (take count all.old) (length pairs.old) }
+    requires { (count ≤ MOST_ROWS) × (count ≤ length all.old) × Linkable (take count all.old) (length pairs.old) }
     ensures { (all.new ≡ all.old)
         × (pairs.new ≡ pairs_of (take count all.old) ++ drop (length (pairs_of (take count all.old))) pairs.old)
         × (result ≡ own_count (take count all.old)) }
@@ -214,7 +216,7 @@ pub fn lend_table(
     all: &mut [Component],
     pairs: &mut [u32],
 ) -> usize
-    requires { (count ≤ 513) × (0 < count → from + count * 12 ≤ length words.now) × (count ≤ length all.old)
+    requires { (count ≤ MOST_ROWS) × (0 < count → from + count * ROW ≤ length words.now) × (count ≤ length all.old)
         × Linkable (records_in words.now from count) (length pairs.old) }
     ensures { (all.new ≡ records_in words.now from count ++ replicate (length all.old - count) no_component)
         × (pairs.new ≡ pairs_of (records_in words.now from count)
@@ -224,4 +226,60 @@ pub fn lend_table(
     lend_records(words, from, count, all);
     clearing::clear_words(pairs);
     link_records(all, count, pairs)
+}
+
+// How many of the first `count` rows refer to a component of their own kind.
+pub fn own_references(words: &[u32], from: usize, count: usize) -> usize
+    requires { (count ≤ MOST_ROWS) × (0 < count → from + count * ROW ≤ length words.now) }
+    ensures { OwnCounted words.now from count result }
+{
+    let mut n: usize = 0;
+    for i in 0..count {
+        let c = component_at(words, from, count, i);
+        if is_own_reference(c.relation) {
+            n += 1;
+        }
+    }
+    n
+}
+
+// Whether the records of a table and its pairs fit in what is lent.
+pub fn table_fits(count: usize, pairs: usize, records: usize, words: usize) -> bool
+    requires { pairs ≤ MOST_ROWS }
+    ensures { result ≡ is_room_for count pairs (room_for records words) }
+{
+    count <= records && pairs * 2 <= words
+}
+
+// ---- both tables
+
+// The records and the pairs of `ingredients_count` and `cookware_count` rows, each followed by nothing.
+pub fn lend_tables(
+    words: &[u32],
+    ingredients_count: usize,
+    cookware_count: usize,
+    ingredients: &mut [Component],
+    ingredient_pairs: &mut [u32],
+    cookware: &mut [Component],
+    cookware_pairs: &mut [u32],
+)
+    requires { Ready words.now INGREDIENTS ingredients_count (room_for (length ingredients.old) (length ingredient_pairs.old))
+        × Ready words.now COOKWARE cookware_count (room_for (length cookware.old) (length cookware_pairs.old)) }
+    ensures { Laid words.now INGREDIENTS ingredients_count (room_for (length ingredients.old) (length ingredient_pairs.old)) ingredients.new ingredient_pairs.new
+        × Laid words.now COOKWARE cookware_count (room_for (length cookware.old) (length cookware_pairs.old)) cookware.new cookware_pairs.new }
+{
+    lend_table(
+        words,
+        layout::INGREDIENTS,
+        ingredients_count,
+        ingredients,
+        ingredient_pairs,
+    );
+    lend_table(
+        words,
+        layout::COOKWARE,
+        cookware_count,
+        cookware,
+        cookware_pairs,
+    );
 }

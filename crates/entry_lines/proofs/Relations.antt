@@ -1,15 +1,15 @@
 -- The relation of an entry.
 use Rattle.std.specs.Prelude.{None, Option, Some}
-use Prim.Native.Nat.{ℕ, ◌+◌, ◌-◌, ◌/◌, ◌%◌, ◌≤◌, ◌<◌}
-use mathlib.Core.Path.{◌≡◌, refl, ap, ◌∙◌}
+use Prim.Native.Nat.{ℕ, suc, ◌+◌, ◌/◌, ◌%◌, ◌<◌}
+use mathlib.Core.Path.{◌≡◌, refl, ap, sym, ◌∙◌}
 use mathlib.Core.Bool.{Bool, true, false}
 use mathlib.Core.List.{List, [], ◌∷◌, ◌++◌, append-nil, reverse}
 use native.Mathlib.Omega.{arith}
 use lib.Dec.{ltb}
+use lib.ListN.{length}
 use Rattle.rules.specs.Basic.{pick, codes, tab, comma, join_by, each, digits, decimal}
 use Rattle.rules.specs.Sheet.{escape_char, escape}
 use Rattle.rules.specs.Model.{Kind, ingredient, cookware, target_of, definition, reference}
-use Rattle.rules.specs.Reference.{referrers}
 use Rattle.rules.specs.Page.{or_minus, target_word, relation_fields}
 use Rattle.rules.proofs.Numbers.{escape_decimal}
 use Rattle.output.specs.Put.{Put, tabbed}
@@ -19,9 +19,10 @@ use Rattle.model.specs.declared.Target.{Target}
 use Rattle.model.specs.declared.Target.TheVariants.{Ingredient, Step, Section}
 use Rattle.model.specs.declared.Relation.TheVariants.{Definition, Reference}
 use Rattle.model.specs.declared.RelationRecord.{RelationRecord}
-use Rattle.model.specs.Rows.{referrers_in, referrers_from, relation_as, relation_in}
-use Rattle.model.specs.Searches.{NextAs, NextReferrer}
-use Rattle.model.proofs.Searches.{referrers_oldest}
+use Rattle.model.specs.Rows.{relation_as, relation_in}
+use Rattle.model.specs.Memory.{referrers_of, referrers_left}
+use Rattle.model.specs.declared.Held.{Held}
+use Rattle.memory.specs.Referrers.{FirstReferrer, NextAs, NextReferrer}
 use Rattle.page_fields.proofs.Letters.{escape_both}
 use Rattle.model.specs.declared.Kind as model
 use Rattle.model.specs.declared.Kind.TheVariants as kind
@@ -94,44 +95,41 @@ some_decimal : (n : ℕ) (s : List ℕ) → or_minus (decimal n ++ s) ≡ decima
 unfolding decimal digits
 some_decimal n s = some_either (ltb n 10) (48 + n) (48 + n % 10) (digits 9 (n / 10)) s
 
--- ---- the loop over the pairs
+-- ---- the loop over the referrers
 
-pub turn_more : {pairs : List ℕ} {m d i : ℕ} {x : Option (ℕ × ℕ)} {n next : ℕ} → NextReferrer pairs m d i x → x ≡ Some (n, next)
-    → comma_each (referrers_from pairs d i (m - i)) ≡ (comma ∷ []) ++ (decimal n ++ comma_each (referrers_from pairs d next (m - next)))
-unfolding comma_each
-turn_more {pairs} {m} {d} {i} {x} {n} {next} q e = let z : NextAs pairs m d i (Some (n, next)) = (let y = q.is in rw e at y) in rw z.2
+module _ {k : Kind} {w : List ℕ} {h : Held} {d place : ℕ} {x : Option (ℕ × ℕ)} (q : NextReferrer k w h d place x) where
+  next_some : {n next : ℕ} → x ≡ Some (n, next) → referrers_left k w h d place ≡ n ∷ referrers_left k w h d next
+  next_some {n} {next} e = let z : NextAs k w h d place (Some (n, next)) = (let y = q.is in rw e at y) in z.1
 
-pub turn_none : {pairs : List ℕ} {m d i : ℕ} {x : Option (ℕ × ℕ)} → NextReferrer pairs m d i x → x ≡ None → comma_each (referrers_from pairs d i (m - i)) ≡ []
-unfolding comma_each
-turn_none {pairs} {m} {d} {i} q e = let z : NextAs pairs m d i None = (let y = q.is in rw e at y) in rw z
+  next_none : x ≡ None → referrers_left k w h d place ≡ []
+  next_none e = let y = q.is in rw e at y
 
-pub next_later : {pairs : List ℕ} {m d i : ℕ} {x : Option (ℕ × ℕ)} {n next : ℕ} → NextReferrer pairs m d i x → x ≡ Some (n, next) → m - next < m - i
-next_later {pairs} {m} {d} {i} {x} {n} {next} q e =
-    let z : NextAs pairs m d i (Some (n, next)) = (let y = q.is in rw e at y) in
-    let a : i < next = z.0 in
-    let b : next ≤ m = z.1 in
-    omega arith
+  pub turn_more : {n next : ℕ} → x ≡ Some (n, next) → comma_each (referrers_left k w h d place) ≡ (comma ∷ []) ++ (decimal n ++ comma_each (referrers_left k w h d next))
+  unfolding comma_each
+  turn_more e = rw (next_some e)
 
--- ---- the referrers of a definition
+  pub turn_none : x ≡ None → comma_each (referrers_left k w h d place) ≡ []
+  unfolding comma_each
+  turn_none e = rw (next_none e)
 
-oldest : (pairs : List ℕ) (d m : ℕ) → reverse (referrers_in pairs d m) ≡ referrers_from pairs d 0 (m - 0)
-unfolding referrers
-oldest pairs d m = let e : m - 0 ≡ m = omega arith in referrers_oldest pairs d m true ∙ rw e
+  pub next_fewer : {n next : ℕ} → x ≡ Some (n, next) → length (referrers_left k w h d next) < length (referrers_left k w h d place)
+  next_fewer {n} {next} e = let z : length (referrers_left k w h d place) ≡ suc (length (referrers_left k w h d next)) = ap length (next_some e) in omega arith
 
-module _ {pairs : List ℕ} {m d : ℕ} {x : Option (ℕ × ℕ)} (q : NextReferrer pairs m d 0 x) {o₀ o₁ : List ℕ} {at n : ℕ} (p : Put (tab ∷ []) o₀ at o₁ n) where
-  pub referrers_none : {o : List ℕ} {r : ℕ} → x ≡ None → Put (codes "-") o₁ n o r → Put (tabbed (or_minus (join_by comma (each decimal (reverse (referrers_in pairs d m)))) ∷ [])) o₀ at o r
-  referrers_none e y =
-      let z : NextAs pairs m d 0 None = (let w = q.is in rw e at w) in
-      let k : or_minus (join_by comma (each decimal (reverse (referrers_in pairs d m)))) ≡ codes "-" = ap (λ (l : List ℕ). or_minus (join_by comma (each decimal l))) (oldest pairs d m ∙ z) ∙ (unfold each join_by or_minus in refl) in
-      rw (k, tabbed_one (codes "-")) (unfold escape escape_char in put_seq p y)
+  -- ---- the referrers of a definition
 
-  pub referrers_some : {o₂ o : List ℕ} {l r f next : ℕ} → x ≡ Some (f, next) → Put (decimal f) o₁ n o₂ l → Put (comma_each (referrers_from pairs d next (m - next))) o₂ l o r → Put (tabbed (or_minus (join_by comma (each decimal (reverse (referrers_in pairs d m)))) ∷ [])) o₀ at o r
-  referrers_some {o₂} {o} {l} {r} {f} {next} e y s =
-      let z : NextAs pairs m d 0 (Some (f, next)) = (let w = q.is in rw e at w) in
-      let rest : List ℕ = comma_each (referrers_from pairs d next (m - next)) in
-      let k : or_minus (join_by comma (each decimal (reverse (referrers_in pairs d m)))) ≡ decimal f ++ rest =
-      ap (λ (i : List ℕ). or_minus (join_by comma (each decimal i))) (oldest pairs d m ∙ z.2) ∙ ap or_minus (comma_each_lem f (referrers_from pairs d next (m - next))) ∙ some_decimal f rest in
-      rw (k, tabbed_one (decimal f ++ rest), escape_both (decimal f) rest (escape_decimal f) (escape_each (referrers_from pairs d next (m - next)))) (put_seq p (put_seq y s))
+  module _ (f : FirstReferrer k w h d place) {o₀ o₁ : List ℕ} {at n : ℕ} (p : Put (tab ∷ []) o₀ at o₁ n) where
+    pub referrers_none : {o : List ℕ} {r : ℕ} → x ≡ None → Put (codes "-") o₁ n o r → Put (tabbed (or_minus (join_by comma (each decimal (reverse (referrers_of k w h d)))) ∷ [])) o₀ at o r
+    referrers_none e y =
+        let i : or_minus (join_by comma (each decimal (reverse (referrers_of k w h d)))) ≡ codes "-" = ap (λ (l : List ℕ). or_minus (join_by comma (each decimal l))) (sym f.is ∙ next_none e) ∙ (unfold each join_by or_minus in refl) in
+        rw (i, tabbed_one (codes "-")) (unfold escape escape_char in put_seq p y)
+
+    pub referrers_some : {o₂ o : List ℕ} {l r g next : ℕ} → x ≡ Some (g, next) → Put (decimal g) o₁ n o₂ l → Put (comma_each (referrers_left k w h d next)) o₂ l o r
+        → Put (tabbed (or_minus (join_by comma (each decimal (reverse (referrers_of k w h d)))) ∷ [])) o₀ at o r
+    referrers_some {o₂} {o} {l} {r} {g} {next} e y s =
+        let rest : List ℕ = comma_each (referrers_left k w h d next) in
+        let i : or_minus (join_by comma (each decimal (reverse (referrers_of k w h d)))) ≡ decimal g ++ rest =
+        ap (λ (j : List ℕ). or_minus (join_by comma (each decimal j))) (sym f.is ∙ next_some e) ∙ ap or_minus (comma_each_lem g (referrers_left k w h d next)) ∙ some_decimal g rest in
+        rw (i, tabbed_one (decimal g ++ rest), escape_both (decimal g) rest (escape_decimal g) (escape_each (referrers_left k w h d next))) (put_seq p (put_seq y s))
 
 -- ---- relations
 

@@ -22,15 +22,14 @@ use Rattle.components.specs.Views.{modifiers_in}
 use Rattle.model.specs.declared.Row.{Row}
 use Rattle.model.specs.declared.Held.{Held}
 use Rattle.model.specs.Rows as model
-use Rattle.model.specs.Rows.{row_at, row_of, referrers_in, relation_in, component_of_line, entry_as, entry_in, entries_in}
-use Rattle.model.specs.Memory.{windows_of, state_of, state_in, Sound}
+use Rattle.model.specs.Rows.{relation_in, component_of_line, entry_as, entry_in, entries_in}
+use Rattle.model.specs.Memory.{count_of, rows_in, row_in, referrers_of, state_in}
 use Rattle.model.specs.Fits.{Fits, AllFit, is_of_kind}
 use Rattle.model.proofs.Tables.{entries_length}
-use Rattle.memory.proofs.Whole.{long_ingredients, long_cookware, long_ingredient_pairs, long_cookware_pairs}
+use Rattle.model.proofs.Windows.{table_is}
 use Rattle.lookup.proofs.Names.{part_slice}
 use Rattle.page_fields.proofs.Tables.{lines_none, lines_more}
 use Rattle.entry_lines.specs.Lines.{kind_word, entry_line, path_fields, own_fields, marked_entry}
-use Rattle.entry_lines.specs.Ready.{RowReady, TableReady}
 use Rattle.entry_lines.proofs.Relations.{escape_word}
 
 -- ---- one line
@@ -50,9 +49,9 @@ module _ (k : Kind) (sheet : List ℕ) (row : Row) (by : List ℕ) where
   unfolding entry_as set_relation
   relation_same = refl
 
-module _ {k : Kind} {sheet rows pairs : List ℕ} {m i : ℕ} (z : RowReady k sheet rows pairs m i) {row : Row} (e : row ≡ row_of (row_at 12 rows i)) where
+module _ (k : Kind) {sheet w : List ℕ} {h : Held} {i : ℕ} (z : AllFit sheet w h) (l : i < count_of k h) {row : Row} (e : row ≡ row_in k w i) where
   fits_row_lem : Fits k sheet row
-  fits_row_lem = rw e z.fits
+  fits_row_lem = let x = z.rows k in rw e (x.at i l)
 
   pub line_order : row.line_at ≤ row.line_end
   line_order = fits_row_lem.line.order
@@ -72,76 +71,36 @@ module _ {k : Kind} {sheet rows pairs : List ℕ} {m i : ℕ} (z : RowReady k sh
   pub put_entry_line : (x : Modifiers) {o₀ o₁ o₂ o₃ o₄ o : List ℕ} {at a b c d r : ℕ} → modifiers_in x ≡ model.modifiers_in row
       → Put (kind_word k) o₀ at o₁ a → Put (tabbed (decimal i ∷ [])) o₁ a o₂ b
       → Put (tabbed (own_fields k (marked_entry k (modifiers_in x) (component_of_line k (take (row.line_end - row.line_at) (drop row.line_at sheet)))))) o₂ b o₃ c
-      → Put (tabbed (relation_fields (relation_in k row.relation (referrers_in pairs i m)))) o₃ c o₄ d → Put (lf ∷ []) o₄ d o r
-      → Put (entry_line k i (entry_in k sheet rows pairs m i)) o₀ at o r
+      → Put (tabbed (relation_fields (relation_in k row.relation (referrers_of k w h i)))) o₃ c o₄ d → Put (lf ∷ []) o₄ d o r
+      → Put (entry_line k i (entry_in k sheet (rows_in k w) (referrers_of k w h) i)) o₀ at o r
   unfolding entry_in
   put_entry_line x ex p₁ p₂ p₃ p₄ p₅ =
-      let by : List ℕ = referrers_in pairs i m in
+      let by : List ℕ = referrers_of k w h i in
       let s = own_same k sheet row by x ex line_part in
       rw (← e, line_fields k i (entry_as k sheet row by), ← s, relation_same k sheet row by)
       (put_line (kind_word k) _ (rw (escape_word k) p₁) (put_fields _ _ (put_fields (decimal i ∷ []) _ p₂ p₃) p₄) p₅)
 
 -- ---- the loop
 
-pub row_ready : {k : Kind} {sheet rows pairs : List ℕ} {m n : ℕ} (i : ℕ) → TableReady k sheet rows pairs m n → i < n → RowReady k sheet rows pairs m i
-row_ready i z h =
-    record { few = omega (arith, z.few); room = omega (arith, z.room); fits = z.fits.at i h; few_pairs = z.few_pairs; room_pairs = z.room_pairs }
-
 -- the lines of the first i rows stand from `at` on, and the next one goes to n
-pub record Lined (k : Kind) (sheet rows pairs : List ℕ) (m : ℕ) (o₀ : List ℕ) (at i : ℕ) (o : List ℕ) (n : ℕ) : Type 0 where
-  pub is : Put (table_lines (entry_line k) (entries_in k sheet rows pairs m i)) o₀ at o n
+pub record Lined (k : Kind) (sheet w : List ℕ) (h : Held) (o₀ : List ℕ) (at i : ℕ) (o : List ℕ) (n : ℕ) : Type 0 where
+  pub most : i ≤ count_of k h
+  pub is : Put (table_lines (entry_line k) (entries_in k sheet (rows_in k w) (referrers_of k w h) i)) o₀ at o n
 
-module _ (k : Kind) (sheet rows pairs : List ℕ) (m : ℕ) {o₀ : List ℕ} {at : ℕ} where
-  pub lined_none : at ≤ length o₀ → Lined k sheet rows pairs m o₀ at 0 o₀ at
+module _ (k : Kind) (sheet w : List ℕ) (h : Held) {o₀ : List ℕ} {at : ℕ} where
+  pub lined_none : at ≤ length o₀ → Lined k sheet w h o₀ at 0 o₀ at
   unfolding entries_in
-  lined_none h = record { is = rw (lines_none (entry_line k)) (ends_in starts h) }
+  lined_none l = record { most = omega arith; is = rw (lines_none (entry_line k)) (ends_in starts l) }
 
-  pub lined_more : {i : ℕ} {o o' : List ℕ} {n n' : ℕ} → Lined k sheet rows pairs m o₀ at i o n → Put (entry_line k i (entry_in k sheet rows pairs m i)) o n o' n' → Lined k sheet rows pairs m o₀ at (i + 1) o' n'
+  pub lined_more : {i : ℕ} {o o' : List ℕ} {n n' : ℕ} → Lined k sheet w h o₀ at i o n → i < count_of k h → Put (entry_line k i (entry_in k sheet (rows_in k w) (referrers_of k w h) i)) o n o' n' → Lined k sheet w h o₀ at (i + 1) o' n'
   unfolding entries_in
-  lined_more {i} x p =
+  lined_more {i} x l p =
+      let rows : List ℕ = rows_in k w in
+      let by : ℕ → List ℕ = referrers_of k w h in
       record {
-        is = rw (add-one i, lines_more (entry_line k) (entry_in k sheet rows pairs m i) (entries_in k sheet rows pairs m i), entries_length k sheet rows pairs m i) (put_seq x.is p);
+        most = omega arith;
+        is = rw (add-one i, lines_more (entry_line k) (entry_in k sheet rows by i) (entries_in k sheet rows by i), entries_length k sheet rows by i) (put_seq x.is p);
       }
 
-pub lined_all : {k : Kind} {sheet rows pairs : List ℕ} {m n i : ℕ} {o₀ o : List ℕ} {at r : ℕ} → Lined k sheet rows pairs m o₀ at i o r → i ≡ n → Put (table_lines (entry_line k) (entries_in k sheet rows pairs m n)) o₀ at o r
-lined_all x e = rw e at x.is
-
--- ---- the tables of work memory
-
-module _ {sheet w : List ℕ} {h : Held} (z : Sound w h) (f : AllFit sheet w h) where
-  pub ingredients_ready_lem : TableReady ingredient sheet (take 6156 (drop 0 w)) (take 1026 (drop 9240 w)) h.counts.ingredient_pairs h.counts.ingredients
-  unfolding windows_of
-  ingredients_ready_lem =
-      let a : length (take 6156 (drop 0 w)) ≡ 6156 = long_ingredients z in
-      let b : length (take 1026 (drop 9240 w)) ≡ 1026 = long_ingredient_pairs z in
-      record {
-        few = z.room.ingredients;
-        room = omega (arith, z.room.ingredients);
-        fits = f.ingredients;
-        few_pairs = omega (arith, z.room.ingredient_pairs, z.room.ingredients);
-        room_pairs = omega (arith, z.room.ingredient_pairs, z.room.ingredients);
-      }
-
-  pub cookware_ready_lem : TableReady cookware sheet (take 3084 (drop 6156 w)) (take 514 (drop 10266 w)) h.counts.cookware_pairs h.counts.cookware
-  unfolding windows_of
-  cookware_ready_lem =
-      let a : length (take 3084 (drop 6156 w)) ≡ 3084 = long_cookware z in
-      let b : length (take 514 (drop 10266 w)) ≡ 514 = long_cookware_pairs z in
-      record {
-        few = omega (arith, z.room.cookware);
-        room = omega (arith, z.room.cookware);
-        fits = f.cookware;
-        few_pairs = omega (arith, z.room.cookware_pairs, z.room.cookware);
-        room_pairs = omega (arith, z.room.cookware_pairs, z.room.cookware);
-      }
-
-module _ (sheet w : List ℕ) (h : Held) {o₀ o : List ℕ} {at r : ℕ} where
-  pub ingredients_lined : Put (table_lines (entry_line ingredient) (entries_in ingredient sheet (take 6156 (drop 0 w)) (take 1026 (drop 9240 w)) h.counts.ingredient_pairs h.counts.ingredients)) o₀ at o r
-      → Put (table_lines (entry_line ingredient) (table_of ingredient (state_in sheet w h))) o₀ at o r
-  unfolding table_of state_in state_of windows_of
-  ingredients_lined x = x
-
-  pub cookware_lined : Put (table_lines (entry_line cookware) (entries_in cookware sheet (take 3084 (drop 6156 w)) (take 514 (drop 10266 w)) h.counts.cookware_pairs h.counts.cookware)) o₀ at o r
-      → Put (table_lines (entry_line cookware) (table_of cookware (state_in sheet w h))) o₀ at o r
-  unfolding table_of state_in state_of windows_of
-  cookware_lined x = x
+  pub lined_all : {i r : ℕ} {o : List ℕ} → Lined k sheet w h o₀ at i o r → count_of k h ≤ i → Put (table_lines (entry_line k) (table_of k (state_in sheet w h))) o₀ at o r
+  lined_all {i} x l = let e : i ≡ count_of k h = omega (arith, x.most) in rw (table_is k sheet w h) (rw e at x.is)

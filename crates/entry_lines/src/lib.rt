@@ -1,7 +1,7 @@
 // The `ingredient` and `cookware` lines of a recipe page: each row of work memory with the component of its line, read again.
 #![tactic(auto)]
 
-ghost use Rattle.std.specs.Prelude.{◌≡◌, true, [], ◌∷◌, reverse, ◌-◌, ◌*◌, ◌≤◌, length};
+ghost use Rattle.std.specs.Prelude.{◌≡◌, true, [], ◌∷◌, reverse, ◌<◌};
 ghost use Rattle.rules.specs.Basic.{pick, codes, comma, lf, decimal, join_by, each};
 ghost use Rattle.rules.specs.Utf8.{encode};
 ghost use Rattle.rules.specs.Read.{parse_line};
@@ -14,12 +14,11 @@ ghost use Rattle.content.specs.Contents.{kept_in};
 ghost use Rattle.content.specs.Parts.{Field};
 ghost use Rattle.components.specs.Views.{modifiers_in, component_in};
 ghost use Rattle.known_events.specs.Fields.{ComponentFields};
-ghost use Rattle.model.specs.Rows.{referrers_in, referrers_from, relation_in, entry_in, entries_in, component_of_line};
-ghost use Rattle.model.specs.Memory.{state_in};
+ghost use Rattle.model.specs.Rows.{relation_in, entry_in, component_of_line};
+ghost use Rattle.model.specs.Memory.{count_of, rows_in, referrers_of, referrers_left, state_in};
 ghost use Rattle.model.specs.Fits.{is_of_kind, AllFit};
 ghost use Rattle.model.specs.Kinds.{kind_of};
 ghost use Rattle.entry_lines.specs.Lines.{kind_word, target_in, entry_line, comma_each, path_fields, own_fields, marked_entry, Placed};
-ghost use Rattle.entry_lines.specs.Ready.{RowReady, TableReady};
 
 use components::{ComponentView, Modifiers};
 use content::NamePlace;
@@ -68,15 +67,22 @@ fn put_place(out: &mut [u8], at: usize, in_step: bool) -> usize
     output::put_field(out, at, if in_step { b"step" } else { b"list" })
 }
 
-// The referrers of a definition from a pair on, oldest first, each after a comma.
-fn put_more(out: &mut [u8], at: usize, pairs: &[u32], m: usize, d: u32, from: usize) -> usize
-    requires { (m ≤ 513) × (m * 2 ≤ length pairs.now) }
-    ensures { Put (comma_each (referrers_from pairs.now d from (m - from))) out.old at out.new result }
+// The referrers of a definition that are left from a place on, oldest first, each after a comma.
+fn put_more(
+    out: &mut [u8],
+    at: usize,
+    stored: &Stored,
+    kind: Kind,
+    definition: usize,
+    from: usize,
+) -> usize
+    requires { definition < count_of (kind_of kind) stored.now.held }
+    ensures { Put (comma_each (referrers_left (kind_of kind) stored.now.words.now stored.now.held definition from)) out.old at out.new result }
 {
     let mut n = at;
-    let mut i = from;
+    let mut place = from;
     loop {
-        match model::next_referrer(pairs, m, d, i) {
+        match stored.next_referrer(kind, definition, place) {
             None => {
                 if n <= out.len() {
                     return n;
@@ -86,23 +92,24 @@ fn put_more(out: &mut [u8], at: usize, pairs: &[u32], m: usize, d: u32, from: us
             Some((r, next)) => {
                 let a = output::put_byte(out, n, b',');
                 n = output::put_decimal(out, a, r);
-                i = next;
+                place = next;
             }
         }
     }
 }
 
 // The referrers of a definition by comma, oldest first, or `-`.
-fn put_referrers(out: &mut [u8], at: usize, pairs: &[u32], m: usize, d: u32) -> usize
-    requires { (m ≤ 513) × (m * 2 ≤ length pairs.now) }
-    ensures { Put (tabbed (or_minus (join_by comma (each decimal (reverse (referrers_in pairs.now d m)))) ∷ [])) out.old at out.new result }
+fn put_referrers(out: &mut [u8], at: usize, stored: &Stored, kind: Kind, definition: usize) -> usize
+    requires { definition < count_of (kind_of kind) stored.now.held }
+    ensures { Put (tabbed (or_minus (join_by comma (each decimal (reverse (referrers_of (kind_of kind) stored.now.words.now stored.now.held definition)))) ∷ [])) out.old at out.new result }
 {
     let n = output::put_byte(out, at, b'\t');
-    match model::next_referrer(pairs, m, d, 0) {
+    let first = stored.first_referrer(kind, definition);
+    match stored.next_referrer(kind, definition, first) {
         None => output::put_byte(out, n, b'-'),
         Some((r, next)) => {
             let a = output::put_decimal(out, n, r);
-            put_more(out, a, pairs, m, d, next)
+            put_more(out, a, stored, kind, definition, next)
         }
     }
 }
@@ -111,35 +118,34 @@ fn put_referrers(out: &mut [u8], at: usize, pairs: &[u32], m: usize, d: u32) -> 
 fn put_definition(
     out: &mut [u8],
     at: usize,
-    pairs: &[u32],
-    m: usize,
+    stored: &Stored,
+    kind: Kind,
+    index: usize,
     in_step: bool,
-    d: u32,
 ) -> usize
-    requires { (m ≤ 513) × (m * 2 ≤ length pairs.now) }
-    ensures { Put (tabbed (relation_fields (definition in_step (referrers_in pairs.now d m)))) out.old at out.new result }
+    requires { index < count_of (kind_of kind) stored.now.held }
+    ensures { Put (tabbed (relation_fields (definition in_step (referrers_of (kind_of kind) stored.now.words.now stored.now.held index)))) out.old at out.new result }
 {
     let a = output::put_field(out, at, b"def");
     let b = put_place(out, a, in_step);
-    put_referrers(out, b, pairs, m, d)
+    put_referrers(out, b, stored, kind, index)
 }
 
 // The relation of the row with an index.
 pub fn put_relation(
     out: &mut [u8],
     at: usize,
-    pairs: &[u32],
-    m: usize,
-    r: RelationRecord,
-    index: u32,
+    stored: &Stored,
     kind: Kind,
+    index: usize,
+    r: RelationRecord,
 ) -> usize
-    requires { (m ≤ 513) × (m * 2 ≤ length pairs.now) }
-    ensures { Put (tabbed (relation_fields (relation_in (kind_of kind) r (referrers_in pairs.now index m)))) out.old at out.new result }
+    requires { index < count_of (kind_of kind) stored.now.held }
+    ensures { Put (tabbed (relation_fields (relation_in (kind_of kind) r (referrers_of (kind_of kind) stored.now.words.now stored.now.held index)))) out.old at out.new result }
 {
     let relation = r.relation;
     match relation {
-        Relation::Definition => put_definition(out, at, pairs, m, r.in_step, index),
+        Relation::Definition => put_definition(out, at, stored, kind, index, r.in_step),
         Relation::Reference(t) => put_reference(out, at, t, r.index, kind),
     }
 }
@@ -237,74 +243,38 @@ fn put_component(out: &mut [u8], at: usize, line: &[u8], marks: Modifiers, kind:
 
 // The line of the i-th row at the front of the unwritten rest of the output: how many bytes it took, or one more than the
 // rest has where it does not fit.
-fn entry_line(
-    sheet: &[u8],
-    rows: &[u32],
-    pairs: &[u32],
-    m: usize,
-    i: usize,
-    kind: Kind,
-    rest: &mut [u8],
-) -> usize
-    requires { RowReady (kind_of kind) sheet.now rows.now pairs.now m i }
-    ensures { Put (entry_line (kind_of kind) i (entry_in (kind_of kind) sheet.now rows.now pairs.now m i)) rest.old 0 rest.new result }
+fn entry_line(sheet: &[u8], stored: &Stored, kind: Kind, i: usize, rest: &mut [u8]) -> usize
+    requires { AllFit sheet.now stored.now.words.now stored.now.held × (i < count_of (kind_of kind) stored.now.held) }
+    ensures { Put (entry_line (kind_of kind) i (entry_in (kind_of kind) sheet.now (rows_in (kind_of kind) stored.now.words.now) (referrers_of (kind_of kind) stored.now.words.now stored.now.held) i)) rest.old 0 rest.new result }
 {
-    let row = model::row_at(rows, i);
+    let row = stored.row(kind, i);
     let from = row.line_at as usize;
     let to = row.line_end as usize;
     let relation = row.relation;
     let marks = new_rows::modifiers_of(row);
-    let index = i as u32;
     let a = put_word(rest, 0, kind);
-    let b = output::put_number(rest, a, index);
+    let b = output::put_number(rest, a, i as u32);
     let c = put_component(rest, b, &sheet[from..to], marks, kind);
-    let d = put_relation(rest, c, pairs, m, relation, index, kind);
+    let d = put_relation(rest, c, stored, kind, i, relation);
     output::put_byte(rest, d, b'\n')
 }
 
 // The same at a position of the output: the rest from there on is lent.
 fn put_entry(
     sheet: &[u8],
-    rows: &[u32],
-    pairs: &[u32],
-    m: usize,
+    stored: &Stored,
+    kind: Kind,
     i: usize,
-    kind: Kind,
     out: &mut [u8],
     at: usize,
 ) -> usize
-    requires { RowReady (kind_of kind) sheet.now rows.now pairs.now m i }
-    ensures { Put (entry_line (kind_of kind) i (entry_in (kind_of kind) sheet.now rows.now pairs.now m i)) out.old at out.new result }
-{
-    output::put_line(
-        out,
-        at,
-        |rest: &mut [u8]| entry_line(sheet, rows, pairs, m, i, kind, rest),
-    )
-}
-
-// The lines of the first n rows.
-fn put_entries(
-    sheet: &[u8],
-    rows: &[u32],
-    n: usize,
-    pairs: &[u32],
-    m: usize,
-    kind: Kind,
-    out: &mut [u8],
-    at: usize,
-) -> usize
-    requires { TableReady (kind_of kind) sheet.now rows.now pairs.now m n }
-    ensures { Put (table_lines (entry_line (kind_of kind)) (entries_in (kind_of kind) sheet.now rows.now pairs.now m n)) out.old at out.new result }
+    requires { AllFit sheet.now stored.now.words.now stored.now.held × (i < count_of (kind_of kind) stored.now.held) }
+    ensures { Put (entry_line (kind_of kind) i (entry_in (kind_of kind) sheet.now (rows_in (kind_of kind) stored.now.words.now) (referrers_of (kind_of kind) stored.now.words.now stored.now.held) i)) out.old at out.new result }
 {
     if out.len() < at {
         return out.len() + 1;
     }
-    let mut next = at;
-    for i in 0..n {
-        next = put_entry(sheet, rows, pairs, m, i, kind, out, next);
-    }
-    next
+    at + entry_line(sheet, stored, kind, i, &mut out[at..])
 }
 
 // The lines of the ingredients or of the cookware.
@@ -318,33 +288,12 @@ pub fn component_lines(
     requires { AllFit sheet.now stored.now.words.now stored.now.held }
     ensures { Put (table_lines (entry_line (kind_of kind)) (table_of (kind_of kind) (state_in sheet.now stored.now.words.now stored.now.held))) out.old at out.new result }
 {
-    let (words, h) = (stored.words, stored.held);
-    match kind {
-        Kind::Ingredient => {
-            let (n, m) = (h.counts.ingredients, h.counts.ingredient_pairs);
-            put_entries(
-                sheet,
-                &words[0..6156],
-                n,
-                &words[9240..10266],
-                m,
-                kind,
-                out,
-                at,
-            )
-        }
-        Kind::Cookware => {
-            let (n, m) = (h.counts.cookware, h.counts.cookware_pairs);
-            put_entries(
-                sheet,
-                &words[6156..9240],
-                n,
-                &words[10266..10780],
-                m,
-                kind,
-                out,
-                at,
-            )
-        }
+    if out.len() < at {
+        return out.len() + 1;
     }
+    let mut next = at;
+    for i in 0..memory::count_of(stored.held, kind) {
+        next = put_entry(sheet, stored, kind, i, out, next);
+    }
+    next
 }

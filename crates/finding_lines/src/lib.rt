@@ -130,7 +130,7 @@ pub fn finding_lines(stored: &Stored, out: &mut [u8], at: usize) -> usize
 {
     let mut n = begin(out, at);
     for i in 0..stored.held.counts.findings {
-        n = put_finding(out, n, model::finding_at(&stored.words[10780..23132], i));
+        n = put_finding(out, n, stored.finding(i));
     }
     n
 }

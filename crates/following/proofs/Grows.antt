@@ -13,7 +13,6 @@ use Rattle.rules.specs.State as state
 use Rattle.rules.specs.State.{State, Metadata, Kept, Tables, no_block, set_place, set_block, set_kept}
 use Rattle.rules.specs.Pass.{keep_block}
 use Rattle.rules.specs.Page.{lines_onto, table_lines, block_lines, section_lines, timer_line, inline_line}
-use Rattle.model.specs.declared.Open.{Open}
 use Rattle.following.specs.declared.Follow.{Follow}
 use Rattle.following.specs.Drawn.{define_in, kind_of, keeps, section_line, open_drawn, is_shown, sections_drawn, old_drawn, follow_of, lead, start_adds}
 use Rattle.following.specs.Follow.{start_follow, close_follow}

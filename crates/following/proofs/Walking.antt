@@ -12,7 +12,7 @@ use Rattle.rules.specs.Basic.{pick, is_some}
 use Rattle.rules.specs.Event.{Event, meta_event, section_event, start_event, end_event, text_event, component_event, ComponentEvent, ingredient_event, cookware_event, timer_event, between, inside, parser_event}
 use Rattle.rules.specs.Units.{NamedUnit}
 use Rattle.rules.specs.Modes.{is_components}
-use Rattle.rules.specs.State.{State, first_state, over_limits, Step, next, Walk, going, refused, failed, recipe, refusal}
+use Rattle.rules.specs.State.{State, first_state, over_limits, next, Walk, going, refused, failed, recipe, refusal}
 use Rattle.rules.specs.Pass.{is_open, on_event, walk, ended, unless_over, finish, parse_events}
 use Rattle.rules.proofs.Basics.{pick_either, no_truth}
 use Rattle.rules.proofs.Walks.{no_walk, step_next}

@@ -1,2 +1,3 @@
 pub mod Drawn
 pub mod Follow
+pub mod Checked

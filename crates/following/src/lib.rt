@@ -7,11 +7,14 @@ ghost use Rattle.parts.specs.Views.{TextWithin};
 ghost use Rattle.events.specs.Views.{BetweenWithin, EventWithin};
 ghost use Rattle.following.specs.Drawn.{keeps, opens_as, first_follow};
 ghost use Rattle.following.specs.Follow.{word_meta, meta_follow, section_follow, start_follow, close_follow, counter_after, with_inline, Room, MetaRead, BetweenFollowed, EventFollowed, ComponentCounted, InsideFollowed, Followed};
-ghost use Rattle.sheet.specs.Words.{block_in};
+ghost use Rattle.following.specs.Checked.{define_answer};
+ghost use Rattle.rules.specs.Modes.{is_components};
+ghost use Rattle.sheet.specs.Words.{block_in, define_of};
 
 use events::{Between, ComponentEvent, EventView, Inside};
 use model::Open;
 use parts::TextView;
+use refusals::Reason;
 use sheet::{BlockKind, Define};
 
 // The parts of the page that are drawn by a second walk: sections with their blocks and items; timers; inline
@@ -134,6 +137,16 @@ pub fn keeps_block(d: Define, b: Open) -> bool
         Open::Step => !blocks::is_components(d),
         Open::Text | Open::TextMode => true,
     }
+}
+
+// What the plain form refuses of a component in a step: 22 in components mode.
+pub fn check_define(define: Define) -> Result<(), Reason>
+    ensures { result ≡ define_answer (is_components (define_of define)) }
+{
+    if blocks::is_components(define) {
+        return Err(Reason::InComponentsMode);
+    }
+    Ok(())
 }
 
 // The block that a `start` opens.

@@ -17,6 +17,7 @@ use Rattle.utf8.proofs.Steps.{valid_utf8, fault_utf8}
 use Rattle.unit_index.specs.Index.{units_refused, UnitsIndexed}
 use Rattle.reading.specs.Answers.{SheetChecked}
 use Rattle.inputs.specs.Inputs.{refused, sheet_fault, units_fault, contents_fault, inputs_fault, SheetFlagsChecked, ContentsChecked, InputsChecked, UnitsReady}
+use Rattle.model.specs.declared.layout.TheConstants.{WORDS}
 
 -- a refusal of what stands in no line
 abbrev because : Reason → Result (Unit {0}) Refusal
@@ -74,36 +75,41 @@ refused_ready h = record { long = h; indexed = λ q. absurd (cc) }
 pub good_ready : {units index : List ℕ} {b : Result (Unit {0}) Reason} {r : Result (Unit {0}) Refusal} → UnitsIndexed units index b → b ≡ Ok tt → UnitsReady units index r
 good_ready x e = record { long = x.long; indexed = λ _. x.indexed e }
 
+-- work memory has the words that the rules ask for
+pub words_as_needed : WORDS ≡ words_needed
+unfolding words_needed
+words_as_needed = refl
+
 -- ---- 1 to 3
 module _ {sheet text units : List ℕ} {flags words bytes : ℕ} where
-  pub words_short : words < 45661 → InputsChecked sheet text units flags words bytes (because reason.Lengths)
+  pub words_short : words < WORDS → InputsChecked sheet text units flags words bytes (because reason.Lengths)
   unfolding inputs_fault is_short words_needed refused
-  words_short h = record { is = rw (lt-ltb words 45661 h) }
+  words_short h = record { is = rw (lt-ltb words WORDS h) }
 
-  module _ (w : 45661 ≤ words) where
+  module _ (w : WORDS ≤ words) where
     pub bytes_short : bytes < 65536 → InputsChecked sheet text units flags words bytes (because reason.Lengths)
     unfolding inputs_fault is_short words_needed bytes_needed refused
-    bytes_short h = record { is = rw (le-ltb words 45661 w, lt-ltb bytes 65536 h) }
+    bytes_short h = record { is = rw (le-ltb words WORDS w, lt-ltb bytes 65536 h) }
 
     module _ (b : 65536 ≤ bytes) where
       pub sheet_long : 65536 < length sheet → InputsChecked sheet text units flags words bytes (because reason.Lengths)
       unfolding inputs_fault is_short words_needed bytes_needed refused
-      sheet_long h = record { is = rw (le-ltb words 45661 w, le-ltb bytes 65536 b, lt-ltb 65536 (length sheet) h) }
+      sheet_long h = record { is = rw (le-ltb words WORDS w, le-ltb bytes 65536 b, lt-ltb 65536 (length sheet) h) }
 
       module _ (s : length sheet ≤ 65536) where
         pub text_long : 65535 < length text → InputsChecked sheet text units flags words bytes (because reason.LongText)
         unfolding inputs_fault is_short words_needed bytes_needed refused
         text_long h =
-            record { is = rw (le-ltb words 45661 w, le-ltb bytes 65536 b, le-ltb 65536 (length sheet) s, lt-ltb 65535 (length text) h) }
+            record { is = rw (le-ltb words WORDS w, le-ltb bytes 65536 b, le-ltb 65536 (length sheet) s, lt-ltb 65535 (length text) h) }
 
         module _ (t : length text ≤ 65535) where
           pub units_long : 16384 < length units → InputsChecked sheet text units flags words bytes (because reason.LongUnits)
           unfolding inputs_fault is_short words_needed bytes_needed refused
           units_long h =
-              record { is = rw (le-ltb words 45661 w, le-ltb bytes 65536 b, le-ltb 65536 (length sheet) s, le-ltb 65535 (length text) t, lt-ltb 16384 (length units) h) }
+              record { is = rw (le-ltb words WORDS w, le-ltb bytes 65536 b, le-ltb 65536 (length sheet) s, le-ltb 65535 (length text) t, lt-ltb 16384 (length units) h) }
 
           pub lengths_good : length units ≤ 16384 → {r : Result (Unit {0}) Refusal} → ContentsChecked sheet text units flags r
               → InputsChecked sheet text units flags words bytes r
           unfolding inputs_fault is_short words_needed bytes_needed
           lengths_good u c =
-              record { is = rw (le-ltb words 45661 w, le-ltb bytes 65536 b, le-ltb 65536 (length sheet) s, le-ltb 65535 (length text) t, le-ltb 16384 (length units) u) c.is }
+              record { is = rw (le-ltb words WORDS w, le-ltb bytes 65536 b, le-ltb 65536 (length sheet) s, le-ltb 65535 (length text) t, le-ltb 16384 (length units) u) c.is }

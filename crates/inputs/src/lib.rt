@@ -5,11 +5,12 @@ ghost use Rattle.std.specs.Prelude.{◌≡◌, ◌≤◌, length};
 ghost use Rattle.rules.specs.Answer.{flags_of};
 ghost use Rattle.inputs.specs.Inputs.{InputsChecked, ContentsChecked, SheetFlagsChecked, UnitsReady};
 
+use model::layout;
 use refusals::{Reason, Refusal};
 use unit_index::Index;
 
 // How much work memory has to be lent (docs/MEMORY.md).
-pub const WORDS: usize = 45661;
+pub const WORDS: usize = layout::WORDS;
 
 pub const BYTES: usize = 65536;
 

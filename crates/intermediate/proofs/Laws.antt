@@ -2,17 +2,16 @@
 use Rattle.std.specs.Prelude.{None, Option, Some, Ok, Err, eqb}
 use Rattle.std.specs.Option as option
 use Rattle.std.proofs.Common.{true≢false}
-use Prim.Native.Nat.{ℕ, zero, suc}
-use mathlib.Core.Path.{◌≡◌, refl, ap, sym, ◌∙◌}
+use Prim.Native.Nat.{ℕ}
+use mathlib.Core.Path.{◌≡◌, refl, sym, ◌∙◌}
 use mathlib.Core.Bool.{Bool, true, false, not, ◌||◌}
 use mathlib.Core.List.{List}
 use borrow.Author.Tests.{eq-eqb, ne_eqb}
-use lib.ListN.{length, take, drop, replicate}
 use Rattle.rules.specs.Basic.{pick, when}
 use Rattle.rules.specs.Event as rules
 use Rattle.rules.specs.Finding.{found}
 use Rattle.rules.specs.Model.{Entry}
-use Rattle.rules.specs.Checks.{step_indices, section_indices, candidates, resolve_intermediate_ref, intermediate_modifiers, intermediate_findings, intermediate_target, intermediate_relation}
+use Rattle.rules.specs.Checks.{section_indices, candidates, resolve_intermediate_ref, intermediate_modifiers, intermediate_findings, intermediate_target, intermediate_relation}
 use Rattle.rules.specs.Units.{NamedUnit}
 use Rattle.rules.specs.Components.{intermediate_fault, lock_findings, made_intermediate}
 use Rattle.refusals.specs.declared.Reason.TheVariants.{NotMarked, Negative}
@@ -22,14 +21,14 @@ use Rattle.components.specs.Views.{modifiers_in, signed_in, target_in, intermedi
 use Rattle.components.specs.declared.Modifiers.{Modifiers}
 use Rattle.components.specs.declared.Target.TheVariants as target
 use Rattle.components.specs.declared.Intermediate.{Intermediate}
-use Rattle.model.specs.Blank.{blank_section}
 use Rattle.model.specs.Searches.{TargetFound}
-use Rattle.model.specs.Rows.{relation_in, relation_as, blocks_in, finding_of, if_found}
-use Rattle.model.specs.Memory.{state_in, state_of, windows_of}
+use Rattle.model.specs.Rows.{relation_in, relation_as, finding_of, if_found}
 use Rattle.model.specs.declared.Target.TheVariants as model
 use Rattle.model.specs.declared.Relation.TheVariants.{Definition, Reference}
 use Rattle.model.specs.declared.Noted.{Noted}
 use Rattle.model.specs.declared.Held.{Held}
+use Rattle.model.proofs.Windows.{sections_count}
+use Rattle.memory.specs.Reading.{StepTarget}
 use Rattle.memory.specs.Reports.{Reported}
 use Rattle.memory.proofs.Reports.{reported_seq, reported_as}
 use Rattle.checks.proofs.Laws.{nothing_found, one_found}
@@ -68,18 +67,14 @@ module _ {m : Modifiers} {at : Span} where
 
 -- ---- the target
 
-length_replicate : {A : Type 0} (n : ℕ) (a : A) → length (replicate n a) ≡ n
-length_replicate zero a = refl
-length_replicate (suc n) a = ap suc (length_replicate n a)
-
 module _ (i : Intermediate) {w : List ℕ} {h : Held} {r : Option ℕ} where
-  pub to_step : i.target ≡ target.Step → TargetFound i.relative i.value.size (step_indices (blocks_in (take 1025 (drop 23132 w)) h.counts.here)) r → Resolved i w h r
-  unfolding resolve_intermediate_ref candidates intermediate_in signed_in target_in state_in state_of windows_of
-  to_step e t = record { is = λ sheet. t.is ∙ rw e }
+  pub to_step : i.target ≡ target.Step → StepTarget i.relative i.value.size w h r → Resolved i w h r
+  unfolding resolve_intermediate_ref candidates intermediate_in signed_in target_in
+  to_step e t = record { is = λ sheet. (t.is sheet).is ∙ rw e }
 
   pub to_section : i.target ≡ target.Section → TargetFound i.relative i.value.size (section_indices h.counts.sections) r → Resolved i w h r
-  unfolding resolve_intermediate_ref candidates intermediate_in signed_in target_in state_in state_of
-  to_section e t = record { is = λ sheet. t.is ∙ rw (e, length_replicate h.counts.sections blank_section) }
+  unfolding resolve_intermediate_ref candidates intermediate_in signed_in target_in
+  to_section e t = record { is = λ sheet. t.is ∙ rw (e, sections_count sheet w h) }
 
 -- ---- 8 and 9
 

@@ -50,10 +50,7 @@ pub fn intermediate_target(stored: &Stored, i: Intermediate) -> Option<u32>
     let value = i.value.size;
     let target = i.target;
     match target {
-        Target::Step => {
-            let n = stored.held.counts.here;
-            model::step_target(&stored.words[23132..24157], n, relative, value)
-        }
+        Target::Step => stored.step_target(relative, value),
         Target::Section => {
             let n = stored.held.counts.sections;
             model::section_target(n, relative, value)

@@ -1,19 +1,17 @@
 -- The same-name search over rows is that over entries, for each kind.
-use Prim.Native.Nat.{ℕ, zero, suc, ◌+◌, ◌-◌, ◌*◌, ◌≤◌, ◌<◌}
+use Prim.Native.Nat.{ℕ, zero, suc, ◌-◌, ◌≤◌, ◌<◌}
 use mathlib.Core.Path.{◌≡◌, refl, sym, ap, ◌∙◌}
 use mathlib.Core.List.{List, [], ◌∷◌}
-use mathlib.Core.Bool.{Bool, true, false, ◌&&◌, ◌||◌, not, beq}
+use mathlib.Core.Bool.{Bool, true, false, ◌||◌, beq}
 use Rattle.std.specs.Prelude.{Option, None, Some}
 use native.Mathlib.Omega.{arith}
-use borrow.Author.Tests.{eq-eqb, ne_eqb}
-use lib.Dec.{eqb}
-use lib.ListN.{length, get_or, take, drop}
+use lib.ListN.{take, drop}
 use lib.Seq.{slice, take-nil}
 use Rattle.rules.specs.Basic.{pick, on_some}
 use Rattle.rules.specs.Text.{retain}
 use Rattle.rules.specs.Read.{content_of}
 use Rattle.rules.specs.Unicode.{fold_name, same_name}
-use Rattle.rules.specs.Model.{Kind, ingredient, cookware, Entry, set_relation, set_modifiers}
+use Rattle.rules.specs.Model.{Kind, Entry, set_relation, set_modifiers}
 use Rattle.rules.specs.Reference.{eq_bool, fits, same_name_in, same_name_of}
 use Rattle.rules.specs.State.{table_of}
 use Rattle.rules.proofs.Basics.{no_some, some_inj}
@@ -21,17 +19,15 @@ use Rattle.content.specs.Contents.{content_in, kept_in}
 use Rattle.content.specs.Parts.{Field}
 use Rattle.content.proofs.Plains.{content_of_lem}
 use Rattle.content.proofs.Lines.{field_content}
-use Rattle.model.specs.Rows.{row_at, row_of, component_of_line, modifiers_in, entry_as, entry_in, entries_in}
-use Rattle.model.specs.Memory.{windows_of, state_in, state_of, Sound}
+use Rattle.model.specs.Rows.{row_on, component_of_line, modifiers_in, entry_as, entry_in, entries_in}
+use Rattle.model.specs.Memory.{table_in, referrers_of, state_in, count_of, rows_in}
 use Rattle.model.specs.Fits.{Fits, EachRow, AllFit}
 use Rattle.model.specs.declared.Row.{Row}
 use Rattle.model.specs.declared.Held.{Held}
-use Rattle.model.proofs.Stores.{get_or_mid}
 use Rattle.model.proofs.Tables.{entries_length}
-use Rattle.memory.proofs.Whole.{long_ingredients, long_cookware}
-use Rattle.memory.specs.Pushes.{count_of, pairs_of}
+use Rattle.model.proofs.Windows.{table_is}
 use Rattle.lookup.specs.declared.NamePart.{NamePart}
-use Rattle.lookup.specs.Names.{name_part, NameInside, NamesInside, row_fits, same_row, rows_in, pairs_in, earlier_in, earlier_at, SameFound, NewName}
+use Rattle.lookup.specs.Names.{name_part, NamesInside, row_fits, same_row, earlier_in, earlier_at, SameFound, NewName}
 
 -- ---- the name of a row
 
@@ -52,34 +48,34 @@ name_of {k} {sheet} {r} h = read_kept (name_part sheet r) (entry_as k sheet r []
 
 -- ---- an entry has the name, REF and OPT of its row
 
-module _ (k : Kind) (sheet rows pairs : List ℕ) (m : ℕ) where
-  entry_name : (i : ℕ) → (entry_in k sheet rows pairs m i).name ≡ (entry_as k sheet (row_of (row_at 12 rows i)) []).name
+module _ (k : Kind) (sheet rows : List ℕ) (by : ℕ → List ℕ) where
+  entry_name : (i : ℕ) → (entry_in k sheet rows by i).name ≡ (entry_as k sheet (row_on rows i) []).name
   unfolding entry_in entry_as set_relation
   entry_name i = refl
 
-  entry_ref : (i : ℕ) → (entry_in k sheet rows pairs m i).modifiers.ref ≡ (row_of (row_at 12 rows i)).reference
+  entry_ref : (i : ℕ) → (entry_in k sheet rows by i).modifiers.ref ≡ (row_on rows i).reference
   unfolding entry_in entry_as set_relation set_modifiers modifiers_in
   entry_ref i = refl
 
-  entry_opt : (i : ℕ) → (entry_in k sheet rows pairs m i).modifiers.opt ≡ (row_of (row_at 12 rows i)).opt
+  entry_opt : (i : ℕ) → (entry_in k sheet rows by i).modifiers.opt ≡ (row_on rows i).opt
   unfolding entry_in entry_as set_relation set_modifiers modifiers_in
   entry_opt i = refl
 
   module _ (folded : List ℕ) (any_opt is_opt : Bool) where
-    entry_fits : (i : ℕ) → Fits k sheet (row_of (row_at 12 rows i)) → fits folded any_opt is_opt (entry_in k sheet rows pairs m i) ≡ row_fits sheet folded any_opt is_opt (row_of (row_at 12 rows i))
+    entry_fits : (i : ℕ) → Fits k sheet (row_on rows i) → fits folded any_opt is_opt (entry_in k sheet rows by i) ≡ row_fits sheet folded any_opt is_opt (row_on rows i)
     unfolding fits row_fits
     entry_fits i h = rw (entry_ref i, entry_opt i, entry_name i, name_of h)
 
     -- the lookup law, for either kind
     pub rows_search : (n : ℕ) → EachRow (Fits k sheet) rows n
-        → on_some (earlier_in k sheet rows pairs m) (same_row sheet folded any_opt is_opt rows n) ≡ same_name_in folded any_opt is_opt (entries_in k sheet rows pairs m n)
+        → on_some (earlier_in k sheet rows by) (same_row sheet folded any_opt is_opt rows n) ≡ same_name_in folded any_opt is_opt (entries_in k sheet rows by n)
     unfolding same_name_in entries_in same_row on_some earlier_in
     rows_search zero h = refl
     rows_search (suc n) h =
-        rw (entry_fits n (h.at n (omega arith)), entries_length k sheet rows pairs m n, ← rows_search n (fewer h)) (go (row_fits sheet folded any_opt is_opt (row_of (row_at 12 rows n))))
+        rw (entry_fits n (h.at n (omega arith)), entries_length k sheet rows by n, ← rows_search n (fewer h)) (go (row_fits sheet folded any_opt is_opt (row_on rows n)))
       where
-        go : (b : Bool) → on_some (earlier_in k sheet rows pairs m) (pick b (Some n) (same_row sheet folded any_opt is_opt rows n))
-            ≡ pick b (Some (record { index = n; entry = entry_in k sheet rows pairs m n })) (on_some (earlier_in k sheet rows pairs m) (same_row sheet folded any_opt is_opt rows n))
+        go : (b : Bool) → on_some (earlier_in k sheet rows by) (pick b (Some n) (same_row sheet folded any_opt is_opt rows n))
+            ≡ pick b (Some (record { index = n; entry = entry_in k sheet rows by n })) (on_some (earlier_in k sheet rows by) (same_row sheet folded any_opt is_opt rows n))
         go true = refl
         go false = refl
 
@@ -89,7 +85,7 @@ module _ (sheet folded : List ℕ) (any_opt is_opt : Bool) (rows : List ℕ) whe
   same_below : (n i : ℕ) → same_row sheet folded any_opt is_opt rows n ≡ Some i → i < n
   unfolding same_row
   same_below zero i e = no_some e
-  same_below (suc n) i e = go (row_fits sheet folded any_opt is_opt (row_of (row_at 12 rows n))) e (λ q. same_below n i q)
+  same_below (suc n) i e = go (row_fits sheet folded any_opt is_opt (row_on rows n)) e (λ q. same_below n i q)
     where
       go : (b : Bool) → pick b (Some n) (same_row sheet folded any_opt is_opt rows n) ≡ Some i → (same_row sheet folded any_opt is_opt rows n ≡ Some i → i < n) → i < suc n
       go true q f = let z : n ≡ i = some_inj q in omega arith
@@ -107,11 +103,11 @@ search_start sheet rows n name any_opt is_opt = record { most = omega arith; is 
 
 module _ {sheet rows : List ℕ} {n : ℕ} {name : List ℕ} {any_opt is_opt : Bool} {i : ℕ} (v : Searching sheet rows n name any_opt is_opt i) where
   turn : 0 < i → same_row sheet (fold_name (kept_in name)) any_opt is_opt rows i
-      ≡ pick (row_fits sheet (fold_name (kept_in name)) any_opt is_opt (row_of (row_at 12 rows (i - 1)))) (Some (i - 1)) (same_row sheet (fold_name (kept_in name)) any_opt is_opt rows (i - 1))
+      ≡ pick (row_fits sheet (fold_name (kept_in name)) any_opt is_opt (row_on rows (i - 1))) (Some (i - 1)) (same_row sheet (fold_name (kept_in name)) any_opt is_opt rows (i - 1))
   unfolding same_row
   turn h = let e : i ≡ suc (i - 1) = omega arith in ap (λ (j : ℕ). same_row sheet (fold_name (kept_in name)) any_opt is_opt rows j) e
 
-  module _ {r : Bool} (h : 0 < i) (e : r ≡ row_fits sheet (fold_name (kept_in name)) any_opt is_opt (row_of (row_at 12 rows (i - 1)))) where
+  module _ {r : Bool} (h : 0 < i) (e : r ≡ row_fits sheet (fold_name (kept_in name)) any_opt is_opt (row_on rows (i - 1))) where
     pub search_hit : r ≡ true → (Some (i - 1)) ≡ same_row sheet (fold_name (kept_in name)) any_opt is_opt rows n
     search_hit t = sym (turn h ∙ rw (← e, t)) ∙ v.is
 
@@ -121,28 +117,6 @@ module _ {sheet rows : List ℕ} {n : ℕ} {name : List ℕ} {any_opt is_opt : B
   pub search_end : i ≤ 0 → None ≡ same_row sheet (fold_name (kept_in name)) any_opt is_opt rows n
   unfolding same_row
   search_end h = let e : i ≡ 0 = omega arith in rw e at v.is
-
--- ---- one row: its words as they are read
-
-module _ (rows : List ℕ) (i : ℕ) where
-  word : (j : ℕ) → j < 12 → get_or (row_at 12 rows i) j 0 ≡ get_or rows (i * 12 + j) 0
-  word j h = get_or_mid (i * 12) 12 rows j h
-
-  pub row_reference : (row_of (row_at 12 rows i)).reference ≡ eqb (get_or rows (i * 12 + 5) 0) 1
-  unfolding row_of
-  row_reference = ap (λ (n : ℕ). eqb n 1) (word 5 (omega arith))
-
-  pub row_opt : (row_of (row_at 12 rows i)).opt ≡ eqb (get_or rows (i * 12 + 7) 0) 1
-  unfolding row_of
-  row_opt = ap (λ (n : ℕ). eqb n 1) (word 7 (omega arith))
-
-  pub row_name_at : (row_of (row_at 12 rows i)).name_at ≡ get_or rows (i * 12 + 2) 0
-  unfolding row_of
-  row_name_at = word 2 (omega arith)
-
-  pub row_name_end : (row_of (row_at 12 rows i)).name_end ≡ get_or rows (i * 12 + 3) 0
-  unfolding row_of
-  row_name_end = word 3 (omega arith)
 
 -- OPT
 pub agree_not : (any opt is : Bool) → any ≡ false → beq opt is ≡ (any || eq_bool opt is)
@@ -159,35 +133,22 @@ part_slice (suc a) zero l h = absurd (omega arith)
 part_slice (suc a) (suc b) [] h = take-nil (suc b - suc a)
 part_slice (suc a) (suc b) (x ∷ l) h = let e : suc b - suc a ≡ b - a = omega arith in ap (λ (n : ℕ). take n (drop a l)) e ∙ part_slice a b l (omega arith)
 
+-- REF and OPT, then the name
 module _ (sheet rows : List ℕ) (i : ℕ) (name : List ℕ) (any is : Bool) where
-  -- REF and OPT
-  module _ {v : Bool} where
-    pub asked_opt : {o : Bool} → (get_or rows (i * 12 + 5) 0 ≡ 1 → ⊥) → o ≡ (any || eq_bool (eqb (get_or rows (i * 12 + 7) 0) 1) is) → v ≡ o
-        → v ≡ (not (eqb (get_or rows (i * 12 + 5) 0) 1) && (any || eq_bool (eqb (get_or rows (i * 12 + 7) 0) 1) is))
-    asked_opt n eo e = e ∙ eo ∙ rw (ne_eqb (get_or rows (i * 12 + 5) 0) 1 n)
+  module _ {ref : Bool} (er : ref ≡ (row_on rows i).reference) where
+    pub fits_not_ref : ref ≡ true → false ≡ row_fits sheet (fold_name (kept_in name)) any is (row_on rows i)
+    unfolding row_fits
+    fits_not_ref t = rw (sym er ∙ t)
 
-    pub asked_ref : get_or rows (i * 12 + 5) 0 ≡ 1 → v ≡ not (eqb (get_or rows (i * 12 + 5) 0) 1) → v ≡ (not (eqb (get_or rows (i * 12 + 5) 0) 1) && (any || eq_bool (eqb (get_or rows (i * 12 + 7) 0) 1) is))
-    asked_ref n e = e ∙ rw (eq-eqb (get_or rows (i * 12 + 5) 0) 1 n)
+    module _ {opt agree : Bool} (f : ref ≡ false) (eo : opt ≡ (row_on rows i).opt) (ea : agree ≡ (any || eq_bool opt is)) where
+      pub fits_not_opt : agree ≡ false → false ≡ row_fits sheet (fold_name (kept_in name)) any is (row_on rows i)
+      unfolding row_fits
+      fits_not_opt t = rw (sym er ∙ f, ← eo, ← ea, t)
 
-    -- then the name
-    module _ (e : v ≡ (not (eqb (get_or rows (i * 12 + 5) 0) 1) && (any || eq_bool (eqb (get_or rows (i * 12 + 7) 0) 1) is))) where
-      asked_is : (r : Bool) → r ≡ (v && same_name (kept_in (slice (get_or rows (i * 12 + 2) 0) (get_or rows (i * 12 + 3) 0) sheet)) (kept_in name)) → r ≡ row_fits sheet (fold_name (kept_in name)) any is (row_of (row_at 12 rows i))
+      pub fits_name : agree ≡ true → {a b : ℕ} → (a ≡ (row_on rows i).name_at) × (b ≡ (row_on rows i).name_end) → (r : Bool) → r ≡ same_name (kept_in (slice a b sheet)) (kept_in name)
+          → r ≡ row_fits sheet (fold_name (kept_in name)) any is (row_on rows i)
       unfolding row_fits same_name
-      asked_is r q = q ∙ rw (e, row_reference rows i, row_opt rows i, row_name_at rows i, row_name_end rows i)
-
-      pub fits_not : v ≡ false → v ≡ row_fits sheet (fold_name (kept_in name)) any is (row_of (row_at 12 rows i))
-      fits_not f = asked_is v (rw f)
-
-      pub fits_name : v ≡ true → (r : Bool) → r ≡ same_name (kept_in (slice (get_or rows (i * 12 + 2) 0) (get_or rows (i * 12 + 3) 0) sheet)) (kept_in name)
-          → r ≡ row_fits sheet (fold_name (kept_in name)) any is (row_of (row_at 12 rows i))
-      fits_name t r q = asked_is r (q ∙ rw t)
-
--- where the name of a row stands
-pub name_order : (sheet rows : List ℕ) (i : ℕ) → NameInside sheet (row_of (row_at 12 rows i)) → get_or rows (i * 12 + 2) 0 ≤ get_or rows (i * 12 + 3) 0
-name_order sheet rows i z = rw (row_name_at rows i, row_name_end rows i) at z.order
-
-pub name_most : (sheet rows : List ℕ) (i : ℕ) → NameInside sheet (row_of (row_at 12 rows i)) → get_or rows (i * 12 + 3) 0 ≤ length sheet
-name_most sheet rows i z = rw (row_name_end rows i) at z.most
+      fits_name t n r q = q ∙ rw (n.0, n.1, sym er ∙ f, ← eo, ← ea, t)
 
 pub named_part : (sheet : List ℕ) (a b : ℕ) (name : List ℕ) (r : Bool) → a ≤ b → r ≡ same_name (kept_in (take (b - a) (drop a sheet))) (kept_in name) → r ≡ same_name (kept_in (slice a b sheet)) (kept_in name)
 named_part sheet a b name r h e = rw (part_slice a b sheet h) at e
@@ -195,51 +156,21 @@ named_part sheet a b name r h e = rw (part_slice a b sheet h) at e
 -- ---- the whole of work memory
 
 module _ (sheet w : List ℕ) (h : Held) (name : List ℕ) (any_opt is_opt : Bool) where
-  table_rows : (k : Kind) → table_of k (state_in sheet w h) ≡ entries_in k sheet (rows_in k w) (pairs_in k w) (pairs_of k h) (count_of k h)
-  unfolding table_of state_in state_of
-  table_rows ingredient = refl
-  table_rows cookware = refl
-
-  pub same_found : (k : Kind) (r : Option ℕ) → EachRow (Fits k sheet) (rows_in k w) (count_of k h)
+  pub same_found : (k : Kind) (r : Option ℕ) → AllFit sheet w h
       → r ≡ same_row sheet (fold_name (kept_in name)) any_opt is_opt (rows_in k w) (count_of k h) → SameFound k sheet w h name any_opt is_opt r
   unfolding same_name_of
   same_found k r z e =
       record {
-        is = λ new en eo. ap (on_some (earlier_at k sheet w h)) e ∙ rows_search k sheet (rows_in k w) (pairs_in k w) (pairs_of k h) (fold_name (kept_in name)) any_opt is_opt (count_of k h) z ∙ said new en eo;
+        is = λ new en eo. ap (on_some (earlier_at k sheet w h)) e ∙ rows_search k sheet (rows_in k w) (referrers_of k w h) (fold_name (kept_in name)) any_opt is_opt (count_of k h) (z.rows k) ∙ said new en eo;
         below = λ i q. same_below sheet (fold_name (kept_in name)) any_opt is_opt (rows_in k w) (count_of k h) i (sym e ∙ q);
       }
     where
       said : (new : Entry) → new.name ≡ kept_in name → new.modifiers.opt ≡ is_opt
-          → same_name_in (fold_name (kept_in name)) any_opt is_opt (entries_in k sheet (rows_in k w) (pairs_in k w) (pairs_of k h) (count_of k h)) ≡ same_name_of any_opt new (table_of k (state_in sheet w h))
-      said new en eo = rw (en, eo, table_rows k)
+          → same_name_in (fold_name (kept_in name)) any_opt is_opt (table_in k sheet w h) ≡ same_name_of any_opt new (table_of k (state_in sheet w h))
+      said new en eo = rw (en, eo, table_is k sheet w h)
 
-module _ {w : List ℕ} {h : Held} (z : Sound w h) (sheet : List ℕ) where
-  pub ingredient_ready : AllFit sheet w h
-      → (h.counts.ingredients ≤ 513) × (h.counts.ingredients * 12 ≤ length (take 6156 (drop 0 w))) × NamesInside sheet (take 6156 (drop 0 w)) h.counts.ingredients
-  unfolding windows_of
-  ingredient_ready n =
-      let l : length (take 6156 (drop 0 w)) ≡ 6156 = long_ingredients z in
-      (omega (arith, z.room.ingredients), omega (arith, z.room.ingredients, l), names_inside n.ingredients)
-
-module _ (sheet w : List ℕ) (h : Held) (name : List ℕ) (any_opt is_opt : Bool) where
-  pub ingredient_found : (r : Option ℕ) → AllFit sheet w h
-      → r ≡ same_row sheet (fold_name (kept_in name)) any_opt is_opt (take 6156 (drop 0 w)) h.counts.ingredients → SameFound ingredient sheet w h name any_opt is_opt r
-  unfolding windows_of
-  ingredient_found r n e = same_found sheet w h name any_opt is_opt ingredient r n.ingredients e
-
-module _ {w : List ℕ} {h : Held} (z : Sound w h) (sheet : List ℕ) where
-  pub cookware_ready : AllFit sheet w h
-      → (h.counts.cookware ≤ 513) × (h.counts.cookware * 12 ≤ length (take 3084 (drop 6156 w))) × NamesInside sheet (take 3084 (drop 6156 w)) h.counts.cookware
-  unfolding windows_of
-  cookware_ready n =
-      let l : length (take 3084 (drop 6156 w)) ≡ 3084 = long_cookware z in
-      (omega (arith, z.room.cookware), omega (arith, z.room.cookware, l), names_inside n.cookware)
-
-module _ (sheet w : List ℕ) (h : Held) (name : List ℕ) (any_opt is_opt : Bool) where
-  pub cookware_found : (r : Option ℕ) → AllFit sheet w h
-      → r ≡ same_row sheet (fold_name (kept_in name)) any_opt is_opt (take 3084 (drop 6156 w)) h.counts.cookware → SameFound cookware sheet w h name any_opt is_opt r
-  unfolding windows_of
-  cookware_found r n e = same_found sheet w h name any_opt is_opt cookware r n.cookware e
+pub part_found : {k : Kind} {x y : Bool} {sheet w : List ℕ} {h : Held} {from to : ℕ} {r : Option ℕ} → from ≤ to → SameFound k sheet w h (take (to - from) (drop from sheet)) x y r → SameFound k sheet w h (slice from to sheet) x y r
+part_found {sheet = sheet} {from = from} {to} l s = rw (part_slice from to sheet l) at s
 
 -- ---- the name of a new row
 

@@ -6,12 +6,12 @@ use Rattle.std.specs.Prelude.{Option, None, Some}
 use Rattle.std.specs.Option as option
 use Rattle.rules.specs.Basic.{pick, is_some, on_some}
 use Rattle.rules.specs.Model.{Entry}
-use Rattle.rules.specs.Modes.{is_steps, is_reference}
+use Rattle.rules.specs.Modes.{Modes, is_steps, is_reference}
 use Rattle.rules.specs.Reference.{Earlier, is_explicit, treat_as_reference, refers_to}
 use Rattle.sheet.specs.declared.Define.{Define}
 use Rattle.sheet.specs.declared.Define.TheVariants.{All, Components, Steps, Text}
 use Rattle.sheet.specs.declared.Duplicate.{Duplicate}
-use Rattle.lookup.specs.References.{modes_of, Marked, TreatedAs, Refers}
+use Rattle.lookup.specs.References.{modes_of, asks_same, Marked, TreatedAs, Refers}
 use Rattle.sheet.specs.Words.{define_of, duplicate_of}
 
 pub steps_not : (d : Define) → (d ≡ Steps → ⊥) → false ≡ is_steps (define_of d)
@@ -42,6 +42,17 @@ explicit_first steps t e = e ∙ rw t
 
 pub steps_next : {ref steps s v : Bool} → ref ≡ false → s ≡ steps → v ≡ s → v ≡ (ref || steps)
 steps_next t p e = e ∙ p ∙ rw t
+
+-- ---- `asks_same`
+
+module _ (modes : Modes) (ref : Bool) {v : Bool} (e : v ≡ (ref || is_steps modes.define)) where
+  pub asks_steps : v ≡ true → v ≡ asks_same modes ref
+  unfolding asks_same
+  asks_steps h = rw (← e, h)
+
+  pub asks_last : {r : Bool} → v ≡ false → r ≡ is_reference modes.duplicate → r ≡ asks_same modes ref
+  unfolding asks_same
+  asks_last h k = rw (← e, h) k
 
 module _ {define : Define} {duplicate : Duplicate} {ref is_found : Bool} {v : Bool} (ev : v ≡ (ref || is_steps (define_of define))) where
   treated_by : (r : Bool) → r ≡ (v || is_reference (duplicate_of duplicate) && is_found) → TreatedAs define duplicate ref is_found r

@@ -5,16 +5,15 @@ use Rattle.rules.specs.Basic.{pick, eq_list, on_some}
 use Rattle.rules.specs.Text.{text_outer_trimmed}
 use Rattle.rules.specs.Unicode.{fold_name}
 use Rattle.rules.specs.Event.{Component}
-use Rattle.rules.specs.Model.{Kind, ingredient, cookware, Entry, entry_of}
+use Rattle.rules.specs.Model.{Kind, Entry, entry_of}
 use Rattle.rules.specs.Reference.{Earlier, eq_bool, same_name_of}
 use Rattle.rules.specs.State.{table_of}
 use Rattle.content.specs.Contents.{content_in, kept_in}
 use Rattle.content.specs.Parts.{Field}
-use Rattle.model.specs.Rows.{row_at, row_of, entry_in}
-use Rattle.model.specs.Memory.{windows_of, state_in}
+use Rattle.model.specs.Rows.{row_on, entry_in}
+use Rattle.model.specs.Memory.{rows_in, count_of, referrers_of, state_in}
 use Rattle.model.specs.declared.Row.{Row}
 use Rattle.model.specs.declared.Held.{Held}
-use Rattle.memory.specs.Pushes.{count_of, pairs_of}
 use Rattle.lookup.specs.declared.NamePart.{NamePart}
 
 -- ---- the names of rows
@@ -30,7 +29,7 @@ pub record NameInside (sheet : List ℕ) (r : Row) : Type 0 where
 
 -- the names of the first n rows are parts of it
 pub record NamesInside (sheet rows : List ℕ) (n : ℕ) : Type 0 where
-  pub at : (i : ℕ) → i < n → NameInside sheet (row_of (row_at 12 rows i))
+  pub at : (i : ℕ) → i < n → NameInside sheet (row_on rows i)
 
 -- ---- the search over rows, from the newest back
 
@@ -41,24 +40,15 @@ module _ (sheet folded : List ℕ) (any_opt is_opt : Bool) where
   module _ (rows : List ℕ) where
     unfoldable pub same_row : ℕ → Option ℕ
     same_row zero = None
-    same_row (suc i) = pick (row_fits (row_of (row_at 12 rows i))) (Some i) (same_row i)
+    same_row (suc i) = pick (row_fits (row_on rows i)) (Some i) (same_row i)
 
--- ---- the tables of a kind
+-- ---- an entry of a table and its index
 
-abbrev pub rows_in : Kind → List ℕ → List ℕ
-rows_in ingredient w = (windows_of w).ingredients
-rows_in cookware w = (windows_of w).cookware
-
-abbrev pub pairs_in : Kind → List ℕ → List ℕ
-pairs_in ingredient w = (windows_of w).ingredient_pairs
-pairs_in cookware w = (windows_of w).cookware_pairs
-
--- an entry of a table and its index
-unfoldable pub earlier_in : Kind → List ℕ → List ℕ → List ℕ → ℕ → ℕ → Earlier
-earlier_in k sheet rows pairs m i = record { index = i; entry = entry_in k sheet rows pairs m i }
+unfoldable pub earlier_in : Kind → List ℕ → List ℕ → (ℕ → List ℕ) → ℕ → Earlier
+earlier_in k sheet rows by i = record { index = i; entry = entry_in k sheet rows by i }
 
 abbrev pub earlier_at : Kind → List ℕ → List ℕ → Held → ℕ → Earlier
-earlier_at k sheet w h i = earlier_in k sheet (rows_in k w) (pairs_in k w) (pairs_of k h) i
+earlier_at k sheet w h i = earlier_in k sheet (rows_in k w) (referrers_of k w h) i
 
 -- r is what the same-name search finds in the table of a kind for a new entry of that name
 pub record SameFound (k : Kind) (sheet w : List ℕ) (h : Held) (name : List ℕ) (any_opt is_opt : Bool) (r : Option ℕ) : Type 0 where

@@ -1,16 +1,16 @@
 // The same-name search over component rows of work memory, the name of a new component, and what it refers to.
 #![tactic(auto)]
 
-ghost use Rattle.std.specs.Prelude.{◌≡◌, ◌||◌, ◌+◌, ◌*◌, ◌<◌, ◌≤◌, length};
+ghost use Rattle.std.specs.Prelude.{◌≡◌, ◌||◌, ◌+◌, ◌<◌, ◌≤◌, length};
 ghost use Rattle.std.proofs.Math.Seq.{slice};
 ghost use Rattle.rules.specs.Unicode.{fold_name, same_name};
 ghost use Rattle.rules.specs.Modes.{is_steps, is_reference};
 ghost use Rattle.rules.specs.Reference.{eq_bool};
 ghost use Rattle.content.specs.Contents.{kept_in};
-ghost use Rattle.model.specs.Rows.{row_at, row_of};
+ghost use Rattle.model.specs.Rows.{row_on, HasRow, HasRows};
 ghost use Rattle.model.specs.Fits.{AllFit};
 ghost use Rattle.lookup.specs.Names.{NameInside, NamesInside, row_fits, same_row, SameFound, TrimmedAt, NewName};
-ghost use Rattle.lookup.specs.References.{TreatedAs, Refers};
+ghost use Rattle.lookup.specs.References.{modes_of, asks_same, TreatedAs, Refers};
 ghost use Rattle.sheet.specs.Words.{define_of, duplicate_of};
 ghost use Rattle.model.specs.Kinds.{kind_of};
 
@@ -29,24 +29,23 @@ fn agrees(any_opt: bool, opt: bool, is_opt: bool) -> bool
 }
 
 // Whether a part of the sheet has the name.
-fn named(sheet: &[u8], from: u32, to: u32, name: &[u8]) -> bool
+fn named(sheet: &[u8], from: usize, to: usize, name: &[u8]) -> bool
     requires { (from ≤ to) × (to ≤ length sheet.now) }
     ensures { result ≡ same_name (kept_in (slice from to sheet.now)) (kept_in name.now) }
 {
-    let a = from as usize;
-    let e = to as usize;
-    text::same_name(&sheet[a..e], name)
+    text::same_name(&sheet[from..to], name)
 }
 
 // Whether a row has the name and fits: REF and OPT are asked before the name.
 fn row_fits(sheet: &[u8], rows: &[u32], i: usize, name: &[u8], any_opt: bool, is_opt: bool) -> bool
-    requires { (i < 513) × (i * 12 + 12 ≤ length rows.now) × NameInside sheet.now (row_of (row_at 12 rows.now i)) }
-    ensures { result ≡ row_fits sheet.now (fold_name (kept_in name.now)) any_opt is_opt (row_of (row_at 12 rows.now i)) }
+    requires { HasRow rows.now i × NameInside sheet.now (row_on rows.now i) }
+    ensures { result ≡ row_fits sheet.now (fold_name (kept_in name.now)) any_opt is_opt (row_on rows.now i) }
 {
-    let at = i * 12;
-    rows[at + 5] != 1
-        && agrees(any_opt, rows[at + 7] == 1, is_opt)
-        && named(sheet, rows[at + 2], rows[at + 3], name)
+    if model::row_reference(rows, i) || !agrees(any_opt, model::row_opt(rows, i), is_opt) {
+        return false;
+    }
+    let (from, to) = model::row_name(rows, i);
+    named(sheet, from, to, name)
 }
 
 // The last of the first rows that has the name, without REF, and with OPT as asked.
@@ -58,7 +57,7 @@ pub fn same_name_before(
     any_opt: bool,
     is_opt: bool,
 ) -> Option<usize>
-    requires { (count ≤ 513) × (count * 12 ≤ length rows.now) × NamesInside sheet.now rows.now count }
+    requires { HasRows rows.now count × NamesInside sheet.now rows.now count }
     ensures { result ≡ same_row sheet.now (fold_name (kept_in name.now)) any_opt is_opt rows.now count }
 {
     for k in (0..count).rev() {
@@ -70,7 +69,7 @@ pub fn same_name_before(
 }
 
 // The same among the components of a kind.
-pub fn same_component(
+fn same_component(
     sheet: &[u8],
     stored: &Stored,
     kind: Kind,
@@ -81,16 +80,8 @@ pub fn same_component(
     requires { AllFit sheet.now stored.now.words.now stored.now.held }
     ensures { SameFound (kind_of kind) sheet.now stored.now.words.now stored.now.held name.now any_opt is_opt result }
 {
-    match kind {
-        Kind::Ingredient => {
-            let n = stored.held.counts.ingredients;
-            same_name_before(sheet, &stored.words[0..6156], n, name, any_opt, is_opt)
-        }
-        Kind::Cookware => {
-            let n = stored.held.counts.cookware;
-            same_name_before(sheet, &stored.words[6156..9240], n, name, any_opt, is_opt)
-        }
-    }
+    let n = memory::count_of(stored.held, kind);
+    same_name_before(sheet, stored.rows(kind), n, name, any_opt, is_opt)
 }
 
 // ---- the name of a new component
@@ -129,6 +120,26 @@ pub fn new_name(sheet: &[u8], from: usize, to: usize, kind: Kind) -> NamePart
     }
 }
 
+// ---- the earlier component of its name
+
+// That component; an explicit REF asks nothing of OPT.
+pub fn found_before(
+    sheet: &[u8],
+    stored: &Stored,
+    kind: Kind,
+    p: NamePart,
+    reference: bool,
+    opt: bool,
+) -> Option<usize>
+    requires { (p.at ≤ p.end) × (p.end ≤ length sheet.now) × AllFit sheet.now stored.now.words.now stored.now.held }
+    ensures { SameFound (kind_of kind) sheet.now stored.now.words.now stored.now.held (slice p.at p.end sheet.now) reference opt result }
+{
+    let from = p.at;
+    let to = p.end;
+    let any_opt = reference;
+    same_component(sheet, stored, kind, &sheet[from..to], any_opt, opt)
+}
+
 // ---- what it refers to
 
 pub fn is_steps(d: Define) -> bool
@@ -141,6 +152,13 @@ pub fn is_reference(d: Duplicate) -> bool
     ensures { result ≡ is_reference (duplicate_of d) }
 {
     matches!(d, Duplicate::Reference)
+}
+
+// Whether the search is needed at all: elsewhere nothing that is made of a component depends on it.
+pub fn asks_same(define: Define, duplicate: Duplicate, reference: bool) -> bool
+    ensures { result ≡ asks_same (modes_of define duplicate) reference }
+{
+    reference || is_steps(define) || is_reference(duplicate)
 }
 
 pub fn treat_as_reference(

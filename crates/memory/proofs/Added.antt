@@ -10,18 +10,19 @@ use Rattle.rules.specs.Model.{Kind, ingredient, cookware, Entry}
 use Rattle.rules.specs.Reference.{set_referenced_from}
 use Rattle.rules.specs.State.{State, table_of, set_table}
 use Rattle.model.specs.Rows.{entry_as}
-use Rattle.model.specs.Memory.{windows_of, state_in, Sound}
+use Rattle.model.specs.Memory.{rows_in, count_of, pairs_of, referrers_of, state_in, Sound}
 use Rattle.model.specs.declared.Row.{Row}
 use Rattle.model.specs.declared.Held.{Held}
 use Rattle.model.proofs.Tables.{entries_length}
+use Rattle.model.specs.Kinds.{pairs_from}
+use Rattle.model.proofs.Windows.{table_is}
 use Rattle.model.proofs.Entries.{referred_later, table_set, set_table_twice}
-use Rattle.memory.specs.Pushes.{pairs_from, count_of, pairs_of, with_count, with_pairs, RowPushed, PairPushed, FoundBelow, ComponentAdded}
-use Rattle.memory.proofs.Windows.{rows_in, pairs_in}
-use Rattle.memory.proofs.Whole.{room_pairs_lem, table_in_lem}
+use Rattle.memory.specs.Pushes.{with_count, with_pairs, RowPushed, PairPushed, FoundBelow, ComponentAdded}
+use Rattle.model.specs.declared.layout.TheConstants.{PAIR}
 
 -- a table has as many entries as are counted
 pub table_count : (k : Kind) (sheet w : List ℕ) (h : Held) → length (table_of k (state_in sheet w h)) ≡ count_of k h
-table_count k sheet w h = rw (table_in_lem k sheet w h) (entries_length k sheet (rows_in k (windows_of w)) (pairs_in k (windows_of w)) (pairs_of k h) (count_of k h))
+table_count k sheet w h = rw (table_is k sheet w h) (entries_length k sheet (rows_in k w) (referrers_of k w h) (count_of k h))
 
 pairs_same : (k : Kind) (n : ℕ) (h : Held) → pairs_of k (with_count k n h) ≡ pairs_of k h
 pairs_same ingredient n h = refl
@@ -52,7 +53,7 @@ module _ (k : Kind) {w₀ w₁ : List ℕ} {h₀ h₁ : Held} {r : Row} (a : Row
     pub added_referring : ComponentAdded k w₀ h₀ r (Some d) w h
     added_referring =
         record {
-          words = b.words ∙ ap (λ (m : ℕ). sets w₁ (pairs_from k + m * 2) (d ∷ count_of k h₀ ∷ [])) added_pairs ∙ ap (λ (v : List ℕ). sets v (pairs_from k + pairs_of k h₀ * 2) (d ∷ count_of k h₀ ∷ [])) a.words;
+          words = b.words ∙ ap (λ (m : ℕ). sets w₁ (pairs_from k + m * PAIR) (d ∷ count_of k h₀ ∷ [])) added_pairs ∙ ap (λ (v : List ℕ). sets v (pairs_from k + pairs_of k h₀ * PAIR) (d ∷ count_of k h₀ ∷ [])) a.words;
           held = b.held ∙ ap (λ (m : ℕ). with_pairs k (m + 1) h₁) added_pairs ∙ ap (with_pairs k (pairs_of k h₀ + 1)) a.held;
           is = added_is;
           fit = λ sheet f x. b.fit sheet (a.fit sheet f x);
@@ -69,12 +70,12 @@ below_at : {to : Option ℕ} (n d : ℕ) → FoundBelow to n → to ≡ Some d �
 below_at {to} n d f e = rw e at f
 
 module _ (k : Kind) {w₀ w₁ : List ℕ} {h₀ h₁ : Held} {r : Row} (a : RowPushed k w₀ h₀ r w₁ h₁) {to : Option ℕ} where
-  pub refer_ready : (d : ℕ) → Sound w₀ h₀ → FoundBelow to (count_of k h₀) → to ≡ Some d → (pairs_of k h₁ < count_of k h₁) × (d < count_of k h₁)
+  pub refer_ready : (d : ℕ) → Sound w₀ h₀ → FoundBelow to (count_of k h₀) → to ≡ Some d → (pairs_of k h₁ < count_of k h₁) × (d < count_of k h₁) × (count_of k h₀ < count_of k h₁)
   refer_ready d z f e =
       let n : count_of k h₁ ≡ count_of k h₀ + 1 = ap (count_of k) a.held ∙ count_more k (count_of k h₀ + 1) h₀ in
       let p : pairs_of k h₁ ≡ pairs_of k h₀ = ap (pairs_of k) a.held ∙ pairs_same k (count_of k h₀ + 1) h₀ in
       let l : d < count_of k h₀ = below_at (count_of k h₀) d f e in
-      (omega (arith, room_pairs_lem k z.room), omega arith)
+      (omega (arith, z.room.pairs k), omega arith, omega arith)
 
   pub added_none : to ≡ None → ComponentAdded k w₀ h₀ r to w₁ h₁
   added_none e = rw e (added_alone k a)

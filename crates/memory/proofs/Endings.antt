@@ -3,7 +3,7 @@ use Prim.Native.Nat.{ℕ, zero, suc, ◌+◌}
 use mathlib.Core.Path.{◌≡◌, refl, sym, ap, ◌∙◌}
 use mathlib.Core.List.{List, [], ◌∷◌}
 use mathlib.Core.Bool.{Bool, true, false}
-use Rattle.std.specs.Prelude.{None, Some, Ok, Err}
+use Rattle.std.specs.Prelude.{Option, None, Some, Result, Ok, Err}
 use native.Mathlib.Omega.{arith}
 use lib.ListN.{length, replicate}
 use Rattle.rules.specs.Basic.{pick, is_some, on_some}
@@ -12,6 +12,8 @@ use Rattle.rules.specs.State.{State, set_place, set_kept, report, over_limits, g
 use Rattle.rules.specs.Metadata.{old_metadata}
 use Rattle.rules.specs.Event.{Span}
 use Rattle.rules.specs.Pass.{is_open, is_empty_section, close_section, on_section, ended, unless_over, finish}
+use Rattle.refusals.specs.Told.{number_told}
+use Rattle.refusals.specs.declared.Reason.{Reason}
 use Rattle.refusals.specs.declared.Reason.TheVariants.{OpenAtEnd, OverLimits as over}
 use Rattle.model.specs.Blank.{blank_span, blank, refusal_of}
 use Rattle.model.specs.Memory.{windows_of, open_of, state_of, state_in}
@@ -21,7 +23,7 @@ use Rattle.model.specs.declared.Open.TheVariants.{Nothing, Step, Text as TextBlo
 use Rattle.model.specs.declared.Held.{Held}
 use Rattle.model.proofs.Tables.{findings_length}
 use Rattle.model.proofs.Ends.{over_report_blank}
-use Rattle.memory.specs.Pushes.{SectionBegun, OverLimits, EndChecked, is_open_block}
+use Rattle.memory.specs.Pushes.{SectionBegun, OverLimits, limits_answer, LimitsChecked, EndChecked, is_open_block}
 use Rattle.memory.proofs.Smalls.{state_blank}
 
 pub open_as : (b : Open) → is_open (open_of b) ≡ is_open_block b
@@ -123,14 +125,36 @@ module _ {h g : Held} (s : SectionBegun h false g) where
           let e : h.counts.findings + 1 ≡ suc g.counts.findings = omega (arith, same_findings) in
           rw e (over_one sheet w _ g)
 
+-- 17 after a line
+pub limits_by : (h : Held) (r t : Bool) → OverLimits h r → r ≡ t → LimitsChecked h (limits_answer t)
+limits_by h r t o e = record { is = λ sheet w. rw (sym (o.is sheet w) ∙ e) refl }
+
+module _ {h : Held} {r : Result (Unit {0}) Reason} (o : LimitsChecked h r) where
+  limits_pick : (b : Bool) {u : Unit {0}} → limits_answer b ≡ Ok u → b ≡ false
+  limits_pick true e = cc
+  limits_pick false e = refl
+
+  pub limits_kept : {u : Unit {0}} → r ≡ Ok u → (sheet w : List ℕ) → over_limits (state_in sheet w h) ≡ false
+  limits_kept e sheet w = limits_pick (over_limits (state_in sheet w h)) (sym (o.is sheet w) ∙ e)
+
+  over_pick : (b : Bool) {x : Reason} → limits_answer b ≡ Err x → (b ≡ true) × (x ≡ over)
+  over_pick true e = (refl, cc)
+  over_pick false e = cc
+
+  pub limits_over : {x : Reason} → r ≡ Err x → (sheet w : List ℕ) → (over_limits (state_in sheet w h) ≡ true) × (x ≡ over)
+  limits_over e sheet w = over_pick (over_limits (state_in sheet w h)) (sym (o.is sheet w) ∙ e)
+
 module _ {h g : Held} (b : Bool) (c : b ≡ is_open_block h.block) (d : b ≡ false) (s : SectionBegun h false g) where
-  end_with : (t : Bool) → ((sheet w : List ℕ) → over_limits (ended (state_in sheet w h)) ≡ t) → EndChecked h (pick t (Err over) (Ok tt))
+  end_with : (r : Result (Unit {0}) Reason) → ((sheet w : List ℕ) → r ≡ limits_answer (over_limits (ended (state_in sheet w h)))) → EndChecked h r
   unfolding on_some
-  end_with true e = record { is = λ sheet w. end_by sheet w h (sym c ∙ d) true (e sheet w) }
-  end_with false e = record { is = λ sheet w. end_by sheet w h (sym c ∙ d) false (e sheet w) }
+  end_with r e = record { is = λ sheet w. end_by sheet w h (sym c ∙ d) (over_limits (ended (state_in sheet w h))) refl ∙ rw (e sheet w) (go (over_limits (ended (state_in sheet w h)))) }
+    where
+      go : (t : Bool) → pick {X = Option (ℕ × ℕ)} t (Some (17, 0)) None ≡ on_some (λ (n : ℕ). (n, 0)) (number_told (limits_answer t))
+      go true = refl
+      go false = refl
 
-  pub end_none : (t r : Bool) → h.counts.old ≡ 0 → OverLimits g r → r ≡ t → EndChecked h (pick t (Err over) (Ok tt))
-  end_none t r q o e = end_with t (λ sheet w. over_old_none s q sheet w ∙ sym (o.is sheet w) ∙ e)
+  pub end_none : (r : Result (Unit {0}) Reason) → h.counts.old ≡ 0 → LimitsChecked g r → EndChecked h r
+  end_none r q o = end_with r (λ sheet w. rw (over_old_none s q sheet w) (o.is sheet w))
 
-  pub end_some : (t r : Bool) → (h.counts.old ≡ 0 → ⊥) → OverLimits (with_findings (h.counts.findings + 1) g) r → r ≡ t → EndChecked h (pick t (Err over) (Ok tt))
-  end_some t r q o e = end_with t (λ sheet w. over_old_some s q sheet w ∙ sym (o.is sheet w) ∙ e)
+  pub end_some : (r : Result (Unit {0}) Reason) → (h.counts.old ≡ 0 → ⊥) → LimitsChecked (with_findings (h.counts.findings + 1) g) r → EndChecked h r
+  end_some r q o = end_with r (λ sheet w. rw (over_old_some s q sheet w) (o.is sheet w))

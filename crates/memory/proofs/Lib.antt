@@ -6,3 +6,4 @@ pub mod Bounds
 pub mod Endings
 pub mod Reports
 pub mod Frames
+pub mod Reading

@@ -11,7 +11,7 @@ use lib.ListN.{get_or, replicate, length-replicate}
 use borrow.Author.Tests.{lt-ltb, le-ltb}
 use Rattle.rules.specs.Basic.{pick, each, is_empty, is_some, on_some}
 use Rattle.rules.specs.Event.{Text}
-use Rattle.rules.specs.Model.{trimmed_text, step_block, text_block}
+use Rattle.rules.specs.Model.{trimmed_text, step_block, text_block, ingredient, cookware}
 use Rattle.rules.specs.Modes.{first_modes}
 use Rattle.rules.specs.State.{State, first_state, no_block, set_modes, set_metadata, set_place, set_block, set_kept, set_tables, set_timers, set_inline, over_limits}
 use Rattle.rules.specs.Pass.{is_empty_section, close_section, on_section}
@@ -27,7 +27,7 @@ use Rattle.model.specs.declared.Held.{Held}
 use Rattle.model.proofs.Blanks.{blank_place_lem}
 use Rattle.model.proofs.Tables.{entries_length, findings_length}
 use Rattle.memory.specs.Pushes.{SectionBegun, OverLimits}
-use Rattle.memory.proofs.Bounds.{fit_counts}
+use Rattle.memory.proofs.Bounds.{by_kind, room_set, fit_counts}
 use Rattle.sheet.specs.Words.{define_of, duplicate_of}
 
 -- ---- nothing is left to take away
@@ -122,7 +122,12 @@ module _ (sheet w : List ℕ) (h : Held) (named : Bool) (name : Option Text) (e 
   begun st q = sym (blank_place_lem _ (close_section st) ∙ ap (set_place (blank_place _)) q ∙ place_as)
 
 sound_next : {w : List ℕ} {h : Held} (named : Bool) (n : ℕ) → n ≤ 100000 → Sound w h → Sound w (next named (with_sections n h))
-sound_next named n l z = record { long = z.long; room = record { ingredients = z.room.ingredients; cookware = z.room.cookware; ingredient_pairs = z.room.ingredient_pairs; cookware_pairs = z.room.cookware_pairs; findings = z.room.findings; here = omega arith; counter = omega arith; sections = omega arith; blocks = z.room.blocks; items = z.room.items; timers = z.room.timers; inline = z.room.inline; old = z.room.old }; ingredients = z.ingredients; cookware = z.cookware }
+sound_next named n l z =
+    record {
+      long = z.long;
+      room = room_set 1 0 (room_set 0 1 (room_set 2 n z.room l (by_kind _ (z.room.pairs ingredient) (z.room.pairs cookware))) (omega arith) (by_kind _ (z.room.pairs ingredient) (z.room.pairs cookware))) (omega arith) (by_kind _ (z.room.pairs ingredient) (z.room.pairs cookware));
+      pairs = by_kind _ (z.pairs ingredient) (z.pairs cookware);
+    }
 
 module _ {h r : Held} (named : Bool) (l : h.counts.sections < 100000) where
   -- n sections are closed

@@ -1,5 +1,5 @@
 -- What the functions on the whole of work memory leave.
-use Rattle.std.specs.Prelude.{ℕ, ◌+◌, ◌*◌, ◌<◌, ◌≡◌, List, [], ◌∷◌, Bool, true, false, length, Option, None, Some, Result}
+use Rattle.std.specs.Prelude.{ℕ, ◌+◌, ◌*◌, ◌<◌, ◌≡◌, List, [], ◌∷◌, Bool, true, false, length, Option, None, Some, Result, Ok, Err}
 use Rattle.std.proofs.lemmas.List.Edits.{sets}
 use Rattle.rules.specs.Basic.{is_some, on_some}
 use Rattle.rules.specs.Event.{Text}
@@ -8,10 +8,12 @@ use Rattle.rules.specs.Reference.{set_referenced_from}
 use Rattle.rules.specs.State.{table_of, set_table, report, over_limits, going}
 use Rattle.rules.specs.Pass.{keep_block, on_section, finish}
 use Rattle.refusals.specs.declared.Reason.{Reason}
+use Rattle.refusals.specs.declared.Reason.TheVariants as reason
 use Rattle.refusals.specs.Told.{number_told}
 use Rattle.model.specs.Blank.{blank, refusal_of}
 use Rattle.model.specs.Rows.{row_words, entry_as, noted_words, finding_of, block_of}
-use Rattle.model.specs.Memory.{state_in, Sound}
+use Rattle.model.specs.Kinds.{rows_from, pairs_from}
+use Rattle.model.specs.Memory.{count_of, pairs_of, state_in, Sound}
 use Rattle.model.specs.Fits.{Fits, AllFit}
 use Rattle.model.specs.Small.{with_block, with_counter, with_here, with_blocks, with_ingredients, with_cookware, with_ingredient_pairs, with_cookware_pairs, with_findings}
 use Rattle.model.specs.declared.Open.{Open}
@@ -19,24 +21,9 @@ use Rattle.model.specs.declared.Open.TheVariants.{Nothing, Step, Text as TextBlo
 use Rattle.model.specs.declared.Row.{Row}
 use Rattle.model.specs.declared.Noted.{Noted}
 use Rattle.model.specs.declared.Held.{Held}
+use Rattle.model.specs.declared.layout.TheConstants.{ROW, PAIR, FINDING, FINDINGS, KINDS}
 
--- ---- the tables of each kind
-
-abbrev pub rows_from : Kind → ℕ
-rows_from ingredient = 0
-rows_from cookware = 6156
-
-abbrev pub pairs_from : Kind → ℕ
-pairs_from ingredient = 9240
-pairs_from cookware = 10266
-
-abbrev pub count_of : Kind → Held → ℕ
-count_of ingredient h = h.counts.ingredients
-count_of cookware h = h.counts.cookware
-
-abbrev pub pairs_of : Kind → Held → ℕ
-pairs_of ingredient h = h.counts.ingredient_pairs
-pairs_of cookware h = h.counts.cookware_pairs
+-- ---- the counts of each kind
 
 abbrev pub with_count : Kind → ℕ → Held → Held
 with_count ingredient n h = with_ingredients n h
@@ -50,7 +37,7 @@ with_pairs cookware n h = with_cookware_pairs n h
 
 -- a component without referrers
 pub record RowPushed (k : Kind) (w₀ : List ℕ) (h₀ : Held) (r : Row) (w : List ℕ) (h : Held) : Type 0 where
-  pub words : w ≡ sets w₀ (rows_from k + count_of k h₀ * 12) (row_words r)
+  pub words : w ≡ sets w₀ (rows_from k + count_of k h₀ * ROW) (row_words r)
   pub held : h ≡ with_count k (count_of k h₀ + 1) h₀
   pub is : (sheet : List ℕ) → state_in sheet w h ≡ set_table k (entry_as k sheet r [] ∷ table_of k (state_in sheet w₀ h₀)) (state_in sheet w₀ h₀)
   pub fit : (sheet : List ℕ) → AllFit sheet w₀ h₀ → Fits k sheet r → AllFit sheet w h
@@ -58,14 +45,14 @@ pub record RowPushed (k : Kind) (w₀ : List ℕ) (h₀ : Held) (r : Row) (w : L
 
 -- the referrer r of the definition at d
 pub record PairPushed (k : Kind) (w₀ : List ℕ) (h₀ : Held) (d r : ℕ) (w : List ℕ) (h : Held) : Type 0 where
-  pub words : w ≡ sets w₀ (pairs_from k + pairs_of k h₀ * 2) (d ∷ r ∷ [])
+  pub words : w ≡ sets w₀ (pairs_from k + pairs_of k h₀ * PAIR) (d ∷ r ∷ [])
   pub held : h ≡ with_pairs k (pairs_of k h₀ + 1) h₀
   pub is : (sheet : List ℕ) → state_in sheet w h ≡ set_table k (set_referenced_from d r (table_of k (state_in sheet w₀ h₀))) (state_in sheet w₀ h₀)
   pub fit : (sheet : List ℕ) → AllFit sheet w₀ h₀ → AllFit sheet w h
   pub sound : Sound w h
 
 pub record FindingPushed (w₀ : List ℕ) (h₀ : Held) (x : Noted) (w : List ℕ) (h : Held) : Type 0 where
-  pub words : w ≡ sets w₀ (10780 + h₀.counts.findings * 8) (noted_words x)
+  pub words : w ≡ sets w₀ (FINDINGS + h₀.counts.findings * FINDING) (noted_words x)
   pub held : h ≡ with_findings (h₀.counts.findings + 1) h₀
   pub is : (sheet : List ℕ) → state_in sheet w h ≡ report (finding_of x ∷ []) (state_in sheet w₀ h₀)
   pub fit : (sheet : List ℕ) → AllFit sheet w₀ h₀ → AllFit sheet w h
@@ -73,7 +60,7 @@ pub record FindingPushed (w₀ : List ℕ) (h₀ : Held) (x : Noted) (w : List �
 
 -- a block of the kind v closed, and the next step's number
 pub record BlockKept (w₀ : List ℕ) (h₀ : Held) (v counter : ℕ) (w : List ℕ) (h : Held) : Type 0 where
-  pub words : w ≡ sets w₀ (23132 + h₀.counts.here) (v ∷ [])
+  pub words : w ≡ sets w₀ (KINDS + h₀.counts.here) (v ∷ [])
   pub held : h ≡ with_block Nothing (with_counter counter (with_blocks (h₀.counts.blocks + 1) (with_here (h₀.counts.here + 1) h₀)))
   pub is : (sheet : List ℕ) → state_in sheet w h ≡ keep_block (block_of v) counter (state_in sheet w₀ h₀)
   pub fit : (sheet : List ℕ) → AllFit sheet w₀ h₀ → AllFit sheet w h
@@ -87,6 +74,14 @@ pub record SectionBegun (h₀ : Held) (named : Bool) (h : Held) : Type 0 where
 
 pub record OverLimits (h : Held) (r : Bool) : Type 0 where
   pub is : (sheet w : List ℕ) → r ≡ over_limits (state_in sheet w h)
+
+-- what is refused after a line: 17 where a limit is passed
+abbrev pub limits_answer : Bool → Result (Unit {0}) Reason
+limits_answer true = Err reason.OverLimits
+limits_answer false = Ok tt
+
+pub record LimitsChecked (h : Held) (r : Result (Unit {0}) Reason) : Type 0 where
+  pub is : (sheet w : List ℕ) → r ≡ limits_answer (over_limits (state_in sheet w h))
 
 -- what the end of the pass refuses: 19 where a block is open, 17 where a limit is passed
 pub record EndChecked (h : Held) (r : Result (Unit {0}) Reason) : Type 0 where
@@ -114,8 +109,8 @@ held_with k None h = with_count k (count_of k h + 1) h
 held_with k (Some d) h = with_pairs k (pairs_of k h + 1) (with_count k (count_of k h + 1) h)
 
 abbrev pub words_with : Kind → Option ℕ → List ℕ → Held → Row → List ℕ
-words_with k None w h r = sets w (rows_from k + count_of k h * 12) (row_words r)
-words_with k (Some d) w h r = sets (sets w (rows_from k + count_of k h * 12) (row_words r)) (pairs_from k + pairs_of k h * 2) (d ∷ count_of k h ∷ [])
+words_with k None w h r = sets w (rows_from k + count_of k h * ROW) (row_words r)
+words_with k (Some d) w h r = sets (sets w (rows_from k + count_of k h * ROW) (row_words r)) (pairs_from k + pairs_of k h * PAIR) (d ∷ count_of k h ∷ [])
 
 pub record ComponentAdded (k : Kind) (w₀ : List ℕ) (h₀ : Held) (r : Row) (to : Option ℕ) (w : List ℕ) (h : Held) : Type 0 where
   pub words : w ≡ words_with k to w₀ h₀ r

@@ -5,14 +5,15 @@
 ghost use Rattle.std.specs.Prelude.{◌≡◌, ◌+◌, ◌<◌};
 ghost use Rattle.model.specs.Memory.{first_held, Sound};
 ghost use Rattle.model.specs.Kinds.{kind_of, room_of};
-ghost use Rattle.memory.specs.Pushes.{count_of, pairs_of};
+ghost use Rattle.model.specs.Memory.{count_of, pairs_of, rows_in, row_in, noted_in};
+ghost use Rattle.memory.specs.Referrers.{FirstReferrer, NextReferrer};
+ghost use Rattle.memory.specs.Reading.{StepTarget};
 ghost use Rattle.memory.specs.Reports.{Reported};
 ghost use Rattle.model.specs.Rows.{if_found};
-ghost use Rattle.model.specs.Small.{with_counts, with_named, with_block};
-ghost use Rattle.model.specs.declared.Open.TheVariants.{Nothing};
-ghost use Rattle.memory.specs.Pushes.{RowPushed, PairPushed, ComponentAdded, FoundBelow, FindingPushed, BlockKept, SectionBegun, OverLimits, EndChecked, is_open_block};
+ghost use Rattle.memory.specs.Pushes.{RowPushed, PairPushed, ComponentAdded, FoundBelow, FindingPushed, BlockKept, SectionBegun, OverLimits, LimitsChecked, EndChecked, is_open_block};
+ghost use Rattle.model.specs.declared.layout.TheConstants.{MOST_FINDINGS, MOST_KINDS};
 
-use model::{Counts, Held, Kind, Noted, Open, Row};
+use model::{Counts, Held, Kind, Noted, Open, Row, layout};
 use refusals::Reason;
 use sheet::{Define, Duplicate};
 
@@ -52,24 +53,72 @@ pub fn count_of(h: Held, kind: Kind) -> usize
     }
 }
 
-// The small state with no open block.
-fn closed(h: Held, named: bool, counts: Counts) -> Held
-    ensures { result ≡ with_block Nothing (with_named named (with_counts counts h)) }
-{
-    Held {
-        block: Open::Nothing,
-        named,
-        counts,
-        ..h
-    }
-}
-
 // What the pass has stored, for those who read it: work memory, and the small state beside it.
 #[derive(Clone, Copy)]
 pub struct Stored<'a> {
     pub words: &'a [u32],
     pub held: Held,
     ghost sound: { Sound words.now held },
+}
+
+impl<'a> Stored<'a> {
+    // The rows of a kind.
+    pub fn rows(&self, kind: Kind) -> &'a [u32]
+        ensures { result.now ≡ rows_in (kind_of kind) self.now.words.now }
+    {
+        match kind {
+            Kind::Ingredient => &self.words[layout::INGREDIENTS..layout::COOKWARE],
+            Kind::Cookware => &self.words[layout::COOKWARE..layout::INGREDIENT_PAIRS],
+        }
+    }
+
+    pub fn row(&self, kind: Kind, i: usize) -> Row
+        requires { i < room_of (kind_of kind) }
+        ensures { result ≡ row_in (kind_of kind) self.now.words.now i }
+    {
+        model::row_on(self.rows(kind), i)
+    }
+
+    pub fn finding(&self, i: usize) -> Noted
+        requires { i < MOST_FINDINGS }
+        ensures { result ≡ noted_in self.now.words.now i }
+    {
+        model::finding_at(&self.words[layout::FINDINGS..layout::KINDS], i)
+    }
+
+    // The step of the current section that an intermediate reference means.
+    pub fn step_target(&self, relative: bool, value: u32) -> Option<u32>
+        ensures { StepTarget relative value self.now.words.now self.now.held result }
+    {
+        let kinds = &self.words[layout::KINDS..layout::STATE_WORDS];
+        model::step_target(kinds, self.held.counts.here, relative, value)
+    }
+
+    // The place of the first that refers to the component `definition`.
+    pub fn first_referrer(&self, kind: Kind, definition: usize) -> usize
+        requires { definition < count_of (kind_of kind) self.now.held }
+        ensures { FirstReferrer (kind_of kind) self.now.words.now self.now.held definition result }
+    {
+        0
+    }
+
+    // The first from a place on that refers to the component `definition`, and the place after it.
+    pub fn next_referrer(&self, kind: Kind, definition: usize, place: usize) -> Option<(u32, usize)>
+        requires { definition < count_of (kind_of kind) self.now.held }
+        ensures { NextReferrer (kind_of kind) self.now.words.now self.now.held definition place result }
+    {
+        let d = definition as u32;
+        match kind {
+            Kind::Ingredient => {
+                let pairs = &self.words[layout::INGREDIENT_PAIRS..layout::COOKWARE_PAIRS];
+                model::next_referrer(pairs, self.held.counts.ingredient_pairs, d, place)
+            }
+            Kind::Cookware => {
+                let pairs = &self.words[layout::COOKWARE_PAIRS..layout::FINDINGS];
+                model::next_referrer(pairs, self.held.counts.cookware_pairs, d, place)
+            }
+        }
+    }
 }
 
 // The same while it is written.
@@ -92,6 +141,14 @@ impl<'a> Memory<'a> {
         }
     }
 
+    // The same row: of the words that a `&mut Memory` lends in part the check knows only their length afterwards.
+    pub fn row(&self, kind: Kind, i: usize) -> Row
+        requires { i < room_of (kind_of kind) }
+        ensures { result ≡ row_in (kind_of kind) self.now.words.now i }
+    {
+        self.stored().row(kind, i)
+    }
+
     fn push_row(&mut self, kind: Kind, row: Row)
         requires { count_of (kind_of kind) self.old.held < room_of (kind_of kind) }
         ensures row { RowPushed (kind_of kind) self.old.words.now self.old.held row self.new.words.now self.new.held }
@@ -100,12 +157,20 @@ impl<'a> Memory<'a> {
         match kind {
             Kind::Ingredient => {
                 let n = self.held.counts.ingredients;
-                model::put_row(&mut self.words[0..6156], n, row);
+                model::put_row(
+                    &mut self.words[layout::INGREDIENTS..layout::COOKWARE],
+                    n,
+                    row,
+                );
                 self.held.counts.ingredients = n + 1;
             }
             Kind::Cookware => {
                 let n = self.held.counts.cookware;
-                model::put_row(&mut self.words[6156..9240], n, row);
+                model::put_row(
+                    &mut self.words[layout::COOKWARE..layout::INGREDIENT_PAIRS],
+                    n,
+                    row,
+                );
                 self.held.counts.cookware = n + 1;
             }
         }
@@ -113,19 +178,29 @@ impl<'a> Memory<'a> {
 
     // `set_referenced_from`: one more that refers to the component at `definition`.
     fn push_pair(&mut self, kind: Kind, definition: u32, referrer: u32)
-        requires { (pairs_of (kind_of kind) self.old.held < count_of (kind_of kind) self.old.held) × (definition < count_of (kind_of kind) self.old.held) }
+        requires { (pairs_of (kind_of kind) self.old.held < count_of (kind_of kind) self.old.held) × (definition < count_of (kind_of kind) self.old.held) × (referrer < count_of (kind_of kind) self.old.held) }
         ensures pair { PairPushed (kind_of kind) self.old.words.now self.old.held definition referrer self.new.words.now self.new.held }
         ensures lent { self.new.words.ghost_name ≡ self.old.words.ghost_name }
     {
         match kind {
             Kind::Ingredient => {
                 let n = self.held.counts.ingredient_pairs;
-                model::put_pair(&mut self.words[9240..10266], n, definition, referrer);
+                model::put_pair(
+                    &mut self.words[layout::INGREDIENT_PAIRS..layout::COOKWARE_PAIRS],
+                    n,
+                    definition,
+                    referrer,
+                );
                 self.held.counts.ingredient_pairs = n + 1;
             }
             Kind::Cookware => {
                 let n = self.held.counts.cookware_pairs;
-                model::put_pair(&mut self.words[10266..10780], n, definition, referrer);
+                model::put_pair(
+                    &mut self.words[layout::COOKWARE_PAIRS..layout::FINDINGS],
+                    n,
+                    definition,
+                    referrer,
+                );
                 self.held.counts.cookware_pairs = n + 1;
             }
         }
@@ -145,18 +220,18 @@ impl<'a> Memory<'a> {
     }
 
     pub fn push_finding(&mut self, x: Noted)
-        requires { self.old.held.counts.findings < 1544 }
+        requires { self.old.held.counts.findings < MOST_FINDINGS }
         ensures finding { FindingPushed self.old.words.now self.old.held x self.new.words.now self.new.held }
         ensures lent { self.new.words.ghost_name ≡ self.old.words.ghost_name }
     {
         let n = self.held.counts.findings;
-        model::put_finding(&mut self.words[10780..23132], n, x);
+        model::put_finding(&mut self.words[layout::FINDINGS..layout::KINDS], n, x);
         self.held.counts.findings = n + 1;
     }
 
     // What a check found: nothing or one finding.
     pub fn push_found(&mut self, x: Option<Noted>)
-        requires { self.old.held.counts.findings < 1544 }
+        requires { self.old.held.counts.findings < MOST_FINDINGS }
         ensures found { Reported (if_found x) self.old.words.now self.old.held self.new.words.now self.new.held }
         ensures lent { self.new.words.ghost_name ≡ self.old.words.ghost_name }
     {
@@ -167,31 +242,33 @@ impl<'a> Memory<'a> {
 
     // A step closed: the next one has the next number.
     pub fn keep_step(&mut self)
-        requires { (self.old.held.counts.here < 1025) × (self.old.held.counts.blocks < 100000) × (self.old.held.counts.counter < 100000) }
+        requires { (self.old.held.counts.here < MOST_KINDS) × (self.old.held.counts.blocks < 100000) × (self.old.held.counts.counter < 100000) }
         ensures kept { BlockKept self.old.words.now self.old.held 1 (self.old.held.counts.counter + 1) self.new.words.now self.new.held }
         ensures lent { self.new.words.ghost_name ≡ self.old.words.ghost_name }
     {
         let mut c = self.held.counts;
         let n = c.here;
-        model::put_kind(&mut self.words[23132..24157], n, true);
+        let kinds = &mut self.words[layout::KINDS..layout::STATE_WORDS];
+        model::put_kind(kinds, n, true);
         c.here = n + 1;
         c.blocks += 1;
         c.counter += 1;
-        self.held = closed(self.held, self.held.named, c);
+        self.held = model::closed(self.held, self.held.named, c);
     }
 
     // A text block closed.
     pub fn keep_text(&mut self)
-        requires { (self.old.held.counts.here < 1025) × (self.old.held.counts.blocks < 100000) }
+        requires { (self.old.held.counts.here < MOST_KINDS) × (self.old.held.counts.blocks < 100000) }
         ensures kept { BlockKept self.old.words.now self.old.held 0 self.old.held.counts.counter self.new.words.now self.new.held }
         ensures lent { self.new.words.ghost_name ≡ self.old.words.ghost_name }
     {
         let mut c = self.held.counts;
         let n = c.here;
-        model::put_kind(&mut self.words[23132..24157], n, false);
+        let kinds = &mut self.words[layout::KINDS..layout::STATE_WORDS];
+        model::put_kind(kinds, n, false);
         c.here = n + 1;
         c.blocks += 1;
-        self.held = closed(self.held, self.held.named, c);
+        self.held = model::closed(self.held, self.held.named, c);
     }
 }
 
@@ -207,11 +284,11 @@ pub fn begin_section(h: Held, named: bool) -> Held
     if h.named || 0 < here {
         c.sections += 1;
     }
-    closed(h, named, c)
+    model::closed(h, named, c)
 }
 
-// Whether a limit is passed (17).
-pub fn over_limits(h: Held) -> bool
+// Whether a limit is passed.
+fn over_limits(h: Held) -> bool
     ensures { OverLimits h result }
 {
     if 512 < h.counts.ingredients {
@@ -238,6 +315,16 @@ pub fn over_limits(h: Held) -> bool
     1024 < h.counts.findings
 }
 
+// What is refused after a line: 17 where a limit is passed.
+pub fn check_limits(h: Held) -> Result<(), Reason>
+    ensures { LimitsChecked h result }
+{
+    if over_limits(h) {
+        return Err(Reason::OverLimits);
+    }
+    Ok(())
+}
+
 // Whether a block is open.
 pub fn is_open(b: Open) -> bool
     ensures { result ≡ is_open_block b }
@@ -255,14 +342,8 @@ pub fn check_end(h: Held) -> Result<(), Reason>
     }
     let mut g = begin_section(h, false);
     if h.counts.old == 0 {
-        if over_limits(g) {
-            return Err(Reason::OverLimits);
-        }
-        return Ok(());
+        return check_limits(g);
     }
     g.counts.findings = h.counts.findings + 1;
-    if over_limits(g) {
-        return Err(Reason::OverLimits);
-    }
-    Ok(())
+    check_limits(g)
 }

@@ -39,6 +39,7 @@ use Rattle.known_events.specs.Fields.{TextField, BetweenFields, EventFields}
 use Rattle.known_events.specs.Known.{KnownEvent}
 use Rattle.meta_map.specs.Index.{part_at, map_in, RowIn, Indexed, Inserted}
 use Rattle.meta_map.specs.Maps.{map_key, map_meta, map_on, TrimmedPart, MetaIndexed, EventIndexed, SheetIndexed, WordsIndexed}
+use Rattle.model.specs.declared.layout.TheConstants.{STATE_WORDS, INDEX_WORDS, WORDS}
 
 -- ---- parts of parts
 
@@ -184,13 +185,13 @@ module _ {flags : ℕ} {sheet line m₀ : List ℕ} {n : ℕ} {v : EventView} wh
 
 -- ---- the window
 
-pub words_indexed : {flags : ℕ} {text sheet m : List ℕ} {r : ℕ} (w : List ℕ) → 45661 ≤ length w → SheetIndexed flags text sheet m r → WordsIndexed flags text sheet w (take 24157 w ++ (m ++ drop 21504 (drop 24157 w))) r
+pub words_indexed : {flags : ℕ} {text sheet m : List ℕ} {r : ℕ} (w : List ℕ) → WORDS ≤ length w → SheetIndexed flags text sheet m r → WordsIndexed flags text sheet w (take STATE_WORDS w ++ (m ++ drop INDEX_WORDS (drop STATE_WORDS w))) r
 words_indexed {m = m} w h x =
-    let a : length (take 24157 w) ≡ 24157 = length-take-le 24157 w (omega arith) in
-    let k : length m ≡ 21504 = x.indexed.long in
-    let p : take 21504 (drop 24157 (take 24157 w ++ (m ++ drop 21504 (drop 24157 w)))) ≡ m = ap (take 21504) (drop_at (take 24157 w) (m ++ drop 21504 (drop 24157 w)) 24157 a) ∙ take_at m (drop 21504 (drop 24157 w)) 21504 k in
+    let a : length (take STATE_WORDS w) ≡ STATE_WORDS = length-take-le STATE_WORDS w (omega arith) in
+    let k : length m ≡ INDEX_WORDS = x.indexed.long in
+    let p : take INDEX_WORDS (drop STATE_WORDS (take STATE_WORDS w ++ (m ++ drop INDEX_WORDS (drop STATE_WORDS w)))) ≡ m = ap (take INDEX_WORDS) (drop_at (take STATE_WORDS w) (m ++ drop INDEX_WORDS (drop STATE_WORDS w)) STATE_WORDS a) ∙ take_at m (drop INDEX_WORDS (drop STATE_WORDS w)) INDEX_WORDS k in
     record {
       index = rw p x;
-      front = take_at (take 24157 w) (m ++ drop 21504 (drop 24157 w)) 24157 a;
-      long = length-append (take 24157 w) (m ++ drop 21504 (drop 24157 w)) ∙ omega (arith, a, k, length-append m (drop 21504 (drop 24157 w)), length-drop 21504 (drop 24157 w), length-drop 24157 w);
+      front = take_at (take STATE_WORDS w) (m ++ drop INDEX_WORDS (drop STATE_WORDS w)) STATE_WORDS a;
+      long = length-append (take STATE_WORDS w) (m ++ drop INDEX_WORDS (drop STATE_WORDS w)) ∙ omega (arith, a, k, length-append m (drop INDEX_WORDS (drop STATE_WORDS w)), length-drop INDEX_WORDS (drop STATE_WORDS w), length-drop STATE_WORDS w);
     }

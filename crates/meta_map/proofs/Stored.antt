@@ -22,6 +22,7 @@ use Rattle.meta_map.specs.Index.{cell, head, part_at, key_at, value_at, map_in, 
 use Rattle.chains.specs.Hashes.{hash_of, Hashed}
 use Rattle.chains.specs.Rows.{find_in, head_in}
 use Rattle.chains.proofs.Seeks.{find_below, find_same, head_same}
+use Rattle.model.specs.declared.layout.TheConstants.{INDEX_WORDS}
 
 -- ---- a map and the search for a key
 
@@ -182,7 +183,7 @@ module _ {sheet m : List ℕ} {n : ℕ} (x : Indexed sheet m n) {ka ke va ve : �
 split_last : {P : Type 0} (i n : ℕ) → i < suc n → (i < n → P) → (i ≡ n → P) → P
 split_last i n l a b = by_order n i (λ h. b (omega arith)) (λ h. a h)
 
-module _ (m : List ℕ) (n b ka ke va ve x : ℕ) (few : n < 4096) (long : length m ≡ 21504) where
+module _ (m : List ℕ) (n b ka ke va ve x : ℕ) (few : n < 4096) (long : length m ≡ INDEX_WORDS) where
   abbrev words : List ℕ
   words = ka ∷ ke ∷ va ∷ ve ∷ head m b ∷ []
 
@@ -300,7 +301,7 @@ module _ {sheet m₀ : List ℕ} {n ka ke va ve : ℕ} (z : Indexed sheet m₀ n
 
 -- ---- no rows
 
-pub heads_cleared : (m : List ℕ) {p : List ℕ} → length m ≡ 21504 → p ≡ replicate (length (mid_of 20480 (length m - 20480) m)) 0 → Cleared m (put_mid 20480 (length m - 20480) m p)
+pub heads_cleared : (m : List ℕ) {p : List ℕ} → length m ≡ INDEX_WORDS → p ≡ replicate (length (mid_of 20480 (length m - 20480) m)) 0 → Cleared m (put_mid 20480 (length m - 20480) m p)
 heads_cleared m {p} h e =
     let k : length (mid_of 20480 (length m - 20480) m) ≡ length m - 20480 = mid_len 20480 (length m) m (omega arith) in
     let q : length p ≡ length m - 20480 = ap (λ (l : List ℕ). length l) e ∙ length-replicate _ 0 ∙ k in
@@ -313,7 +314,7 @@ heads_cleared m {p} h e =
           ∙ rw i (get_or-append p (post_of 20480 (length m - 20480) m) 0 b (omega arith) ∙ ap (λ (w : List ℕ). get_or w b 0) e ∙ get_or-replicate _ b 0 0 (omega (arith, k)));
     }
 
-pub indexed_none : (sheet : List ℕ) {m₀ m : List ℕ} → length m₀ ≡ 21504 → Cleared m₀ m → Indexed sheet m 0
+pub indexed_none : (sheet : List ℕ) {m₀ m : List ℕ} → length m₀ ≡ INDEX_WORDS → Cleared m₀ m → Indexed sheet m 0
 unfolding head_in
 indexed_none sheet h c =
     record {

@@ -9,6 +9,7 @@ use Rattle.content.specs.Contents.{content_in, kept_in}
 use Rattle.content.specs.Parts.{Field}
 use Rattle.chains.specs.Hashes.{hash_of}
 use Rattle.chains.specs.Rows.{find_in, head_in}
+use Rattle.model.specs.declared.layout.TheConstants.{INDEX_WORDS}
 
 -- ---- rows of five words: where the key begins and ends in the sheet, where its last value does, and the next of the chain
 
@@ -48,7 +49,7 @@ pub record RowIn (sheet : List ℕ) (ka ke va ve : ℕ) : Type 0 where
 
 -- the rows are in the sheet; a walk from a head visits the rows with its hash, newest first; no key is there twice
 pub record Indexed (sheet m : List ℕ) (n : ℕ) : Type 0 where
-  pub long : length m ≡ 21504
+  pub long : length m ≡ INDEX_WORDS
   pub few : n ≤ 4096
   pub row : (i : ℕ) → i < n → RowIn sheet (cell m i 0) (cell m i 1) (cell m i 2) (cell m i 3)
   pub heads : (b : ℕ) → b < 1024 → head m b ≡ head_in hash_of (key_at sheet m) b n

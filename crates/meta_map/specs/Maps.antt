@@ -14,6 +14,7 @@ use Rattle.rules.specs.Model.{MetaEntry}
 use Rattle.rules.specs.Modes.{Key, config, unknown_config, ordinary, has_modes, key_of, key_text, value_text}
 use Rattle.rules.specs.Metadata.{insert_meta}
 use Rattle.meta_map.specs.Index.{map_in, Indexed}
+use Rattle.model.specs.declared.layout.TheConstants.{STATE_WORDS, INDEX_WORDS}
 
 -- a line whose key sets a mode stays out of the map
 unfoldable pub map_key : Key → Text → Text → List MetaEntry → List MetaEntry
@@ -70,10 +71,10 @@ pub record SheetIndexed (flags : ℕ) (text sheet m : List ℕ) (r : ℕ) : Type
 
 -- the window of the index
 abbrev pub index_of : List ℕ → List ℕ
-index_of w = take 21504 (drop 24157 w)
+index_of w = take INDEX_WORDS (drop STATE_WORDS w)
 
 -- the words before it stay as they are
 pub record WordsIndexed (flags : ℕ) (text sheet w₀ w : List ℕ) (r : ℕ) : Type 0 where
   pub index : SheetIndexed flags text sheet (index_of w) r
-  pub front : take 24157 w ≡ take 24157 w₀
+  pub front : take STATE_WORDS w ≡ take STATE_WORDS w₀
   pub long : length w ≡ length w₀

@@ -14,22 +14,24 @@ ghost use Rattle.known_events.specs.Known.{KnownEvent};
 ghost use Rattle.chains.specs.Hashes.{Hashed};
 ghost use Rattle.meta_map.specs.Index.{cell, head, RowIn, Indexed, RowFound, ValueSet, KeyPushed, Inserted, Cleared, MetaPut, MetasPut, part_at};
 ghost use Rattle.meta_map.specs.Maps.{TrimmedPart, MetaIndexed, EventIndexed, LineIndexed, SheetIndexed, index_of, WordsIndexed};
+ghost use Rattle.model.specs.declared.layout.TheConstants.{INDEX_WORDS, WORDS};
 
 use events::{Between, EventView};
+use model::layout;
 use parts::{Part, TextView};
 use reading::ReadSheet;
 use text::Dropped;
 
 // A word of a row, and the head of a chain.
 fn cell_at(m: &[u32], i: usize, j: usize) -> usize
-    requires { (i < 4096) × (j < 5) × (length m.now ≡ 21504) }
+    requires { (i < 4096) × (j < 5) × (length m.now ≡ INDEX_WORDS) }
     ensures { result ≡ cell m.now i j }
 {
     m[i * 5 + j] as usize
 }
 
 fn head_at(m: &[u32], b: usize) -> usize
-    requires { (b < 1024) × (length m.now ≡ 21504) }
+    requires { (b < 1024) × (length m.now ≡ INDEX_WORDS) }
     ensures { result ≡ head m.now b }
 {
     m[20480 + b] as usize
@@ -37,7 +39,7 @@ fn head_at(m: &[u32], b: usize) -> usize
 
 // Another value for the key of a row.
 fn set_value(m: &mut [u32], i: usize, va: u32, ve: u32)
-    requires { (i < 4096) × (length m.old ≡ 21504) }
+    requires { (i < 4096) × (length m.old ≡ INDEX_WORDS) }
     ensures { ValueSet m.old i va ve m.new }
 {
     let at = i * 5 + 2;
@@ -46,7 +48,7 @@ fn set_value(m: &mut [u32], i: usize, va: u32, ve: u32)
 
 // One key more, first in the chain of its hash.
 fn push_key(m: &mut [u32], n: usize, b: usize, ka: u32, ke: u32, va: u32, ve: u32)
-    requires { (n < 4096) × (b < 1024) × (length m.old ≡ 21504) }
+    requires { (n < 4096) × (b < 1024) × (length m.old ≡ INDEX_WORDS) }
     ensures { KeyPushed m.old n b ka ke va ve m.new }
 {
     let first = 20480 + b;
@@ -59,7 +61,7 @@ fn push_key(m: &mut [u32], n: usize, b: usize, ka: u32, ke: u32, va: u32, ve: u3
 
 // No chain has a row.
 fn clear_heads(m: &mut [u32])
-    requires { length m.old ≡ 21504 }
+    requires { length m.old ≡ INDEX_WORDS }
     ensures { Cleared m.old m.new }
 {
     m[20480..].fill(0);
@@ -205,7 +207,7 @@ fn index_lines(flags: u32, sheet: &ReadSheet, map: &mut Map)
 
 // The index of a sheet that was read: how many keys it has.
 fn fill_index(flags: u32, sheet: &ReadSheet, m: &mut [u32]) -> usize
-    requires { (length sheet.now.bytes.now ≤ 65536) × (length m.old ≡ 21504) }
+    requires { (length sheet.now.bytes.now ≤ 65536) × (length m.old ≡ INDEX_WORDS) }
     ensures { SheetIndexed flags sheet.now.text.now sheet.now.bytes.now m.new result }
 {
     clear_heads(m);
@@ -220,10 +222,10 @@ fn fill_index(flags: u32, sheet: &ReadSheet, m: &mut [u32]) -> usize
 
 // The same in the window of work memory.
 pub fn index_metadata(flags: u32, sheet: &ReadSheet, words: &mut [u32]) -> usize
-    requires { (length sheet.now.bytes.now ≤ 65536) × (45661 ≤ length words.old) }
+    requires { (length sheet.now.bytes.now ≤ 65536) × (WORDS ≤ length words.old) }
     ensures { WordsIndexed flags sheet.now.text.now sheet.now.bytes.now words.old words.new result }
 {
-    fill_index(flags, sheet, &mut words[24157..45661])
+    fill_index(flags, sheet, &mut words[layout::STATE_WORDS..layout::WORDS])
 }
 
 // ---- the page's lines
@@ -266,8 +268,14 @@ fn row_lines(sheet: &[u8], m: &[u32], n: usize, out: &mut [u8], at: usize) -> us
 
 // The `meta` lines of the page.
 pub fn meta_lines(sheet: &[u8], words: &[u32], n: usize, out: &mut [u8], at: usize) -> usize
-    requires { (45661 ≤ length words.now) × Indexed sheet.now (index_of words.now) n }
+    requires { (WORDS ≤ length words.now) × Indexed sheet.now (index_of words.now) n }
     ensures { MetasPut sheet.now (index_of words.now) n out.old at out.new result }
 {
-    row_lines(sheet, &words[24157..45661], n, out, at)
+    row_lines(
+        sheet,
+        &words[layout::STATE_WORDS..layout::WORDS],
+        n,
+        out,
+        at,
+    )
 }

@@ -5,25 +5,13 @@ ghost use Rattle.std.specs.Prelude.{◌≡◌, ◌+◌, ◌<◌, false};
 ghost use Rattle.rules.specs.Finding.{found, found_two};
 ghost use Rattle.parts.specs.Views.{span_in, TextWithin};
 ghost use Rattle.model.specs.Rows.{finding_of};
-ghost use Rattle.model.specs.Small.{with_define, with_duplicate};
 ghost use Rattle.metadata.specs.Metas.{OrdinaryCounted, MetaDone};
+ghost use Rattle.model.specs.declared.layout.TheConstants.{MOST_FINDINGS};
 
 use memory::Memory;
 use model::{Held, Noted};
 use parts::{Span, TextView};
 use sheet::{Define, Duplicate};
-
-fn with_define(h: Held, define: Define) -> Held
-    ensures { result ≡ with_define define h }
-{
-    Held { define, ..h }
-}
-
-fn with_duplicate(h: Held, duplicate: Duplicate) -> Held
-    ensures { result ≡ with_duplicate duplicate h }
-{
-    Held { duplicate, ..h }
-}
 
 // 1, config value.
 fn wrong_value(key: Span, value: Span) -> Noted
@@ -49,7 +37,7 @@ fn count_ordinary(mut h: Held) -> Held
 }
 
 pub fn on_meta(flags: u32, line: &[u8], key: TextView, value: TextView, memory: &mut Memory)
-    requires { TextWithin line.now key × TextWithin line.now value × (memory.old.held.counts.findings < 1544) × (memory.old.held.counts.old < 100000) }
+    requires { TextWithin line.now key × TextWithin line.now value × (memory.old.held.counts.findings < MOST_FINDINGS) × (memory.old.held.counts.old < 100000) }
     ensures done { MetaDone flags line.now key value memory.old.words.now memory.old.held memory.new.words.now memory.new.held }
     ensures lent { memory.new.words.ghost_name ≡ memory.old.words.ghost_name }
 {
@@ -60,13 +48,13 @@ pub fn on_meta(flags: u32, line: &[u8], key: TextView, value: TextView, memory: 
         match config_keys::key_of(k) {
             config_keys::Key::Define => {
                 match config_keys::define_value(v) {
-                    Some(define) => memory.held = with_define(memory.held, define),
+                    Some(define) => memory.held = model::with_define(memory.held, define),
                     None => memory.push_finding(wrong_value(key.span, value.span)),
                 }
             }
             config_keys::Key::Duplicate => {
                 match config_keys::duplicate_value(v) {
-                    Some(duplicate) => memory.held = with_duplicate(memory.held, duplicate),
+                    Some(duplicate) => memory.held = model::with_duplicate(memory.held, duplicate),
                     None => memory.push_finding(wrong_value(key.span, value.span)),
                 }
             }

@@ -1,6 +1,8 @@
 pub mod Blanks
 pub mod Stores
 pub mod Tables
+pub mod Windows
+pub mod Columns
 pub mod Searches
 pub mod Parts
 pub mod Entries

@@ -1,7 +1,7 @@
 -- Walks over pairs and over kinds of blocks, one law for each way through a turn.
 use Prim.Native.Nat.{ℕ, zero, suc, ◌+◌, ◌-◌, ◌*◌, ◌≤◌, ◌<◌}
 use mathlib.Core.Path.{◌≡◌, refl, sym, ap, ◌∙◌}
-use mathlib.Core.List.{List, [], ◌∷◌, ◌++◌, reverse, reverse-cons}
+use mathlib.Core.List.{List, [], ◌∷◌, ◌++◌, reverse, reverse-cons, nil≢cons, head-eq_of_cons-eq}
 use mathlib.Core.Bool.{Bool, true, false}
 use Rattle.std.specs.Prelude.{None, Some, Option}
 use native.Mathlib.Omega.{arith}
@@ -18,7 +18,9 @@ use Rattle.rules.specs.Event.{Intermediate}
 use Rattle.rules.specs.Checks.{step_indices, section_indices, candidates, nth, resolve_intermediate_ref}
 use Rattle.model.specs.Rows.{referrers_in, referrers_from, block_of, blocks_in, steps_from}
 use Rattle.model.specs.Searches.{NextReferrer, TargetFound}
+use Rattle.model.specs.Memory.{Below}
 use Rattle.rules.proofs.Basics.{by_order}
+use Rattle.model.specs.declared.layout.TheConstants.{PAIR}
 
 -- ---- referrers
 
@@ -30,13 +32,13 @@ less : (n i : ℕ) → i < n → n - i ≡ suc (n - suc i)
 less n i h = omega arith
 
 module _ {pairs : List ℕ} {n d from i : ℕ} (z : Seeking pairs n d from i) where
-  pub seek_hit : i < n → get_or pairs (i * 2) 0 ≡ d → NextReferrer pairs n d from (Some ((get_or pairs (i * 2 + 1) 0), (i + 1)))
+  pub seek_hit : i < n → get_or pairs (i * PAIR) 0 ≡ d → NextReferrer pairs n d from (Some ((get_or pairs (i * PAIR + 1) 0), (i + 1)))
   unfolding referrers_from
-  seek_hit h q = record { is = (omega arith, omega arith, sym z.is ∙ rw (less n i h, eq-eqb (get_or pairs (i * 2) 0) d q, add-one i)) }
+  seek_hit h q = record { is = (omega arith, omega arith, sym z.is ∙ rw (less n i h, eq-eqb (get_or pairs (i * PAIR) 0) d q, add-one i)) }
 
-  pub seek_miss : i < n → (get_or pairs (i * 2) 0 ≡ d → ⊥) → Seeking pairs n d from (i + 1)
+  pub seek_miss : i < n → (get_or pairs (i * PAIR) 0 ≡ d → ⊥) → Seeking pairs n d from (i + 1)
   unfolding referrers_from
-  seek_miss h q = record { low = omega arith; is = rw (add-one i) (rw (less n i h, ne_eqb (get_or pairs (i * 2) 0) d q) at z.is) }
+  seek_miss h q = record { low = omega arith; is = rw (add-one i) (rw (less n i h, ne_eqb (get_or pairs (i * PAIR) 0) d q) at z.is) }
 
   pub seek_end : n ≤ i → NextReferrer pairs n d from None
   unfolding referrers_from
@@ -83,17 +85,30 @@ module _ (test : ℕ → Bool) (value : ℕ → ℕ) where
       go false ih = ih
 
 module _ (pairs : List ℕ) (d : ℕ) where
-  referrers_up : (at k : ℕ) → referrers_from pairs d at k ≡ ups (λ (j : ℕ). eqb (get_or pairs (j * 2) 0) d) (λ (j : ℕ). get_or pairs (j * 2 + 1) 0) at k
+  referrers_up : (at k : ℕ) → referrers_from pairs d at k ≡ ups (λ (j : ℕ). eqb (get_or pairs (j * PAIR) 0) d) (λ (j : ℕ). get_or pairs (j * PAIR + 1) 0) at k
   unfolding referrers_from ups
   referrers_up at zero = refl
   referrers_up at (suc k) = rw (referrers_up (suc at) k)
 
-  referrers_down : (n : ℕ) → referrers_in pairs d n ≡ downs (λ (j : ℕ). eqb (get_or pairs (j * 2) 0) d) (λ (j : ℕ). get_or pairs (j * 2 + 1) 0) n
+  referrers_down : (n : ℕ) → referrers_in pairs d n ≡ downs (λ (j : ℕ). eqb (get_or pairs (j * PAIR) 0) d) (λ (j : ℕ). get_or pairs (j * PAIR + 1) 0) n
   unfolding referrers_in downs
   referrers_down zero = refl
   referrers_down (suc n) = rw (referrers_down n)
 
   -- the referrers of a definition in the order in which they came
+  pub referrers_all : (n : ℕ) → reverse (referrers_in pairs d n) ≡ referrers_from pairs d 0 (n - 0)
+  referrers_all n = let e : n - 0 ≡ n = omega arith in rw e (ap reverse (referrers_down n) ∙ oldest_first _ _ n ∙ sym (referrers_up 0 n))
+
+  -- they are below what bounds all pairs
+  pub referrers_below : {n m : ℕ} → Below pairs m n → (at k : ℕ) → at + k ≤ m → {r : ℕ} {rest : List ℕ} → referrers_from pairs d at k ≡ r ∷ rest → r < n
+  unfolding referrers_from
+  referrers_below b at zero l e = absurd (nil≢cons e)
+  referrers_below {n} {m} b at (suc k) l {r} {rest} e = go (eqb (get_or pairs (at * PAIR) 0) d) (λ q. referrers_below b (suc at) k (omega arith) q) e
+    where
+      go : (t : Bool) → (referrers_from pairs d (suc at) k ≡ r ∷ rest → r < n) → pick t (get_or pairs (at * PAIR + 1) 0 ∷ referrers_from pairs d (suc at) k) (referrers_from pairs d (suc at) k) ≡ r ∷ rest → r < n
+      go true f q = let i : get_or pairs (at * PAIR + 1) 0 ≡ r = head-eq_of_cons-eq q in let g : get_or pairs (at * PAIR + 1) 0 < n = b.referrer at (omega arith) in omega arith
+      go false f q = f q
+
   pub referrers_oldest : (n : ℕ) (in_step : Bool) → referrers (definition in_step (referrers_in pairs d n)) ≡ referrers_from pairs d 0 n
   unfolding referrers
   referrers_oldest n in_step = ap reverse (referrers_down n) ∙ oldest_first _ _ n ∙ sym (referrers_up 0 n)

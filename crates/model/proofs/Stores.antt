@@ -4,8 +4,8 @@ use mathlib.Core.Path.{◌≡◌, refl, sym, ap, ◌∙◌}
 use mathlib.Core.List.{List, [], ◌∷◌, ◌++◌, append-nil}
 use native.Mathlib.Omega.{arith}
 use native.Mathlib.Nat.{add-zero, add-suc}
-use lib.ListN.{length, get_or, take, drop, set, length-set, length-drop, drop_of_length-le}
-use lib.Seq.{sets, sets-eq, length-take-le, take-set-le, take-set-lt, drop-set-lt, drop-set-add, drop-cons, drop-drop, get_or-set_other, get_or-take, get_or-drop}
+use lib.ListN.{length, get_or, take, drop, set, length-drop, drop_of_length-le}
+use lib.Seq.{sets, sets-eq, length-take-le, take-set-le, take-set-lt, drop-set-lt, drop-set-add, drop-drop, get_or-set_other, get_or-take, get_or-drop}
 use borrow.Rule.Slice.PartMut.{mid_of, put_mid, put_same}
 
 -- ---- parts

@@ -7,8 +7,8 @@ use Rattle.rules.specs.Event.{Event, inside, between, parser_event, Inside, comp
 use Rattle.rules.specs.Read.{content_of, parse_line}
 use Rattle.rules.specs.Model.{Kind, ingredient, cookware}
 use Rattle.rules.proofs.Fields.{Without}
-use Rattle.model.specs.Rows.{row_at, row_of, entry_as}
-use Rattle.model.specs.Memory.{windows_of}
+use Rattle.model.specs.Rows.{row_on, entry_as}
+use Rattle.model.specs.Memory.{rows_in, count_of}
 use Rattle.model.specs.declared.Row.{Row}
 use Rattle.model.specs.declared.Held.{Held}
 
@@ -57,9 +57,8 @@ pub record Fits (k : Kind) (sheet : List ℕ) (r : Row) : Type 0 where
 
 -- all of the first n rows
 pub record EachRow (P : Row → Type 0) (rows : List ℕ) (n : ℕ) : Type 0 where
-  pub at : (i : ℕ) → i < n → P (row_of (row_at 12 rows i))
+  pub at : (i : ℕ) → i < n → P (row_on rows i)
 
 -- all rows of work memory point into the sheet
 pub record AllFit (sheet w : List ℕ) (h : Held) : Type 0 where
-  pub ingredients : EachRow (Fits ingredient sheet) (windows_of w).ingredients h.counts.ingredients
-  pub cookware : EachRow (Fits cookware sheet) (windows_of w).cookware h.counts.cookware
+  pub rows : (k : Kind) → EachRow (Fits k sheet) (rows_in k w) (count_of k h)

@@ -1,5 +1,5 @@
 -- What the rows of work memory stand for: components, the pairs that name their referrers, findings, kinds of blocks.
-use Rattle.std.specs.Prelude.{ℕ, zero, suc, ◌+◌, ◌*◌, List, [], ◌∷◌, Bool, true, false, eqb, get_or, take, drop, Option, None, Some}
+use Rattle.std.specs.Prelude.{ℕ, zero, suc, ◌+◌, ◌*◌, ◌≤◌, ◌<◌, List, [], ◌∷◌, Bool, true, false, eqb, length, get_or, take, drop, Option, None, Some}
 use Rattle.std.proofs.Math.Seq.{slice}
 use Rattle.rules.specs.Basic.{pick}
 use Rattle.rules.specs.Words.{severe, mild}
@@ -15,6 +15,7 @@ use Rattle.model.specs.declared.Relation.TheVariants.{Definition, Reference}
 use Rattle.model.specs.declared.RelationRecord.{RelationRecord}
 use Rattle.model.specs.declared.Row.{Row}
 use Rattle.model.specs.declared.Noted.{Noted}
+use Rattle.model.specs.declared.layout.TheConstants.{ROW, PAIR, FINDING, MOST_ROWS}
 
 -- the i-th row of k words
 abbrev pub row_at : ℕ → List ℕ → ℕ → List ℕ
@@ -24,7 +25,7 @@ abbrev pub bit_of : Bool → ℕ
 bit_of true = 1
 bit_of false = 0
 
--- ---- a component's row of 12 words
+-- ---- a component's row of `ROW` words
 
 -- 0 a definition; 1 refers to a component of its own kind, 2 to a step, 3 to a section
 unfoldable pub relation_word : Relation → ℕ
@@ -55,6 +56,27 @@ row_of w =
       new = eqb (get_or w 8 0) 1;
       relation = record { relation = relation_of (get_or w 9 0); in_step = eqb (get_or w 11 0) 1; index = get_or w 10 0 };
     }
+
+-- the i-th of rows
+abbrev pub row_on : List ℕ → ℕ → Row
+row_on rows i = row_of (row_at ROW rows i)
+
+-- the i-th of rows is there
+pub record HasRow (rows : List ℕ) (i : ℕ) : Type 0 where
+  pub few : i < MOST_ROWS
+  pub there : i * ROW + ROW ≤ length rows
+
+-- the first n rows are there
+pub record HasRows (rows : List ℕ) (n : ℕ) : Type 0 where
+  pub few : n ≤ MOST_ROWS
+  pub there : n * ROW ≤ length rows
+
+-- the component of its own kind that a row refers to
+unfoldable pub own_target : Relation → ℕ → Option ℕ
+own_target Definition i = None
+own_target (Reference Ingredient) i = Some i
+own_target (Reference Step) i = None
+own_target (Reference Section) i = None
 
 -- ---- what a row says: the component of its line, its modifiers and its relation after the pass
 
@@ -112,31 +134,35 @@ entry_as k sheet r by =
     set_relation (relation_in k r.relation by)
     (set_modifiers (modifiers_in r) (entry_of k true (component_of_line k (slice r.line_at r.line_end sheet))))
 
--- ---- pairs of two words: a definition, and what refers to it
+-- ---- pairs of words: a definition, and what refers to it
 
 -- the referrers of the definition d among the first m pairs, newest first
 module _ (pairs : List ℕ) (d : ℕ) where
   unfoldable pub referrers_in : ℕ → List ℕ
   referrers_in zero = []
-  referrers_in (suc j) = pick (eqb (get_or pairs (j * 2) 0) d) (get_or pairs (j * 2 + 1) 0 ∷ referrers_in j) (referrers_in j)
+  referrers_in (suc j) = pick (eqb (get_or pairs (j * PAIR) 0) d) (get_or pairs (j * PAIR + 1) 0 ∷ referrers_in j) (referrers_in j)
 
   -- those of k pairs from the one at `at` on, oldest first
   unfoldable pub referrers_from : ℕ → ℕ → List ℕ
   referrers_from at zero = []
   referrers_from at (suc k) =
-      pick (eqb (get_or pairs (at * 2) 0) d) (get_or pairs (at * 2 + 1) 0 ∷ referrers_from (suc at) k) (referrers_from (suc at) k)
+      pick (eqb (get_or pairs (at * PAIR) 0) d) (get_or pairs (at * PAIR + 1) 0 ∷ referrers_from (suc at) k) (referrers_from (suc at) k)
 
--- ---- a table of components with m pairs, newest first
+-- of each definition
+unfoldable pub referrers_by : List ℕ → ℕ → ℕ → List ℕ
+referrers_by pairs m d = referrers_in pairs d m
 
-module _ (k : Kind) (sheet rows pairs : List ℕ) (m : ℕ) where
+-- ---- a table of components, newest first: `by` gives the referrers of each
+
+module _ (k : Kind) (sheet rows : List ℕ) (by : ℕ → List ℕ) where
   unfoldable pub entry_in : ℕ → Entry
-  entry_in i = entry_as k sheet (row_of (row_at 12 rows i)) (referrers_in pairs i m)
+  entry_in i = entry_as k sheet (row_on rows i) (by i)
 
   unfoldable pub entries_in : ℕ → List Entry
   entries_in zero = []
   entries_in (suc i) = entry_in i ∷ entries_in i
 
--- ---- a finding's row of 8 words
+-- ---- a finding's row of `FINDING` words
 
 unfoldable pub noted_words : Noted → List ℕ
 noted_words n =
@@ -170,9 +196,13 @@ unfoldable pub if_found : Option Noted → List Finding
 if_found None = []
 if_found (Some n) = finding_of n ∷ []
 
+-- the i-th of such rows
+abbrev pub noted_on : List ℕ → ℕ → Noted
+noted_on findings i = noted_of (row_at FINDING findings i)
+
 module _ (findings : List ℕ) where
   unfoldable pub finding_in : ℕ → Finding
-  finding_in i = finding_of (noted_of (row_at 8 findings i))
+  finding_in i = finding_of (noted_on findings i)
 
   unfoldable pub findings_in : ℕ → List Finding
   findings_in zero = []

@@ -2,15 +2,20 @@
 // small state beside it. Its windows stand in docs/MEMORY.md.
 #![tactic(auto)]
 
+pub mod layout;
+
 ghost use Rattle.std.specs.Prelude.{◌≡◌, [], ◌∷◌, reverse, ◌+◌, ◌-◌, ◌*◌, ◌<◌, ◌≤◌, length, set};
 ghost use Rattle.std.proofs.lemmas.List.Edits.{sets};
 ghost use Rattle.rules.specs.Basic.{pick};
 ghost use Rattle.rules.specs.Checks.{step_indices, section_indices, nth};
 ghost use Rattle.rules.specs.Words.{severe, mild};
 ghost use Rattle.rules.specs.Finding.{diag, parsed};
-ghost use Rattle.model.specs.Rows.{finding_of, row_at, bit_of, relation_word, relation_of, row_words, row_of, noted_words, noted_of, blocks_in};
+ghost use Rattle.model.specs.Rows.{finding_of, bit_of, relation_word, relation_of, row_words, row_of, row_on, HasRow, own_target, noted_words, noted_of, noted_on, blocks_in};
 ghost use Rattle.model.specs.Searches.{TargetFound, NextReferrer};
+ghost use Rattle.model.specs.Small.{with_counts, with_define, with_duplicate, with_block, with_named};
+ghost use Rattle.model.specs.declared.Open.TheVariants.{Nothing};
 
+use layout::{FINDING, MOST_FINDINGS, MOST_INGREDIENTS, MOST_KINDS, PAIR, ROW};
 use sheet::{Define, Duplicate};
 
 // The two kinds of components.
@@ -102,6 +107,38 @@ pub struct Noted {
     pub flag: bool,
 }
 
+// ---- the small state with another part
+
+pub fn with_define(h: Held, define: Define) -> Held
+    ensures { result ≡ with_define define h }
+{
+    Held { define, ..h }
+}
+
+pub fn with_duplicate(h: Held, duplicate: Duplicate) -> Held
+    ensures { result ≡ with_duplicate duplicate h }
+{
+    Held { duplicate, ..h }
+}
+
+pub fn with_block(h: Held, block: Open) -> Held
+    ensures { result ≡ with_block block h }
+{
+    Held { block, ..h }
+}
+
+// With no open block, and other counts.
+pub fn closed(h: Held, named: bool, counts: Counts) -> Held
+    ensures { result ≡ with_block Nothing (with_named named (with_counts counts h)) }
+{
+    Held {
+        block: Open::Nothing,
+        named,
+        counts,
+        ..h
+    }
+}
+
 // ---- rows
 
 pub fn copy_words(words: &mut [u32], at: usize, row: &[u32])
@@ -146,10 +183,10 @@ fn relation_of(n: u32) -> Relation
 }
 
 pub fn put_row(rows: &mut [u32], i: usize, r: Row)
-    requires { (i < 513) × (i * 12 + 12 ≤ length rows.old) }
-    ensures { rows.new ≡ sets rows.old (i * 12) (row_words r) }
+    requires { HasRow rows.old i }
+    ensures { rows.new ≡ sets rows.old (i * ROW) (row_words r) }
 {
-    let at = i * 12;
+    let at = i * ROW;
     let g = r.relation;
     let e = g.relation;
     let w = [
@@ -170,7 +207,7 @@ pub fn put_row(rows: &mut [u32], i: usize, r: Row)
 }
 
 fn row_of(w: &[u32]) -> Row
-    requires { length w.now ≡ 12 }
+    requires { length w.now ≡ ROW }
     ensures { result ≡ row_of w.now }
 {
     Row {
@@ -191,32 +228,69 @@ fn row_of(w: &[u32]) -> Row
     }
 }
 
-pub fn row_at(rows: &[u32], i: usize) -> Row
-    requires { (i < 513) × (i * 12 + 12 ≤ length rows.now) }
-    ensures { result ≡ row_of (row_at 12 rows.now i) }
+pub fn row_on(rows: &[u32], i: usize) -> Row
+    requires { HasRow rows.now i }
+    ensures { result ≡ row_on rows.now i }
 {
-    let at = i * 12;
-    row_of(&rows[at..at + 12])
+    let at = i * ROW;
+    row_of(&rows[at..at + ROW])
+}
+
+// ---- what a search reads of the i-th row, without the rest
+
+pub fn row_reference(rows: &[u32], i: usize) -> bool
+    requires { HasRow rows.now i }
+    ensures { result ≡ (row_on rows.now i).reference }
+{
+    rows[i * ROW + 5] == 1
+}
+
+pub fn row_opt(rows: &[u32], i: usize) -> bool
+    requires { HasRow rows.now i }
+    ensures { result ≡ (row_on rows.now i).opt }
+{
+    rows[i * ROW + 7] == 1
+}
+
+// Where its name begins and ends in the sheet.
+pub fn row_name(rows: &[u32], i: usize) -> (usize, usize)
+    requires { HasRow rows.now i }
+    ensures { (result.0 ≡ (row_on rows.now i).name_at) × (result.1 ≡ (row_on rows.now i).name_end) }
+{
+    let at = i * ROW;
+    (rows[at + 2] as usize, rows[at + 3] as usize)
+}
+
+// What it refers to of its own kind.
+pub fn row_target(rows: &[u32], i: usize) -> Option<usize>
+    requires { HasRow rows.now i }
+    ensures { result ≡ own_target (row_on rows.now i).relation.relation (row_on rows.now i).relation.index }
+{
+    let at = i * ROW;
+    if rows[at + 9] == 1 {
+        return Some(rows[at + 10] as usize);
+    }
+    None
 }
 
 // ---- pairs
 
 // `set_referenced_from`: the pair at n.
 pub fn put_pair(pairs: &mut [u32], n: usize, definition: u32, referrer: u32)
-    requires { (n < 513) × (n * 2 + 2 ≤ length pairs.old) }
-    ensures { pairs.new ≡ sets pairs.old (n * 2) (definition ∷ referrer ∷ []) }
+    requires { (n < MOST_INGREDIENTS) × (n * PAIR + PAIR ≤ length pairs.old) }
+    ensures { pairs.new ≡ sets pairs.old (n * PAIR) (definition ∷ referrer ∷ []) }
 {
-    let at = n * 2;
+    let at = n * PAIR;
     copy_words(pairs, at, &[definition, referrer]);
 }
 
 // The first of the pairs from `from` on, of n, that names the definition.
 pub fn next_referrer(pairs: &[u32], n: usize, definition: u32, from: usize) -> Option<(u32, usize)>
-    requires { (n ≤ 513) × (n * 2 ≤ length pairs.now) }
+    requires { (n ≤ MOST_INGREDIENTS) × (n * PAIR ≤ length pairs.now) }
     ensures { NextReferrer pairs.now n definition from result }
 {
     for i in from..n {
-        let at = i * 2;
+        let at = i * PAIR;
         if pairs[at] == definition {
             return Some((pairs[at + 1], i + 1));
         }
@@ -227,10 +301,10 @@ pub fn next_referrer(pairs: &[u32], n: usize, definition: u32, from: usize) -> O
 // ---- findings
 
 pub fn put_finding(findings: &mut [u32], n: usize, x: Noted)
-    requires { (n < 1544) × (n * 8 + 8 ≤ length findings.old) }
-    ensures { findings.new ≡ sets findings.old (n * 8) (noted_words x) }
+    requires { (n < MOST_FINDINGS) × (n * FINDING + FINDING ≤ length findings.old) }
+    ensures { findings.new ≡ sets findings.old (n * FINDING) (noted_words x) }
 {
-    let at = n * 8;
+    let at = n * FINDING;
     let w = [
         bit(x.parse),
         x.code,
@@ -245,7 +319,7 @@ pub fn put_finding(findings: &mut [u32], n: usize, x: Noted)
 }
 
 fn noted_of(w: &[u32]) -> Noted
-    requires { length w.now ≡ 8 }
+    requires { length w.now ≡ FINDING }
     ensures { result ≡ noted_of w.now }
 {
     Noted {
@@ -261,11 +335,11 @@ fn noted_of(w: &[u32]) -> Noted
 }
 
 pub fn finding_at(findings: &[u32], i: usize) -> Noted
-    requires { (i < 1544) × (i * 8 + 8 ≤ length findings.now) }
-    ensures { result ≡ noted_of (row_at 8 findings.now i) }
+    requires { (i < MOST_FINDINGS) × (i * FINDING + FINDING ≤ length findings.now) }
+    ensures { result ≡ noted_on findings.now i }
 {
-    let at = i * 8;
-    noted_of(&findings[at..at + 8])
+    let at = i * FINDING;
+    noted_of(&findings[at..at + FINDING])
 }
 
 // A finding of the pass at one span.
@@ -327,7 +401,7 @@ pub fn put_kind(kinds: &mut [u32], n: usize, step: bool)
 
 // The step that is the value-th, counted back from the newest of n blocks.
 fn step_back(kinds: &[u32], n: usize, value: u32) -> Option<u32>
-    requires { (n ≤ 1025) × (n ≤ length kinds.now) }
+    requires { (n ≤ MOST_KINDS) × (n ≤ length kinds.now) }
     ensures { result ≡ nth value (step_indices (blocks_in kinds.now n)) }
 {
     if value == 0 {
@@ -347,7 +421,7 @@ fn step_back(kinds: &[u32], n: usize, value: u32) -> Option<u32>
 
 // The step that is the value-th, counted from the first.
 fn step_ahead(kinds: &[u32], n: usize, value: u32) -> Option<u32>
-    requires { (n ≤ 1025) × (n ≤ length kinds.now) }
+    requires { (n ≤ MOST_KINDS) × (n ≤ length kinds.now) }
     ensures { result ≡ nth value (reverse (step_indices (blocks_in kinds.now n))) }
 {
     if value == 0 {
@@ -366,7 +440,7 @@ fn step_ahead(kinds: &[u32], n: usize, value: u32) -> Option<u32>
 }
 
 pub fn step_target(kinds: &[u32], n: usize, relative: bool, value: u32) -> Option<u32>
-    requires { (n ≤ 1025) × (n ≤ length kinds.now) }
+    requires { (n ≤ MOST_KINDS) × (n ≤ length kinds.now) }
     ensures { TargetFound relative value (step_indices (blocks_in kinds.now n)) result }
 {
     if relative {

@@ -26,10 +26,11 @@ use Rattle.meta_map.proofs.Walks.{metas_page}
 use Rattle.following.specs.declared.Part.{Part}
 use Rattle.following.specs.declared.Part.TheVariants.{Sections, Timers, Inline, Old}
 use Rattle.following.proofs.Walking.{accepted}
-use Rattle.page_walk.specs.Walk.{PassInputs, PartDrawn}
+use Rattle.page.specs.Walk.{PassInputs, PartDrawn}
 use Rattle.page.specs.Pages.{RecipeGiven, RecipePut, FailedPut}
 use Rattle.page.specs.Parts.{head_line, tables_of, findings_of, PartPut, DrawnPut, OldPut}
 use Rattle.page.proofs.Parts.{page_parts, metas_end, shown_end, tables_end, held_end, timers_none, inline_none, count_old, old_none, old_some}
+use Rattle.model.specs.declared.layout.TheConstants.{WORDS}
 
 -- ---- the first line
 
@@ -57,7 +58,7 @@ going_inj : {a b : State} → going a ≡ going b → a ≡ b
 going_inj e = cc
 
 module _ {sheet text units : List ℕ} {flags : ℕ} {w : List ℕ} {h : Held} (g : RecipeGiven sheet text units flags w h) where
-  pub index_given : (length sheet ≤ 65536) × (45661 ≤ length w)
+  pub index_given : (length sheet ≤ 65536) × (WORDS ≤ length w)
   unfolding words_needed
   index_given = (g.inputs.sheet_short, omega (arith, g.inputs.words_enough))
 
@@ -117,7 +118,7 @@ module _ {n : ℕ} {sheet text units : List ℕ} {flags : ℕ} {o₀ o : List �
 -- ---- the page
 
 module _ {sheet text units : List ℕ} {flags : ℕ} {w₀ w : List ℕ} {h : Held} {n : ℕ} (g : RecipeGiven sheet text units flags w₀ h) (x : WordsIndexed flags text sheet w₀ w n) where
-  pub metas_given : (45661 ≤ length w) × Indexed sheet (index_of w) n
+  pub metas_given : (WORDS ≤ length w) × Indexed sheet (index_of w) n
   metas_given = (let k = (index_given g).1 in omega (arith, x.long), x.index.indexed)
 
   pub page_put : {o₀ o₁ o₂ o₃ o₄ o : List ℕ} {a b c d r : ℕ} → Put (head_line true) o₀ 0 o₁ a → MetasPut sheet (index_of w) n o₁ a o₂ b

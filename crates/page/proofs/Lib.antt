@@ -1,3 +1,9 @@
+pub mod Tracked
+pub mod Lines
+pub mod Turns
+pub mod Seen
+pub mod Idle
+pub mod Drawing
 pub mod Parts
 pub mod Words
 pub mod Joins

@@ -2,9 +2,11 @@
 // length, or one more than the output's where the page does not fit.
 #![tactic(auto)]
 
+mod walk;
+
 ghost use Rattle.output.specs.Put.{Put};
 ghost use Rattle.finding_lines.specs.Lines.{old_open, old_close};
-ghost use Rattle.page_walk.specs.Walk.{PassInputs};
+ghost use Rattle.page.specs.Walk.{PassInputs};
 ghost use Rattle.page.specs.Pages.{RecipeGiven, RecipePut, FailedPut};
 ghost use Rattle.page.specs.Parts.{head_line, PartPut, tables_of, findings_of, DrawnPut, OldPut};
 
@@ -42,7 +44,7 @@ fn put_drawn(
     if n == 0 {
         return finding_lines::begin(out, at);
     }
-    page_walk::draw_part(p, sheet, units, flags, out, at)
+    walk::draw_part(p, sheet, units, flags, out, at)
 }
 
 // The lines of ingredients, cookware, timers and inline quantities.
@@ -95,7 +97,7 @@ fn put_old(
         return finding_lines::begin(out, at);
     }
     let a = put_old_open(out, at);
-    let b = page_walk::draw_part(Part::Old, sheet, units, flags, out, a);
+    let b = walk::draw_part(Part::Old, sheet, units, flags, out, a);
     put_old_close(out, b)
 }
 
@@ -133,7 +135,7 @@ pub fn recipe_page(
     let n = meta_map::index_metadata(flags, sheet, words);
     let a = head_line(out, true);
     let b = meta_map::meta_lines(sheet.bytes, words, n, out, a);
-    let c = page_walk::draw_part(Part::Sections, sheet, units, flags, out, b);
+    let c = walk::draw_part(Part::Sections, sheet, units, flags, out, b);
     let stored = Stored { words, held: h };
     let d = put_tables(sheet, units, flags, &stored, out, c);
     put_findings(sheet, units, flags, &stored, out, d)

@@ -36,7 +36,7 @@ use Rattle.step_lines.specs.declared.ItemKind.TheVariants as item
 use Rattle.step_lines.specs.declared.TextItems.{TextItems}
 use Rattle.following.specs.Drawn.{keeps, section_line, lead, start_adds, component_item, unless_components, inside_adds, quantities_in, quantities_added}
 use Rattle.following.specs.declared.Follow.{Follow}
-use Rattle.page_parts.specs.Drawing.{ItemDrawn, EndDrawn, ComponentDrawn, TextDrawn}
+use Rattle.page_parts.specs.Sections.{ItemDrawn, EndDrawn, ComponentDrawn, TextDrawn}
 use Rattle.parts.specs.declared.QuantityView.{QuantityView}
 use Rattle.components.specs.declared.Intermediate.{Intermediate}
 use Rattle.sheet.specs.Words.{define_of}

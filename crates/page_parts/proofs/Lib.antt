@@ -1,2 +1,4 @@
 pub mod Arms
 pub mod Sections
+pub mod Timers
+pub mod Parts

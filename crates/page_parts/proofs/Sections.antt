@@ -30,7 +30,7 @@ use Rattle.model.specs.declared.Open.{Open}
 use Rattle.step_lines.specs.declared.TextItems.{TextItems}
 use Rattle.following.specs.Drawn.{opens_as, start_adds, inside_adds, sections_add, quantities_added}
 use Rattle.following.specs.declared.Follow.{Follow}
-use Rattle.page_parts.specs.Drawing.{EndDrawn, ComponentDrawn, TextDrawn, BetweenDrawn, InsideDrawn, SectionsDrawn}
+use Rattle.page_parts.specs.Sections.{EndDrawn, ComponentDrawn, TextDrawn, BetweenDrawn, InsideDrawn, SectionsDrawn}
 use Rattle.page_parts.proofs.Arms.{put_arm, put_nothing, named_adds}
 use Rattle.sheet.specs.Words.{block_in}
 

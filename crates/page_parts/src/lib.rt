@@ -1,6 +1,8 @@
-// What a line of the sheet adds to the page's sections. A writer gets the output from the cursor on and returns how many
-// bytes it wrote, or one more than there is room for.
+// What a line of the sheet adds to a part of the page: here to its sections, in each_part.rt to the others and to any part. A
+// writer gets the output from the cursor on and returns how many bytes it wrote, or one more than there is room for.
 #![tactic(auto)]
+
+pub mod each_part;
 
 ghost use Rattle.std.specs.Prelude.{◌≡◌, true, [], ◌+◌, ◌^◌, ◌<◌, length};
 ghost use Rattle.rules.specs.Basic.{pick, all, is_some, on_some};
@@ -13,7 +15,7 @@ ghost use Rattle.parts.specs.Views.{opt_text_in};
 ghost use Rattle.events.specs.Views.{component_event_in, inside_in, event_in};
 ghost use Rattle.known_events.specs.Fields.{TextField, OptTextField, BetweenFields, InsideFields, EventFields};
 ghost use Rattle.following.specs.Drawn.{lead, start_adds, section_line};
-ghost use Rattle.page_parts.specs.Drawing.{ItemDrawn, EndDrawn, ComponentDrawn, TextDrawn, BetweenDrawn, InsideDrawn, SectionsDrawn};
+ghost use Rattle.page_parts.specs.Sections.{ItemDrawn, EndDrawn, ComponentDrawn, TextDrawn, BetweenDrawn, InsideDrawn, SectionsDrawn};
 
 use events::{Between, ComponentEvent, EventView, Inside};
 use following::Follow;
@@ -203,7 +205,7 @@ fn inside_line(
 }
 
 // What a line adds to the page's sections, and how many inline quantities it adds.
-pub fn sections_line(
+fn sections_line(
     text: &Utf8,
     units: &UnitList,
     flags: u32,

@@ -49,6 +49,7 @@ use Rattle.component_lines.specs.Lines.{LineHere, Kept, ComponentDone}
 use Rattle.pass.specs.Walks.{EventHere, Running, LineDone, InStep, inside_now, InsideDone, BetweenDone, EventDone, ErrorView}
 use Rattle.pass.proofs.Rooms.{line_short, room}
 use Rattle.parts.specs.declared.QuantityView.{QuantityView}
+use Rattle.model.specs.declared.layout.TheConstants.{MOST_FINDINGS}
 
 pub line_done : {f : State → Step} {sheet w₀ w : List ℕ} {h₀ : Held} {r : Result Held Reason} → Stepped f w₀ h₀ w r → AllFit sheet w₀ h₀ → LineDone f sheet w₀ h₀ w r
 line_done {sheet = sheet} p a = record { is = p.is sheet; sound = p.sound; fit = p.fit sheet a }
@@ -71,7 +72,7 @@ module _ {sheet line w : List ℕ} {at end : ℕ} {h : Held} {c : ComponentEvent
   )
 
   pub timer_ready : (s : Span) (n : Option TextView) (q : Option QuantityView) → c ≡ component.Timer s n q
-      → OptQuantityWithin line q × (h.counts.findings + 2 < 1544) × (h.counts.timers < 100000) × (h.counts.items < 100000)
+      → OptQuantityWithin line q × (h.counts.findings + 2 < MOST_FINDINGS) × (h.counts.timers < 100000) × (h.counts.items < 100000)
   unfolding EventWithin InsideWithin ComponentEventWithin
   timer_ready s n q e =
       let b = room z r in
@@ -101,7 +102,7 @@ module _ {us : List NamedUnit} {flags : ℕ} {sheet line w₀ w : List ℕ} {e :
   step_component c q p = rw q record { done = record { is = p.is; sound = p.sound; fit = p.fit } }
 
 pub text_ready : {sheet line w : List ℕ} {at end : ℕ} {h : Held} {e : Inside} (v : TextView) → e ≡ inside.Text v → EventHere sheet line at end (event.Inside e) → Running sheet w h at
-    → TextWithin line v × Field (part_of line v.content) × (h.counts.findings < 1544) × (h.counts.items + length line < 100000) × (h.counts.inline + length line < 100000)
+    → TextWithin line v × Field (part_of line v.content) × (h.counts.findings < MOST_FINDINGS) × (h.counts.items + length line < 100000) × (h.counts.inline + length line < 100000)
 unfolding EventWithin InsideWithin EventFields InsideFields TextField
 text_ready v q z r =
     let b = room z r in
@@ -187,7 +188,7 @@ meta_within k v q z = rw q at z
 -- ---- every line
 
 pub between_ready : {sheet line w : List ℕ} {at end : ℕ} {h : Held} {v : EventView} (b : Between) → v ≡ event.Between b → EventHere sheet line at end v → Running sheet w h at
-    → BetweenWithin line b × (h.counts.findings < 1544) × (h.counts.old < 100000) × (h.counts.sections < 100000)
+    → BetweenWithin line b × (h.counts.findings < MOST_FINDINGS) × (h.counts.old < 100000) × (h.counts.sections < 100000)
 unfolding EventWithin
 between_ready b q z r =
     let m = room z r in

@@ -11,11 +11,12 @@ use lib.Seq.{length-slice}
 use Rattle.rules.proofs.Basics.{no_truth}
 use Rattle.events.specs.declared.EventView.{EventView}
 use Rattle.model.specs.Blank.{blank_span}
-use Rattle.model.specs.Memory.{windows_of, state_of, state_in}
+use Rattle.model.specs.Memory.{state_of, state_in}
 use Rattle.model.specs.declared.Held.{Held}
-use Rattle.model.proofs.Searches.{blocks_length}
+use Rattle.model.proofs.Windows.{content_counted}
 use Rattle.memory.proofs.Smalls.{over_in, over_is}
 use Rattle.pass.specs.Walks.{EventHere, Running}
+use Rattle.model.specs.declared.layout.TheConstants.{MOST_FINDINGS, MOST_KINDS}
 
 or_left : (a b : Bool) → (a || b) ≡ false → a ≡ false
 or_left true b e = e
@@ -60,11 +61,11 @@ module _ {sheet w : List ℕ} {h : Held} {n : ℕ} (r : Running sheet w h n) whe
 
   here_most : h.counts.here ≤ h.counts.blocks
   unfolding state_in state_of
-  here_most = let e = blocks_length (windows_of w).kinds h.counts.here in omega (arith, e, r.counted.0)
+  here_most = let e = content_counted sheet w h in omega (arith, e, r.counted.0)
 
   counter_most : h.counts.counter ≤ h.counts.here + 1
   unfolding state_in state_of
-  counter_most = let e = blocks_length (windows_of w).kinds h.counts.here in omega (arith, e, r.counted.1)
+  counter_most = let e = content_counted sheet w h in omega (arith, e, r.counted.1)
 
   old_most : h.counts.old ≤ n
   unfolding state_in state_of
@@ -100,14 +101,14 @@ module _ {sheet line : List ℕ} {at end : ℕ} {v : EventView} (z : EventHere s
     pub room : Bounded h
     room = bounded r (omega (arith, z.here.whole.order, z.here.whole.most, z.here.short))
 
-    pub room_blocks : (h.counts.here < 1025) × (h.counts.blocks < 100000)
+    pub room_blocks : (h.counts.here < MOST_KINDS) × (h.counts.blocks < 100000)
     room_blocks = let b = room in (omega (arith, b.here), omega (arith, b.blocks))
 
-    pub room_step : (h.counts.here < 1025) × (h.counts.blocks < 100000) × (h.counts.counter < 100000)
+    pub room_step : (h.counts.here < MOST_KINDS) × (h.counts.blocks < 100000) × (h.counts.counter < 100000)
     room_step = let b = room in (omega (arith, b.here), omega (arith, b.blocks), omega (arith, b.counter))
 
-    pub room_mode : (h.counts.here < 1025) × (h.counts.blocks < 100000) × (h.counts.findings < 1544)
+    pub room_mode : (h.counts.here < MOST_KINDS) × (h.counts.blocks < 100000) × (h.counts.findings < MOST_FINDINGS)
     room_mode = let b = room in (omega (arith, b.here), omega (arith, b.blocks), omega (arith, b.findings))
 
-    pub room_finding : h.counts.findings < 1544
+    pub room_finding : h.counts.findings < MOST_FINDINGS
     room_finding = let b = room in omega (arith, b.findings)

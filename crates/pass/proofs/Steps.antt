@@ -12,7 +12,6 @@ use Rattle.rules.specs.Pass.{settle, on_event, step}
 use Rattle.rules.proofs.Chained as chained
 use Rattle.refusals.specs.Told.{number_of}
 use Rattle.refusals.specs.declared.Reason.{Reason}
-use Rattle.refusals.specs.declared.Reason.TheVariants.{OverLimits as TooMuch}
 use Rattle.events.specs.Views.{event_in}
 use Rattle.events.specs.declared.EventView.{EventView}
 use Rattle.model.specs.Blank.{blank, blank_tables, blank_step, blank_walk}
@@ -20,7 +19,8 @@ use Rattle.model.specs.Memory.{state_in, Sound}
 use Rattle.model.specs.Fits.{AllFit}
 use Rattle.model.specs.declared.Held.{Held}
 use Rattle.model.proofs.Blanks.{over_blank}
-use Rattle.memory.specs.Pushes.{OverLimits}
+use Rattle.memory.specs.Pushes.{LimitsChecked}
+use Rattle.memory.proofs.Endings.{limits_kept, limits_over}
 use Rattle.blocks.specs.Lined.{step_in, SoundStep, FitStep}
 use Rattle.pass.specs.Walks.{EventHere, Counted, Running, EventDone, ErrorView, WalkedAs, StepDone}
 use Rattle.pass.proofs.Counts.{CountedStep, event_counted, counted_blank, counted_more}
@@ -82,18 +82,20 @@ module _ {us : List NamedUnit} {flags : ℕ} {sheet line w₀ w : List ℕ} {v :
     unfolding WalkedAs step_in
     step_stopped m e = record { is = λ text number. settled text number ∙ settle_stop number _ (number_of m) (rw e at (d.at text).is) }
 
-    module _ (k : Held) (e : r ≡ Ok k) {b : Bool} (l : OverLimits k b) where
+    module _ (k : Held) (e : r ≡ Ok k) {a : Result (Unit {0}) Reason} (l : LimitsChecked k a) where
       after : (text : List ℕ) → next (state_in sheet w k) ≡ blank_step (on_event text us flags (event_in line v) (state_in sheet w₀ h₀))
       unfolding step_in
       after text = rw e at (d.at text).is
 
-      settled_as : (text : List ℕ) (number : ℕ) → blank_walk (step text us flags number (event_in line v) (going (state_in sheet w₀ h₀))) ≡ pick b (refused 17 number) (going (state_in sheet w k))
-      settled_as text number = settled text number ∙ settle_next number _ (state_in sheet w k) (after text) b (l.is sheet w)
+      settled_as : (b : Bool) → over_limits (state_in sheet w k) ≡ b → (text : List ℕ) (number : ℕ) → blank_walk (step text us flags number (event_in line v) (going (state_in sheet w₀ h₀))) ≡ pick b (refused 17 number) (going (state_in sheet w k))
+      settled_as b o text number = settled text number ∙ settle_next number _ (state_in sheet w k) (after text) b (sym o)
 
       -- 17
-      pub step_over : {end : ℕ} → b ≡ true → StepDone us flags sheet line end v w₀ h₀ w (Err TooMuch)
+      pub step_over : {end : ℕ} (m : Reason) → a ≡ Err m → StepDone us flags sheet line end v w₀ h₀ w (Err m)
       unfolding WalkedAs
-      step_over t = record { is = λ text number. rw t at (settled_as text number) }
+      step_over m t =
+          let o = limits_over l t sheet w in
+          record { is = λ text number. settled_as true o.0 text number ∙ ap (λ (x : Reason). refused (number_of x) number) (sym o.1) }
 
       sound_after : SoundStep w r → Sound w k
       unfolding SoundStep
@@ -103,15 +105,17 @@ module _ {us : List NamedUnit} {flags : ℕ} {sheet line w₀ w : List ℕ} {v :
       unfolding FitStep
       fit_after s = rw e at s
 
-      running_after : {at end : ℕ} → b ≡ false → EventHere sheet line at end v → Running sheet w₀ h₀ at → Running sheet w k (end + 1)
+      running_after : {at end : ℕ} → over_limits (state_in sheet w k) ≡ false → EventHere sheet line at end v → Running sheet w₀ h₀ at → Running sheet w k (end + 1)
       running_after {at} t z g =
           let s = after_sound _ (state_in sheet w k) (after []) (chained.event_sound [] us flags (event_in line v) (state_in sheet w₀ h₀) (chained.state_sound _ g.kept.definitions)) in
           let c = after_counted (suc at) _ (state_in sheet w k) (after []) (event_counted [] us flags (event_in line v) (state_in sheet w₀ h₀) g.counted) in
           record {
-            kept = record { sound = sound_after (d.at []).sound; fit = fit_after (d.at []).fit; definitions = λ x. chained.table_sound x (state_in sheet w k) s; limits = sym (l.is sheet w) ∙ t };
+            kept = record { sound = sound_after (d.at []).sound; fit = fit_after (d.at []).fit; definitions = λ x. chained.table_sound x (state_in sheet w k) s; limits = t };
             counted = counted_more (state_in sheet w k) (omega (arith, z.here.whole.order)) c;
           }
 
-      pub step_going : {at end : ℕ} → b ≡ false → EventHere sheet line at end v → Running sheet w₀ h₀ at → StepDone us flags sheet line end v w₀ h₀ w (Ok (Some k))
+      pub step_going : {at end : ℕ} {u : Unit {0}} → a ≡ Ok u → EventHere sheet line at end v → Running sheet w₀ h₀ at → StepDone us flags sheet line end v w₀ h₀ w (Ok (Some k))
       unfolding WalkedAs
-      step_going t z g = record { is = record { is = λ text number. rw t at (settled_as text number); running = running_after t z g } }
+      step_going t z g =
+          let o = limits_kept l t sheet w in
+          record { is = record { is = settled_as false o; running = running_after o z g } }

@@ -12,13 +12,14 @@ ghost use Rattle.unit_checks.specs.Codes.{CodesKept};
 ghost use Rattle.blocks.specs.Lined.{left};
 ghost use Rattle.component_lines.specs.Lines.{ComponentDone};
 ghost use Rattle.pass.specs.Walks.{EventHere, Running, InStep, InsideDone, BetweenDone, EventDone, ErrorView, left_if, StepDone, Finished, RanBy, RanAs};
+ghost use Rattle.model.specs.declared.layout.TheConstants.{MOST_FINDINGS, STATE_WORDS};
 
 use events::{Between, ComponentEvent, EventView, Inside, Severity};
 use memory::Memory;
 use model::{Held, Open};
 use reading::ReadSheet;
 use refusals::{Reason, Refusal};
-use unit_checks::Codes;
+use unit_codes::Codes;
 use unit_index::UnitList;
 
 fn on_component(
@@ -105,7 +106,7 @@ fn on_inside(
 }
 
 fn on_between(flags: u32, line: &[u8], b: Between, memory: &mut Memory)
-    requires { BetweenWithin line.now b × (memory.old.held.counts.findings < 1544) × (memory.old.held.counts.old < 100000) × (memory.old.held.counts.sections < 100000) }
+    requires { BetweenWithin line.now b × (memory.old.held.counts.findings < MOST_FINDINGS) × (memory.old.held.counts.old < 100000) × (memory.old.held.counts.sections < 100000) }
     ensures done { BetweenDone flags line.now b memory.old.words.now memory.old.held memory.new.words.now memory.new.held }
     ensures lent { memory.new.words.ghost_name ≡ memory.old.words.ghost_name }
 {
@@ -177,9 +178,7 @@ fn step(
         return Ok(false);
     }
     on_event(units, flags, sheet, line, at, end, v, codes, memory)?;
-    if memory::over_limits(memory.held) {
-        return Err(Reason::OverLimits);
-    }
+    memory::check_limits(memory.held)?;
     Ok(true)
 }
 
@@ -207,7 +206,7 @@ fn parse_events(
     ensures lent { memory.new.words.ghost_name ≡ memory.old.words.ghost_name }
 {
     // `codes` keeps what an earlier line's unit is, so that each is looked up once.
-    let mut codes = [0u32; 1539];
+    let mut codes = [0u32; unit_codes::CODES];
     let mut at = 0;
     let mut number: u32 = 1;
     while at < sheet.bytes.len() {
@@ -252,7 +251,7 @@ pub fn run(
     flags: u32,
     words: &mut [u32],
 ) -> Result<Option<Held>, Refusal>
-    requires { (length sheet.now.bytes.now ≤ 65536) × (24157 ≤ length words.old) }
+    requires { (length sheet.now.bytes.now ≤ 65536) × (STATE_WORDS ≤ length words.old) }
     ensures { RanAs (units_or (read_units units.now.lines.now)) flags sheet.now.bytes.now sheet.now.text.now (events_or (read_sheet sheet.now.text.now sheet.now.bytes.now)) words.old words.new result }
 {
     let mut memory = Memory {

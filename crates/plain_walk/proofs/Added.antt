@@ -79,35 +79,35 @@ head_same q = cc
 no_cons : {P : Type 0} {x : Entry} {xs : List Entry} → [] ≡ x ∷ xs → P
 no_cons q = absurd (let u : ◌≡◌ {A = ℕ} 0 1 = cc in omega arith)
 
-module _ (k : Kind) (sheet rows pairs : List ℕ) (m : ℕ) where
+module _ (k : Kind) (sheet rows : List ℕ) (by : ℕ → List ℕ) where
   -- the entries of the first rows
   record Behind (n : ℕ) (xs : List Entry) : Type 0 where
     low : length xs ≤ n
-    is : each bare (entries_in k sheet rows pairs m (length xs)) ≡ xs
+    is : each bare (entries_in k sheet rows by (length xs)) ≡ xs
 
-  rows_length : (n : ℕ) (xs : List Entry) → each bare (entries_in k sheet rows pairs m n) ≡ xs → length xs ≡ n
-  rows_length n xs q = ap length (sym q) ∙ bare_length (entries_in k sheet rows pairs m n) ∙ entries_length k sheet rows pairs m n
+  rows_length : (n : ℕ) (xs : List Entry) → each bare (entries_in k sheet rows by n) ≡ xs → length xs ≡ n
+  rows_length n xs q = ap length (sym q) ∙ bare_length (entries_in k sheet rows by n) ∙ entries_length k sheet rows by n
 
-  rows_behind : (n : ℕ) (more xs : List Entry) → each bare (entries_in k sheet rows pairs m n) ≡ more ++ xs → Behind n xs
+  rows_behind : (n : ℕ) (more xs : List Entry) → each bare (entries_in k sheet rows by n) ≡ more ++ xs → Behind n xs
   unfolding entries_in each
   rows_behind n [] xs q =
       let e : length xs ≡ n = rows_length n xs q in
-      record { low = omega arith; is = ap (λ (i : ℕ). each bare (entries_in k sheet rows pairs m i)) e ∙ q }
+      record { low = omega arith; is = ap (λ (i : ℕ). each bare (entries_in k sheet rows by i)) e ∙ q }
   rows_behind zero (x ∷ more) xs q = no_cons q
   rows_behind (suc n) (x ∷ more) xs q = let b = rows_behind n more xs (tail_same q) in record { low = omega (arith, b.low); is = b.is }
 
   -- a new entry of the table es has its row among n, and the rows before it are those of es
-  pub record HasRow (n : ℕ) (made : Made) (es : List Entry) : Type 0 where
+  pub record MadeRow (n : ℕ) (made : Made) (es : List Entry) : Type 0 where
     pub low : length es < n
-    pub entry : bare (entry_in k sheet rows pairs m (length es)) ≡ bare made.entry
-    pub before : each bare (entries_in k sheet rows pairs m (length es)) ≡ each bare es
+    pub entry : bare (entry_in k sheet rows by (length es)) ≡ bare made.entry
+    pub before : each bare (entries_in k sheet rows by (length es)) ≡ each bare es
 
-  pub has_row : (n : ℕ) (made : Made) (es : List Entry) → Grown (pushed made es) (entries_in k sheet rows pairs m n) → HasRow n made es
+  pub made_row : (n : ℕ) (made : Made) (es : List Entry) → Grown (pushed made es) (entries_in k sheet rows by n) → MadeRow n made es
   unfolding pushed each entries_in
-  has_row n made es g =
+  made_row n made es g =
       let whole : each bare (pushed made es) ≡ bare made.entry ∷ each bare es = ap (λ (x : List Entry). bare made.entry ∷ x) (bare_more made.refers_to es) in
       let b = rows_behind n g.more (bare made.entry ∷ each bare es) (g.is ∙ ap (λ (x : List Entry). g.more ++ x) whole) in
       let l : length (each bare es) ≡ length es = bare_length es in
-      let q : bare (entry_in k sheet rows pairs m (length es)) ∷ each bare (entries_in k sheet rows pairs m (length es)) ≡ bare made.entry ∷ each bare es =
-      ap (λ (i : ℕ). each bare (entries_in k sheet rows pairs m (suc i))) (sym l) ∙ b.is in
+      let q : bare (entry_in k sheet rows by (length es)) ∷ each bare (entries_in k sheet rows by (length es)) ≡ bare made.entry ∷ each bare es =
+      ap (λ (i : ℕ). each bare (entries_in k sheet rows by (suc i))) (sym l) ∙ b.is in
       record { low = omega (arith, b.low); entry = head_same q; before = tail_same q }

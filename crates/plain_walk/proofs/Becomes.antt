@@ -1,16 +1,14 @@
 -- What each kind of line becomes.
-use Prim.Native.Nat.{ℕ, ◌+◌, ◌*◌, ◌≤◌, ◌<◌}
+use Prim.Native.Nat.{ℕ}
 use mathlib.Core.Path.{◌≡◌, refl, sym, ap, ◌∙◌, subst}
 use mathlib.Core.List.{List, [], ◌∷◌}
 use mathlib.Core.Bool.{Bool, true, false, ◌&&◌}
 use Rattle.std.specs.Prelude.{Option, None, Some}
-use native.Mathlib.Omega.{arith}
-use lib.ListN.{length, take, drop}
+use lib.ListN.{length}
 use Rattle.rules.specs.Basic.{all}
 use Rattle.rules.specs.Text.{text_trimmed}
 use Rattle.rules.specs.Event as rules
 use Rattle.rules.specs.Event.{spans_of, component_span, component_spans, named_spans}
-use Rattle.rules.specs.Model.{ingredient, cookware}
 use Rattle.rules.specs.Modes.{is_components, is_text, has_modes, key_of, key_text}
 use Rattle.rules.specs.Plain.{is_mode_key, in_plain_text}
 use Rattle.rules.specs.Pass.{source_text}
@@ -34,24 +32,24 @@ use Rattle.events.specs.declared.Inside.{Inside}
 use Rattle.events.specs.declared.Inside.TheVariants as inside
 use Rattle.events.specs.declared.EventView.{EventView}
 use Rattle.events.specs.declared.EventView.TheVariants as event
-use Rattle.known_events.specs.Fields.{ComponentEventFields, InsideFields, EventFields}
+use Rattle.known_events.specs.Fields.{ComponentFields, ComponentEventFields, InsideFields, EventFields}
 use Rattle.metadata.proofs.Whole.{text_content}
-use Rattle.model.specs.Memory.{windows_of, Sound}
-use Rattle.model.specs.declared.Held.{Held}
-use Rattle.memory.proofs.Whole.{long_ingredients, long_cookware}
-use Rattle.model.specs.declared.Kind.TheVariants as kinds
+use Rattle.model.specs.Kinds.{kind_of}
+use Rattle.model.specs.Memory.{rows_in}
+use Rattle.model.specs.declared.Kind.{Kind}
+use Rattle.model.specs.declared.Kind.TheVariants.{Ingredient, Cookware}
 use Rattle.model.specs.declared.Open.{Open}
 use Rattle.model.specs.declared.Open.TheVariants as block
 use Rattle.blocks.specs.Lined.{SpanOf}
 use Rattle.following.specs.declared.Follow.{Follow}
 use Rattle.plain_lines.specs.Lines as lines
 use Rattle.plain_lines.specs.Lines.{source_at}
-use Rattle.plain_walk.specs.Rows.{marked_as, implicit_in}
+use Rattle.plain_walk.specs.Rows.{marked_as, implicit_row, implicit_in}
 use Rattle.plain_walk.specs.Lines.{unless_dropped, between_plain, ingredient_plain, component_plain, step_plain, inside_plain, plain_in}
-use Rattle.plain_walk.specs.Faults.{ImplicitFound}
-use Rattle.plain_walk.specs.Becomes.{plain_as, PlainFit, Few, StartTold, BetweenTold, ComponentTold, BlockTold, TextTold, EventTold}
+use Rattle.plain_walk.specs.Becomes.{plain_as, PlainFit, row_plain, StartTold, BetweenTold, ComponentTold, BlockTold, TextTold, EventTold}
 use Rattle.plain_walk.specs.declared.Plain.{Plain}
-use Rattle.plain_walk.specs.declared.Plain.TheVariants.{Dropped, Copied, StartText, EndText, Source, Marked}
+use Rattle.plain_walk.specs.declared.Plain.TheVariants.{Dropped, Copied, StartText, EndText, Source}
+use Rattle.plain_walk.proofs.FaultLines.{kind_event, row_next}
 use Rattle.parts.specs.declared.QuantityView.{QuantityView}
 use Rattle.components.specs.declared.Intermediate.{Intermediate}
 use Rattle.sheet.specs.Words.{block_in, define_of}
@@ -113,53 +111,34 @@ module _ (flags : ℕ) (line : List ℕ) (f : Follow) {b : Between} where
 
 -- ---- components in a step
 
--- the row of an ingredient or of cookware is in its window
-module _ {w : List ℕ} {h : Held} (s : Sound w h) {f : Follow} (z : Few f) where
-  pub ingredient_room : (f.ingredients < 513) × (f.ingredients * 12 + 12 ≤ length (take 6156 (drop 0 w)))
-  unfolding windows_of
-  ingredient_room = (omega (arith, z.ingredients), omega (arith, z.ingredients, long_ingredients s))
+-- what is made of one by what its row refers to without REF
+module _ (text line : List ℕ) (v : ComponentView) where
+  ingredient_at : (i : Option Intermediate) (to : Option ℕ) → plain_as text line (rules.inside (rules.component_event (rules.ingredient_event (views.component_in line v) (views.opt_intermediate_in i)))) (row_plain Ingredient v to)
+      ≡ rules.inside (rules.component_event (ingredient_plain (views.component_in line v) (views.opt_intermediate_in i) to)) ∷ []
+  unfolding plain_as row_plain ingredient_plain lines.marked_as
+  ingredient_at i None = refl
+  ingredient_at i (Some d) = refl
 
-  pub cookware_room : (f.cookware < 513) × (f.cookware * 12 + 12 ≤ length (take 3084 (drop 6156 w)))
-  unfolding windows_of
-  cookware_room = (omega (arith, z.cookware), omega (arith, z.cookware, long_cookware s))
+  cookware_at : (to : Option ℕ) → plain_as text line (rules.inside (rules.component_event (rules.cookware_event (views.component_in line v)))) (row_plain Cookware v to)
+      ≡ rules.inside (rules.component_event (rules.cookware_event (marked_as (views.component_in line v) to))) ∷ []
+  unfolding plain_as row_plain marked_as lines.marked_as
+  cookware_at None = refl
+  cookware_at (Some d) = refl
+
+  row_fit : (k : Kind) (to : Option ℕ) → ComponentFields line v → PlainFit text line (row_plain k v to)
+  unfolding row_plain PlainFit
+  row_fit k None z = tt
+  row_fit k (Some d) z = z
 
 module _ (w : List ℕ) (f : Follow) {c : ComponentEvent} where
   component_as_lem : (y : ComponentEvent) {r : Plain} → c ≡ y → ComponentTold w y f r → ComponentTold w c f r
   component_as_lem y {r} q g = subst (λ (x : ComponentEvent). ComponentTold w x f r) (sym q) g
 
-  module _ (v : ComponentView) (i : Option Intermediate) {to : Option ℕ} (q : c ≡ component.Ingredient v i) (g : ImplicitFound (take 6156 (drop 0 w)) v.modifiers.reference f.ingredients to) where
-    ingredient_found : (line : List ℕ) → implicit_in w ingredient (views.component_in line v) f.ingredients ≡ to
-    unfolding implicit_in views.component_in views.modifiers_in windows_of
-    ingredient_found line = sym g.is
-
-    pub ingredient_kept : to ≡ None → ComponentTold w c f Copied
-    unfolding plain_as component_event_in component_plain PlainFit
-    ingredient_kept t =
-        component_as_lem (component.Ingredient v i) q
-        (record { at = λ text line. sym (ap (λ (o : Option ℕ). rules.inside (rules.component_event (ingredient_plain (views.component_in line v) (views.opt_intermediate_in i) o)) ∷ []) (ingredient_found line ∙ t) ∙ unfold ingredient_plain in refl); fit = λ text line z. tt })
-
-    pub ingredient_marked : (d : ℕ) → to ≡ Some d → ComponentTold w c f (Marked kinds.Ingredient v)
-    unfolding plain_as component_event_in component_plain PlainFit ComponentEventFields lines.marked_as
-    ingredient_marked d t =
-        component_as_lem (component.Ingredient v i) q
-        (record { at = λ text line. sym (ap (λ (o : Option ℕ). rules.inside (rules.component_event (ingredient_plain (views.component_in line v) (views.opt_intermediate_in i) o)) ∷ []) (ingredient_found line ∙ t) ∙ unfold ingredient_plain in refl); fit = λ text line z. z })
-
-  module _ (v : ComponentView) {to : Option ℕ} (q : c ≡ component.Cookware v) (g : ImplicitFound (take 3084 (drop 6156 w)) v.modifiers.reference f.cookware to) where
-    cookware_found : (line : List ℕ) → implicit_in w cookware (views.component_in line v) f.cookware ≡ to
-    unfolding implicit_in views.component_in views.modifiers_in windows_of
-    cookware_found line = sym g.is
-
-    pub cookware_kept : to ≡ None → ComponentTold w c f Copied
-    unfolding plain_as component_event_in component_plain PlainFit
-    cookware_kept t =
-        component_as_lem (component.Cookware v) q
-        (record { at = λ text line. sym (ap (λ (o : Option ℕ). rules.inside (rules.component_event (rules.cookware_event (marked_as (views.component_in line v) o))) ∷ []) (cookware_found line ∙ t) ∙ unfold marked_as in refl); fit = λ text line z. tt })
-
-    pub cookware_marked : (d : ℕ) → to ≡ Some d → ComponentTold w c f (Marked kinds.Cookware v)
-    unfolding plain_as component_event_in component_plain PlainFit ComponentEventFields lines.marked_as
-    cookware_marked d t =
-        component_as_lem (component.Cookware v) q
-        (record { at = λ text line. sym (ap (λ (o : Option ℕ). rules.inside (rules.component_event (rules.cookware_event (marked_as (views.component_in line v) o))) ∷ []) (cookware_found line ∙ t) ∙ unfold marked_as in refl); fit = λ text line z. z })
+  pub row_told : (k : Kind) (v : ComponentView) (i : Option Intermediate) {r : Plain} → c ≡ kind_event k v i
+      → r ≡ row_plain k v (implicit_row (rows_in (kind_of k) w) v.modifiers.reference (row_next k f)) → ComponentTold w c f r
+  unfolding component_event_in component_plain implicit_in views.component_in views.modifiers_in ComponentEventFields
+  row_told Ingredient v i q e = component_as_lem (component.Ingredient v i) q (rw e (record { at = λ text line. ingredient_at text line v i _; fit = λ text line z. row_fit text line v Ingredient _ z }))
+  row_told Cookware v i q e = component_as_lem (component.Cookware v) q (rw e (record { at = λ text line. cookware_at text line v _; fit = λ text line z. row_fit text line v Cookware _ z }))
 
   pub timer_kept : (s : Span) (n : Option TextView) (a : Option QuantityView) → c ≡ component.Timer s n a → ComponentTold w c f Copied
   unfolding plain_as component_event_in component_plain PlainFit

@@ -6,11 +6,13 @@ use native.Mathlib.Omega.{arith}
 use lib.ListN.{length}
 use Rattle.rules.specs.Event.{Event, meta_event, section_event, start_event, end_event, text_event, component_event, ComponentEvent, ingredient_event, cookware_event, timer_event, between, inside, parser_event}
 use Rattle.rules.specs.Units.{NamedUnit}
-use Rattle.rules.specs.Model.{ingredient, cookware}
+use Rattle.rules.specs.Model.{Kind, ingredient, cookware}
 use Rattle.rules.specs.State.{State, first_state, table_of, next}
 use Rattle.rules.specs.Pass.{on_event}
 use Rattle.events.specs.declared.EventView.{EventView}
 use Rattle.events.specs.Views.{event_in}
+use Rattle.model.specs.Memory.{count_of}
+use Rattle.model.specs.declared.Held.{Held}
 use Rattle.model.specs.declared.Open.{Open}
 use Rattle.model.specs.declared.Open.TheVariants as block
 use Rattle.following.specs.declared.Follow.{Follow}
@@ -87,6 +89,6 @@ pub behind_none : {st : State} {f : Follow} → Behind st f → f.inline + 0 ≤
 unfolding with_inline
 behind_none b = let e : _ ≡ _ = ap (λ (x : Follow). x.inline) b.is in omega (arith, e)
 
-pub behind_few : {st : State} {f : Follow} {a b : ℕ} → Behind st f → length (table_of ingredient st) ≤ a → length (table_of cookware st) ≤ b → a ≤ 512 → b ≤ 256 → Few f
+pub behind_few : {st : State} {f : Follow} (h : Held) → Behind st f → ((k : Kind) → length (table_of k st) ≤ count_of k h) → h.counts.ingredients ≤ 512 → h.counts.cookware ≤ 256 → Few f
 unfolding with_inline follow_of table_of
-behind_few e x y m n = subst Few (sym e.is) (record { ingredients = omega (arith, x, m); cookware = omega (arith, y, n) })
+behind_few h e x m n = subst Few (sym e.is) (record { ingredients = omega (arith, x ingredient, m); cookware = omega (arith, x cookware, n) })

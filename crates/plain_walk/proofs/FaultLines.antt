@@ -1,13 +1,12 @@
 -- The fault of each kind of line.
-use Rattle.std.specs.Prelude.{Option, Result, Ok, Err}
+use Rattle.std.specs.Prelude.{Option, Some, Result, Ok, Err}
 use Prim.Native.Nat.{ℕ}
 use mathlib.Core.Path.{◌≡◌, refl, sym, ap, ◌∙◌, subst}
 use mathlib.Core.List.{List}
 use mathlib.Core.Bool.{Bool, true, false}
-use lib.ListN.{take, drop}
 use Rattle.refusals.specs.Told.{number_told}
 use Rattle.refusals.specs.declared.Reason.{Reason}
-use Rattle.refusals.specs.declared.Reason.TheVariants as reason
+use Rattle.rules.specs.Basic.{pick}
 use Rattle.rules.specs.Modes.{is_components}
 use Rattle.parts.specs.declared.Span.{Span}
 use Rattle.parts.specs.declared.TextView.{TextView}
@@ -23,46 +22,56 @@ use Rattle.events.specs.declared.Inside.{Inside}
 use Rattle.events.specs.declared.Inside.TheVariants as inside
 use Rattle.events.specs.declared.EventView.{EventView}
 use Rattle.events.specs.declared.EventView.TheVariants as event
-use Rattle.model.specs.Memory.{windows_of}
+use Rattle.model.specs.Kinds.{kind_of}
+use Rattle.model.specs.Memory.{rows_in}
+use Rattle.model.specs.declared.Kind.{Kind}
+use Rattle.model.specs.declared.Kind.TheVariants.{Ingredient, Cookware}
 use Rattle.model.specs.declared.Open.{Open}
 use Rattle.model.specs.declared.Open.TheVariants as block
+use Rattle.following.specs.Checked.{define_answer}
 use Rattle.following.specs.declared.Follow.{Follow}
 use Rattle.plain_walk.specs.Rows.{implicit_row, implicit_in, kind_fault, mark_fault_in, component_fault_in, fault_in}
-use Rattle.plain_walk.specs.Faults.{RowNamed, ComponentReady, BlockReady, InsideReady, EventReady, RowFault, StepFault, LineFault}
+use Rattle.plain_walk.specs.Faults.{ComponentReady, BlockReady, InsideReady, EventReady, RowFault, StepFault, LineFault}
 use Rattle.components.specs.declared.Intermediate.{Intermediate}
 use Rattle.parts.specs.declared.QuantityView.{QuantityView}
 use Rattle.sheet.specs.Words.{define_of}
 
 -- ---- 23 of a component in a step
 
+-- a component of a kind, an ingredient with i; and its row
+abbrev pub kind_event : Kind → ComponentView → Option Intermediate → ComponentEvent
+kind_event Ingredient v i = component.Ingredient v i
+kind_event Cookware v i = component.Cookware v
+
+abbrev pub row_next : Kind → Follow → ℕ
+row_next Ingredient f = f.ingredients
+row_next Cookware f = f.cookware
+
 module _ (sheet w : List ℕ) (f : Follow) {c : ComponentEvent} where
-  pub ready_ingredient : (v : ComponentView) (i : Option Intermediate) → c ≡ component.Ingredient v i → ComponentReady sheet w c f → RowNamed sheet (take 6156 (drop 0 w)) f.ingredients
-  unfolding ComponentReady windows_of
-  ready_ingredient v i q z = subst (λ (x : ComponentEvent). ComponentReady sheet w x f) q z
-
-  pub ready_cookware : (v : ComponentView) → c ≡ component.Cookware v → ComponentReady sheet w c f → RowNamed sheet (take 3084 (drop 6156 w)) f.cookware
-  unfolding ComponentReady windows_of
-  ready_cookware v q z = subst (λ (x : ComponentEvent). ComponentReady sheet w x f) q z
-
   -- a component that is y
   step_as : (y : ComponentEvent) {r : Result (Unit {0}) Reason} → c ≡ y → ((line : List ℕ) → number_told r ≡ mark_fault_in w sheet (component_event_in line y) f) → StepFault sheet w c f r
   step_as y q g = record { at = λ line. g line ∙ ap (λ (x : ComponentEvent). mark_fault_in w sheet (component_event_in line x) f) (sym q) }
 
-  pub fault_ingredient : (v : ComponentView) (i : Option Intermediate) {r : Result (Unit {0}) Reason} → c ≡ component.Ingredient v i
-      → RowFault sheet (take 6156 (drop 0 w)) f.ingredients (implicit_row (take 6156 (drop 0 w)) v.modifiers.reference f.ingredients) r → StepFault sheet w c f r
-  unfolding component_event_in mark_fault_in kind_fault implicit_in views.component_in views.modifiers_in windows_of
-  fault_ingredient v i q g = step_as (component.Ingredient v i) q (λ line. g.is)
-
-  pub fault_cookware : (v : ComponentView) {r : Result (Unit {0}) Reason} → c ≡ component.Cookware v
-      → RowFault sheet (take 3084 (drop 6156 w)) f.cookware (implicit_row (take 3084 (drop 6156 w)) v.modifiers.reference f.cookware) r → StepFault sheet w c f r
-  unfolding component_event_in mark_fault_in kind_fault implicit_in views.component_in views.modifiers_in windows_of
-  fault_cookware v q g = step_as (component.Cookware v) q (λ line. g.is)
+  pub fault_row : (k : Kind) (v : ComponentView) (i : Option Intermediate) {r : Result (Unit {0}) Reason} → c ≡ kind_event k v i
+      → RowFault sheet (rows_in (kind_of k) w) (row_next k f) (implicit_row (rows_in (kind_of k) w) v.modifiers.reference (row_next k f)) r → StepFault sheet w c f r
+  unfolding component_event_in mark_fault_in kind_fault implicit_in views.component_in views.modifiers_in
+  fault_row Ingredient v i q g = step_as (component.Ingredient v i) q (λ line. g.is)
+  fault_row Cookware v i q g = step_as (component.Cookware v) q (λ line. g.is)
 
   pub fault_timer : (s : Span) (n : Option TextView) (a : Option QuantityView) → c ≡ component.Timer s n a → StepFault sheet w c f (Ok tt)
   unfolding component_event_in mark_fault_in
   fault_timer s n a q = step_as (component.Timer s n a) q (λ line. refl)
 
 -- ---- a line in a block
+
+-- 22, or 23 where there is one
+listed_22 : (b : Bool) {m : Reason} (x : Option ℕ) → define_answer b ≡ Err m → number_told {A = Unit {0}} (Err m) ≡ pick b (Some 22) x
+listed_22 true x e = ap number_told (sym e)
+listed_22 false x e = cc
+
+not_listed : (b : Bool) {u : Unit {0}} → define_answer b ≡ Ok u → b ≡ false
+not_listed true e = cc
+not_listed false e = refl
 
 module _ (sheet w : List ℕ) (f : Follow) {i : Inside} where
   pub ready_step : (c : ComponentEvent) → i ≡ inside.Component c → f.block ≡ block.Step → InsideReady sheet w i f → ComponentReady sheet w c f
@@ -100,14 +109,14 @@ module _ (sheet w : List ℕ) (f : Follow) {i : Inside} where
     unfolding component_fault_in
     component_mode e = block_as_lem block.TextMode e (λ line. refl)
 
-    module _ (e : f.block ≡ block.Step) {x : Bool} (d : x ≡ is_components (define_of f.define)) where
-      pub component_listed : x ≡ true → LineFault sheet w (event.Inside i) f (Err reason.InComponentsMode)
+    module _ (e : f.block ≡ block.Step) {a : Result (Unit {0}) Reason} (d : a ≡ define_answer (is_components (define_of f.define))) where
+      pub component_listed : {m : Reason} → a ≡ Err m → LineFault sheet w (event.Inside i) f (Err m)
       unfolding component_fault_in
-      component_listed t = block_as_lem block.Step e (λ line. rw (← d, t))
+      component_listed t = block_as_lem block.Step e (λ line. listed_22 (is_components (define_of f.define)) _ (sym d ∙ t))
 
-      pub component_step : x ≡ false → {r : Result (Unit {0}) Reason} → StepFault sheet w c f r → LineFault sheet w (event.Inside i) f r
+      pub component_step : {u : Unit {0}} → a ≡ Ok u → {r : Result (Unit {0}) Reason} → StepFault sheet w c f r → LineFault sheet w (event.Inside i) f r
       unfolding component_fault_in
-      component_step t g = block_as_lem block.Step e (λ line. rw (← d, t) (g.at line))
+      component_step t g = block_as_lem block.Step e (λ line. rw (not_listed (is_components (define_of f.define)) (sym d ∙ t)) (g.at line))
 
 -- ---- every line
 

@@ -10,7 +10,7 @@ use Rattle.rules.specs.Sheet.{lines}
 use Rattle.rules.specs.Event.{Event}
 use Rattle.rules.specs.Units.{NamedUnit}
 use Rattle.rules.specs.Write.{write_line}
-use Rattle.rules.specs.Model.{Kind, ingredient, cookware}
+use Rattle.rules.specs.Model.{Kind}
 use Rattle.rules.specs.State.{State, first_state, table_of, next, going}
 use Rattle.rules.specs.Plain.{Traced, trace_from, plain_event, plain_events, plain_fault, sheet_of}
 use Rattle.rules.specs.Answer.{Answer, declined, fault_or, unless_faulty, events, events_or, read_from, read_sheet}
@@ -97,10 +97,7 @@ module _ (text : List ℕ) (us : List NamedUnit) (flags : ℕ) (sheet w : List �
     -- there are no more components yet than at the end
     pub forming_few : Few f
     forming_few =
-        behind_few d.behind
-        (table_most ingredient d.st d.memory (walk_grown text us flags d.es number d.st d.final d.walking.goes ingredient))
-        (table_most cookware d.st d.memory (walk_grown text us flags d.es number d.st d.final d.walking.goes cookware))
-        d.memory.ingredients d.memory.cookware
+        behind_few h d.behind (λ k. table_most k d.st d.memory (walk_grown text us flags d.es number d.st d.final d.walking.goes k)) d.memory.ingredients d.memory.cookware
 
     -- no line is left
     none_left : length sheet ≤ at → trace number d.st d.es ≡ []

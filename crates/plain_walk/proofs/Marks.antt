@@ -16,17 +16,17 @@ use Rattle.rules.specs.State.{State, table_of}
 use Rattle.rules.specs.Components.{Made, new_entry, made_with, made_by_name}
 use Rattle.rules.specs.Plain.{implicit_of, is_last, implicit_fault, marked_if}
 use Rattle.content.specs.Contents.{kept_in}
-use Rattle.model.specs.Rows as rows
-use Rattle.model.specs.Rows.{row_at, row_of, relation_as, relation_in, entry_as, entry_in, entries_in}
+use Rattle.model.specs.Memory.{rows_in}
+use Rattle.model.specs.Rows.{row_on, own_target, relation_as, relation_in, entry_as, entry_in, entries_in}
 use Rattle.model.specs.Fits.{Fits, EachRow}
 use Rattle.model.specs.declared.Relation as declared
 use Rattle.model.specs.declared.Relation.TheVariants.{Definition, Reference}
 use Rattle.model.specs.declared.Target.TheVariants.{Ingredient, Step, Section}
-use Rattle.lookup.specs.Names.{name_part, same_row, earlier_in, rows_in}
+use Rattle.lookup.specs.Names.{name_part, same_row, earlier_in}
 use Rattle.lookup.proofs.Names.{name_of, rows_search}
-use Rattle.plain_walk.specs.Rows.{refers_as, fault_as, marked_as, implicit_row, last_row, implicit_in, kind_fault}
+use Rattle.plain_walk.specs.Rows.{fault_as, marked_as, implicit_row, last_row, implicit_in, kind_fault}
 use Rattle.plain_walk.proofs.Grown.{bare_relation, bare, index_of, bare_search}
-use Rattle.plain_walk.proofs.Added.{HasRow}
+use Rattle.plain_walk.proofs.Added.{MadeRow}
 
 -- ---- the component that a relation refers to
 
@@ -42,8 +42,8 @@ unfolding target_index bare_relation
 target_bare (definition b by) = refl
 target_bare (reference t j) = refl
 
-target_row : (k : Kind) (r : declared.Relation) (b : Bool) (i : ℕ) (by : List ℕ) → target_index (relation_as k r b i by) ≡ refers_as r i
-unfolding target_index relation_as refers_as target_of
+target_row : (k : Kind) (r : declared.Relation) (b : Bool) (i : ℕ) (by : List ℕ) → target_index (relation_as k r b i by) ≡ own_target r i
+unfolding target_index relation_as own_target target_of
 target_row k Definition b i by = refl
 target_row ingredient (Reference Ingredient) b i by = refl
 target_row cookware (Reference Ingredient) b i by = refl
@@ -80,10 +80,10 @@ unfolding same_name_in fits
 any_opt f o p [] = refl
 any_opt f o p (e ∷ es) = ap (λ (x : Option Earlier). pick (fits f true o e) (Some (record { index = length es; entry = e })) x) (any_opt f o p es)
 
-index_row : (k : Kind) (sheet rs pairs : List ℕ) (m : ℕ) (o : Option ℕ) → on_some index_of (on_some (earlier_in k sheet rs pairs m) o) ≡ o
+index_row : (k : Kind) (sheet rs : List ℕ) (by : ℕ → List ℕ) (o : Option ℕ) → on_some index_of (on_some (earlier_in k sheet rs by) o) ≡ o
 unfolding on_some index_of earlier_in
-index_row k sheet rs pairs m None = refl
-index_row k sheet rs pairs m (Some i) = refl
+index_row k sheet rs by None = refl
+index_row k sheet rs by (Some i) = refl
 
 fault_by : (d : Earlier) (last : Option Earlier) → pick (is_last d last) None (Some 23) ≡ fault_as (Some d.index) (on_some index_of last)
 unfolding is_last fault_as on_some index_of
@@ -97,37 +97,37 @@ fault_as_lem new table (Some d) = fault_by d (same_name_of true new table)
 
 -- ---- a component with its row
 
-module _ (units : List NamedUnit) (flags : ℕ) (k : Kind) (c : Component) (st : State) (sheet rs pairs : List ℕ) (m n : ℕ) where
+module _ (units : List NamedUnit) (flags : ℕ) (k : Kind) (c : Component) (st : State) (sheet rs : List ℕ) (by : ℕ → List ℕ) (n : ℕ) where
   abbrev made : Made
   made = made_by_name units flags k c st
 
   abbrev at : ℕ
   at = length (table_of k st)
 
-  module _ (h : HasRow k sheet rs pairs m n made (table_of k st)) where
-    refers_row : refers_as (row_of (row_at 12 rs at)).relation.relation (row_of (row_at 12 rs at)).relation.index ≡ on_some index_of made.refers_to
+  module _ (h : MadeRow k sheet rs by n made (table_of k st)) where
+    refers_row : own_target (row_on rs at).relation.relation (row_on rs at).relation.index ≡ on_some index_of made.refers_to
     refers_row =
-        sym (target_row k (row_of (row_at 12 rs at)).relation.relation (row_of (row_at 12 rs at)).relation.in_step (row_of (row_at 12 rs at)).relation.index (rows.referrers_in pairs at m))
-        ∙ unfold entry_in entry_as set_relation relation_in in (sym (bare_target (entry_in k sheet rs pairs m at))
+        sym (target_row k (row_on rs at).relation.relation (row_on rs at).relation.in_step (row_on rs at).relation.index (by at))
+        ∙ unfold entry_in entry_as set_relation relation_in in (sym (bare_target (entry_in k sheet rs by at))
         ∙ ap (λ (e : Entry). target_index e.relation) h.entry
         ∙ bare_target made.entry
         ∙ unfold made_by_name made_with in target_made k made.refers_to (new_entry k c st) (target_new k c st))
 
-    name_row : EachRow (Fits k sheet) rs n → kept_in (name_part sheet (row_of (row_at 12 rs at))) ≡ (new_entry k c st).name
+    name_row : EachRow (Fits k sheet) rs n → kept_in (name_part sheet (row_on rs at)) ≡ (new_entry k c st).name
     name_row z =
         name_of (z.at at h.low)
-        ∙ unfold entry_in entry_as set_relation in (sym (bare_name (entry_in k sheet rs pairs m at)) ∙ ap (λ (e : Entry). e.name) h.entry
+        ∙ unfold entry_in entry_as set_relation in (sym (bare_name (entry_in k sheet rs by at)) ∙ ap (λ (e : Entry). e.name) h.entry
         ∙ bare_name made.entry
         ∙ unfold made_by_name made_with in made_name k made.refers_to (new_entry k c st))
 
     last_row_lem : EachRow (Fits k sheet) rs n
-        → same_row sheet (fold_name (kept_in (name_part sheet (row_of (row_at 12 rs at))))) true false rs at ≡ on_some index_of (same_name_of true (new_entry k c st) (table_of k st))
+        → same_row sheet (fold_name (kept_in (name_part sheet (row_on rs at)))) true false rs at ≡ on_some index_of (same_name_of true (new_entry k c st) (table_of k st))
     unfolding same_name_of
     last_row_lem z =
         ap (λ (x : List ℕ). same_row sheet (fold_name x) true false rs at) (name_row z)
-        ∙ sym (index_row k sheet rs pairs m (same_row sheet (fold_name (new_entry k c st).name) true false rs at))
-        ∙ ap (on_some index_of) (rows_search k sheet rs pairs m (fold_name (new_entry k c st).name) true false at (record { at = λ i l. z.at i (omega (arith, l, h.low)) }))
-        ∙ sym (bare_search (fold_name (new_entry k c st).name) true false (entries_in k sheet rs pairs m at))
+        ∙ sym (index_row k sheet rs by (same_row sheet (fold_name (new_entry k c st).name) true false rs at))
+        ∙ ap (on_some index_of) (rows_search k sheet rs by (fold_name (new_entry k c st).name) true false at (record { at = λ i l. z.at i (omega (arith, l, h.low)) }))
+        ∙ sym (bare_search (fold_name (new_entry k c st).name) true false (entries_in k sheet rs by at))
         ∙ ap (λ (x : List Entry). on_some index_of (same_name_in (fold_name (new_entry k c st).name) true false x)) h.before
         ∙ bare_search (fold_name (new_entry k c st).name) true false (table_of k st)
         ∙ ap (on_some index_of) (any_opt (fold_name (new_entry k c st).name) false (new_entry k c st).modifiers.opt (table_of k st))
@@ -139,11 +139,11 @@ marked_as_lem c (Some d) = refl
 
 -- ---- any component's line: `to` is what it refers to
 
-module _ (units : List NamedUnit) (flags : ℕ) (k : Kind) (c : Component) (st : State) (sheet w pairs : List ℕ) (m n : ℕ) (to : Option Earlier) where
+module _ (units : List NamedUnit) (flags : ℕ) (k : Kind) (c : Component) (st : State) (sheet w : List ℕ) (by : ℕ → List ℕ) (n : ℕ) (to : Option Earlier) where
   -- of a line without REF: its row, and that `to` is found by name
   pub record Named : Type 0 where
-    pub row : HasRow k sheet (rows_in k w) pairs m n (made_by_name units flags k c st) (table_of k st)
-    pub by : to ≡ (made_by_name units flags k c st).refers_to
+    pub row : MadeRow k sheet (rows_in k w) by n (made_by_name units flags k c st) (table_of k st)
+    pub named : to ≡ (made_by_name units flags k c st).refers_to
 
   module _ (h : c.modifiers.ref ≡ false → Named) where
     pub implicit_row_lem : on_some index_of (implicit_of c to) ≡ implicit_in w k c (length (table_of k st))
@@ -152,9 +152,9 @@ module _ (units : List NamedUnit) (flags : ℕ) (k : Kind) (c : Component) (st :
       where
         go : (b : Bool) → c.modifiers.ref ≡ b
             → on_some index_of (pick b None to)
-            ≡ pick b None (refers_as (row_of (row_at 12 (rows_in k w) (length (table_of k st)))).relation.relation (row_of (row_at 12 (rows_in k w) (length (table_of k st)))).relation.index)
+            ≡ pick b None (own_target (row_on (rows_in k w) (length (table_of k st))).relation.relation (row_on (rows_in k w) (length (table_of k st))).relation.index)
         go true q = unfold on_some in refl
-        go false q = ap (on_some index_of) (h q).by ∙ sym (refers_row units flags k c st sheet (rows_in k w) pairs m n (h q).row)
+        go false q = ap (on_some index_of) (h q).named ∙ sym (refers_row units flags k c st sheet (rows_in k w) by n (h q).row)
 
     pub marked_row : marked_if c (implicit_of c to) ≡ marked_as c (implicit_in w k c (length (table_of k st)))
     marked_row = marked_as_lem c (implicit_of c to) ∙ ap (marked_as c) implicit_row_lem
@@ -173,4 +173,4 @@ module _ (units : List NamedUnit) (flags : ℕ) (k : Kind) (c : Component) (st :
         go true q = unfold implicit_in implicit_row fault_as in rw q
         go false q =
             unfold last_row in
-            ap (fault_as (implicit_in w k c (length (table_of k st)))) (sym (last_row_lem units flags k c st sheet (rows_in k w) pairs m n (h q).row z))
+            ap (fault_as (implicit_in w k c (length (table_of k st)))) (sym (last_row_lem units flags k c st sheet (rows_in k w) by n (h q).row z))

@@ -18,13 +18,10 @@ use Rattle.rules.specs.Components.{Made, made_by_name, make_ingredient, make_coo
 use Rattle.rules.specs.Pass.{on_component, in_step_block, on_inside, on_event}
 use Rattle.rules.specs.Plain.{implicit_of, marked_if, unless_listed, implicit_ingredient, implicit_cookware, marked_component, in_plain_step, mark_fault, component_fault, plain_fault, plain_between, plain_inside, plain_event}
 use Rattle.model.specs.Blank.{blank, blank_tables}
-use Rattle.model.specs.Rows.{entries_in}
-use Rattle.model.specs.Memory.{state_in, state_of}
-use Rattle.model.specs.Fits.{Fits, EachRow, AllFit}
+use Rattle.model.specs.Memory.{count_of, rows_in, referrers_of, table_in}
 use Rattle.model.specs.declared.Held.{Held}
 use Rattle.model.proofs.Tables.{entries_length}
-use Rattle.memory.specs.Pushes.{count_of, pairs_of}
-use Rattle.lookup.specs.Names.{rows_in, pairs_in}
+use Rattle.model.proofs.Windows.{table_is}
 use Rattle.following.specs.declared.Follow.{Follow}
 use Rattle.following.specs.Drawn.{kind_of, follow_of}
 use Rattle.following.specs.Follow.{with_inline}
@@ -33,7 +30,7 @@ use Rattle.plain_walk.specs.Rows.{marked_as, implicit_row, implicit_in, mark_fau
 use Rattle.plain_walk.specs.Lines.{Behind, unless_dropped, between_plain, ingredient_plain, component_plain, step_plain, inside_plain, plain_in}
 use Rattle.plain_walk.specs.Walk.{Final}
 use Rattle.plain_walk.proofs.Grown.{bare, bare_length, Grown}
-use Rattle.plain_walk.proofs.Added.{ingredient_pushed, ingredient_refused, ingredient_made, cookware_pushed, HasRow, has_row}
+use Rattle.plain_walk.proofs.Added.{ingredient_pushed, ingredient_refused, ingredient_made, cookware_pushed, MadeRow, made_row}
 use Rattle.plain_walk.proofs.Marks.{Named, marked_row, fault_row}
 
 -- ---- work memory at the end
@@ -43,19 +40,10 @@ unfolding table_of blank blank_tables
 blank_table ingredient st = refl
 blank_table cookware st = refl
 
-table_rows : (k : Kind) (sheet w : List ℕ) (h : Held) → table_of k (state_in sheet w h) ≡ entries_in k sheet (rows_in k w) (pairs_in k w) (pairs_of k h) (count_of k h)
-unfolding table_of state_in state_of
-table_rows ingredient sheet w h = refl
-table_rows cookware sheet w h = refl
-
-fit_rows : (k : Kind) {sheet w : List ℕ} {h : Held} → AllFit sheet w h → EachRow (Fits k sheet) (rows_in k w) (count_of k h)
-fit_rows ingredient z = z.ingredients
-fit_rows cookware z = z.cookware
-
 -- no table is longer than at the end
 pub table_most : (k : Kind) {sheet w : List ℕ} {h : Held} (st : State) {final : State} → Final sheet w h final → Grown (table_of k st) (table_of k final) → length (table_of k st) ≤ count_of k h
 table_most k {sheet} {w} {h} st {final} z g =
-    let n : length (table_of k final) ≡ count_of k h = ap length (sym (blank_table k final) ∙ (ap (table_of k) (sym z.memory) ∙ table_rows k sheet w h)) ∙ entries_length k sheet (rows_in k w) (pairs_in k w) (pairs_of k h) (count_of k h) in
+    let n : length (table_of k final) ≡ count_of k h = ap length (sym (blank_table k final) ∙ (ap (table_of k) (sym z.memory) ∙ table_is k sheet w h)) ∙ entries_length k sheet (rows_in k w) (referrers_of k w h) (count_of k h) in
     let m : length (each bare (table_of k final)) ≡ length g.more + length (each bare (table_of k st)) = ap length g.is ∙ length-append g.more (each bare (table_of k st)) in
     omega (arith, n, m, bare_length (table_of k final), bare_length (table_of k st))
 
@@ -69,28 +57,28 @@ module _ (text : List ℕ) (us : List NamedUnit) (flags : ℕ) (sheet w : List �
   f = with_inline 0 (follow_of st)
 
   abbrev Row : Kind → Made → Type 0
-  Row k m = HasRow k sheet (rows_in k w) (pairs_in k w) (pairs_of k h) (count_of k h) m (table_of k st)
+  Row k m = MadeRow k sheet (rows_in k w) (referrers_of k w h) (count_of k h) m (table_of k st)
 
   row_at_lem : (k : Kind) (m : Made) → table_of k after ≡ pushed m (table_of k st) → Row k m
   row_at_lem k m q =
-      has_row k sheet (rows_in k w) (pairs_in k w) (pairs_of k h) (count_of k h) m (table_of k st)
-      (subst (λ (es : List Entry). Grown es (entries_in k sheet (rows_in k w) (pairs_in k w) (pairs_of k h) (count_of k h))) q
-      (subst (λ (fs : List Entry). Grown (table_of k after) fs) (sym (blank_table k final) ∙ (ap (table_of k) (sym z.memory) ∙ table_rows k sheet w h)) (g k)))
+      made_row k sheet (rows_in k w) (referrers_of k w h) (count_of k h) m (table_of k st)
+      (subst (λ (es : List Entry). Grown es (table_in k sheet w h)) q
+      (subst (λ (fs : List Entry). Grown (table_of k after) fs) (sym (blank_table k final) ∙ (ap (table_of k) (sym z.memory) ∙ table_is k sheet w h)) (g k)))
 
   abbrev NamedBy : Kind → Component → Option Earlier → Type 0
-  NamedBy k c to = Named us flags k c st sheet w (pairs_in k w) (pairs_of k h) (count_of k h) to
+  NamedBy k c to = Named us flags k c st sheet w (referrers_of k w h) (count_of k h) to
 
   -- ---- components in a step
 
   ingredient_named : (c : Component) (i : Option Intermediate) (items : List Item) → on_component us flags (ingredient_event c i) items st ≡ next after → c.modifiers.ref ≡ false
       → NamedBy ingredient c (make_ingredient us flags c i st).refers_to
   ingredient_named c None items q r =
-      record { row = row_at_lem ingredient (made_by_name us flags ingredient c st) (ingredient_pushed us flags c None items st after q r); by = unfold make_ingredient in refl }
+      record { row = row_at_lem ingredient (made_by_name us flags ingredient c st) (ingredient_pushed us flags c None items st after q r); named = unfold make_ingredient in refl }
   ingredient_named c (Some i) items q r = ingredient_refused us flags c i items st after q r
 
   cookware_named : (c : Component) (items : List Item) → on_component us flags (cookware_event c) items st ≡ next after → NamedBy cookware c (make_cookware us flags c st).refers_to
   cookware_named c items q =
-      record { row = row_at_lem cookware (made_by_name us flags cookware c st) (cookware_pushed us flags c items st after q); by = unfold make_cookware in refl }
+      record { row = row_at_lem cookware (made_by_name us flags cookware c st) (cookware_pushed us flags c items st after q); named = unfold make_cookware in refl }
 
   intermediate_kept : (c : Component) (i : Intermediate) (items : List Item) (to : Option Earlier) (n : ℕ) → on_component us flags (ingredient_event c (Some i)) items st ≡ next after
       → ingredient_event (marked_if c (implicit_of c to)) (Some i) ≡ ingredient_plain c (Some i) (implicit_in w ingredient c n)
@@ -104,22 +92,22 @@ module _ (text : List ℕ) (us : List NamedUnit) (flags : ℕ) (sheet w : List �
   unfolding marked_component component_plain with_inline follow_of implicit_ingredient implicit_cookware
   component_marked (ingredient_event c None) items q =
       unfold table_of in
-      (ap (λ (x : Component). ingredient_event x None) (marked_row us flags ingredient c st sheet w (pairs_in ingredient w) (pairs_of ingredient h) (count_of ingredient h) (make_ingredient us flags c None st).refers_to (ingredient_named c None items q))
+      (ap (λ (x : Component). ingredient_event x None) (marked_row us flags ingredient c st sheet w (referrers_of ingredient w h) (count_of ingredient h) (make_ingredient us flags c None st).refers_to (ingredient_named c None items q))
       ∙ ingredient_alone c (implicit_in w ingredient c (length (table_of ingredient st))))
   component_marked (ingredient_event c (Some i)) items q = intermediate_kept c i items (make_ingredient us flags c (Some i) st).refers_to (length st.tables.ingredients) q
   component_marked (cookware_event c) items q =
       unfold table_of in
-      ap (λ (x : Component). cookware_event x) (marked_row us flags cookware c st sheet w (pairs_in cookware w) (pairs_of cookware h) (count_of cookware h) (make_cookware us flags c st).refers_to (λ r. cookware_named c items q))
+      ap (λ (x : Component). cookware_event x) (marked_row us flags cookware c st sheet w (referrers_of cookware w h) (count_of cookware h) (make_cookware us flags c st).refers_to (λ r. cookware_named c items q))
   component_marked (timer_event s n a) items q = refl
 
   mark_fault_lem : (c : ComponentEvent) (items : List Item) → on_component us flags c items st ≡ next after → mark_fault us flags st c ≡ mark_fault_in w sheet c f
   unfolding mark_fault mark_fault_in with_inline follow_of implicit_ingredient implicit_cookware
   mark_fault_lem (ingredient_event c i) items q =
       unfold table_of in
-      fault_row us flags ingredient c st sheet w (pairs_in ingredient w) (pairs_of ingredient h) (count_of ingredient h) (make_ingredient us flags c i st).refers_to (ingredient_named c i items q) (fit_rows ingredient z.fit)
+      fault_row us flags ingredient c st sheet w (referrers_of ingredient w h) (count_of ingredient h) (make_ingredient us flags c i st).refers_to (ingredient_named c i items q) (z.fit.rows ingredient)
   mark_fault_lem (cookware_event c) items q =
       unfold table_of in
-      fault_row us flags cookware c st sheet w (pairs_in cookware w) (pairs_of cookware h) (count_of cookware h) (make_cookware us flags c st).refers_to (λ r. cookware_named c items q) (fit_rows cookware z.fit)
+      fault_row us flags cookware c st sheet w (referrers_of cookware w h) (count_of cookware h) (make_cookware us flags c st).refers_to (λ r. cookware_named c items q) (z.fit.rows cookware)
   mark_fault_lem (timer_event s n a) items q = refl
 
   component_row : (c : ComponentEvent) (items : List Item) → on_component us flags c items st ≡ next after → RowOf c f h

@@ -26,25 +26,24 @@ use Rattle.content.proofs.Lines.{line_without}
 use Rattle.events.specs.Views.{component_event_in, inside_in, event_in}
 use Rattle.events.specs.declared.ComponentEvent.{ComponentEvent}
 use Rattle.events.specs.declared.ComponentEvent.TheVariants as component
-use Rattle.events.specs.declared.Inside.{Inside}
 use Rattle.events.specs.declared.Inside.TheVariants as inside
 use Rattle.events.specs.declared.EventView.{EventView}
 use Rattle.events.specs.declared.EventView.TheVariants as event
 use Rattle.reading.proofs.Passes.{Rest, rest_some}
 use Rattle.known_events.specs.Known.{KnownEvent}
-use Rattle.model.specs.Fits.{Fits, EachRow}
+use Rattle.model.specs.Memory.{rows_in, count_of}
 use Rattle.model.specs.declared.Open.{Open}
 use Rattle.model.specs.declared.Open.TheVariants as block
 use Rattle.model.specs.declared.Held.{Held}
-use Rattle.memory.proofs.Whole.{long_ingredients, long_cookware}
-use Rattle.lookup.specs.Names.{NamesInside}
+use Rattle.model.proofs.Windows.{has_row}
+use Rattle.memory.proofs.Reading.{rows_there}
 use Rattle.lookup.proofs.Names.{names_inside}
 use Rattle.following.specs.declared.Follow.{Follow}
 use Rattle.following.specs.Drawn.{first_follow}
 use Rattle.following.specs.Follow.{Followed, Room}
 use Rattle.plain_walk.specs.Rows.{RowOf, RowIn, RowFor}
 use Rattle.plain_walk.specs.Lines.{plain_in}
-use Rattle.plain_walk.specs.Faults.{ComponentReady, BlockReady, InsideReady, EventReady, LineFault}
+use Rattle.plain_walk.specs.Faults.{RowNamed, ComponentReady, BlockReady, InsideReady, EventReady, LineFault}
 use Rattle.plain_walk.specs.Becomes.{PlainFit, Few, EventTold, PlainWritten}
 use Rattle.plain_walk.specs.Walk.{Final, PassDone, FormedAs, FormWritten}
 use Rattle.plain_walk.specs.declared.Plain.{Plain}
@@ -55,15 +54,13 @@ use Rattle.plain_walk.proofs.Writes.{put_none}
 -- ---- a component's line in a step has its row
 
 module _ {sheet w : List ℕ} {h : Held} {final : State} (z : Final sheet w h final) where
-  names_to : (k : Kind) {rows : List ℕ} {n m : ℕ} → EachRow (Fits k sheet) rows m → n < m → NamesInside sheet rows (n + 1)
-  names_to k g l = names_inside (record { at = λ i x. g.at i (omega (arith, x, l)) })
+  ready_row : (k : Kind) {n : ℕ} → n < count_of k h → RowNamed sheet (rows_in k w) n
+  ready_row k l = record { row = has_row (rows_there k z.sound) l; names = names_inside (record { at = λ i x. (z.fit.rows k).at i (omega (arith, x, l)) }) }
 
   ready_component : (line : List ℕ) (c : ComponentEvent) (f : Follow) → RowOf (component_event_in line c) f h → ComponentReady sheet w c f
   unfolding RowOf component_event_in ComponentReady
-  ready_component line (component.Ingredient v i) f l =
-      record { below = omega (arith, l, z.ingredients); long = omega (arith, l, z.ingredients, long_ingredients z.sound); names = names_to ingredient z.fit.ingredients l }
-  ready_component line (component.Cookware v) f l =
-      record { below = omega (arith, l, z.cookware); long = omega (arith, l, z.cookware, long_cookware z.sound); names = names_to cookware z.fit.cookware l }
+  ready_component line (component.Ingredient v i) f l = ready_row ingredient l
+  ready_component line (component.Cookware v) f l = ready_row cookware l
   ready_component line (component.Timer s n q) f l = tt
 
   ready_block : (line : List ℕ) (c : ComponentEvent) (b : Open) (f : Follow) → RowIn (component_event_in line c) b f h → BlockReady sheet w c b f

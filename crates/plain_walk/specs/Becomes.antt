@@ -1,5 +1,5 @@
 -- What a line becomes, as the code tells it, and what its writer leaves.
-use Rattle.std.specs.Prelude.{ℕ, ◌+◌, ◌≤◌, ◌≡◌, List, [], ◌∷◌, true, length, Some}
+use Rattle.std.specs.Prelude.{ℕ, ◌+◌, ◌≤◌, ◌≡◌, List, [], ◌∷◌, true, length, Option, None, Some}
 use Rattle.rules.specs.Basic.{lf, all}
 use Rattle.rules.specs.Words.{text_kind}
 use Rattle.rules.specs.Event.{start_event, end_event, text_event, component_event, Event, between, inside, spans_of}
@@ -10,6 +10,7 @@ use Rattle.rules.proofs.Fields.{Without}
 use Rattle.output.specs.Put.{Put}
 use Rattle.parts.specs.Views.{span_in}
 use Rattle.components.specs.Views.{component_in}
+use Rattle.components.specs.declared.ComponentView.{ComponentView}
 use Rattle.events.specs.Views.{between_in, component_event_in, inside_in, event_in}
 use Rattle.sheet.specs.declared.BlockKind.{BlockKind}
 use Rattle.events.specs.declared.Between.{Between}
@@ -19,6 +20,7 @@ use Rattle.events.specs.declared.Inside.{Inside}
 use Rattle.events.specs.declared.EventView.{EventView}
 use Rattle.known_events.specs.Fields.{ComponentFields, ComponentEventFields, InsideFields, EventFields}
 use Rattle.model.specs.Kinds.{kind_of}
+use Rattle.model.specs.declared.Kind.{Kind}
 use Rattle.model.specs.declared.Open.{Open}
 use Rattle.model.specs.declared.Open.TheVariants as block
 use Rattle.following.specs.declared.Follow.{Follow}
@@ -59,6 +61,11 @@ pub record BetweenTold (flags : ℕ) (line : List ℕ) (b : Between) (f : Follow
 -- `start`
 pub record StartTold (k : BlockKind) (f : Follow) (r : Plain) : Type 0 where
   pub at : (flags : ℕ) (line : List ℕ) → BetweenTold flags line (start.Start k) f r
+
+-- a component of a kind, by what its row refers to without REF
+unfoldable pub row_plain : Kind → ComponentView → Option ℕ → Plain
+row_plain k v None = Copied
+row_plain k v (Some d) = Marked k v
 
 -- a component in a step that is kept
 pub record ComponentTold (w : List ℕ) (c : ComponentEvent) (f : Follow) (r : Plain) : Type 0 where

@@ -1,5 +1,5 @@
 -- What the functions that look for a fault are given, and what they answer.
-use Rattle.std.specs.Prelude.{ℕ, ◌+◌, ◌*◌, ◌≤◌, ◌<◌, ◌≡◌, List, Bool, length, Option, Result}
+use Rattle.std.specs.Prelude.{ℕ, ◌+◌, ◌≡◌, List, Bool, Option, Result}
 use Rattle.rules.specs.Model.{ingredient, cookware}
 use Rattle.refusals.specs.Told.{number_told}
 use Rattle.refusals.specs.declared.Reason.{Reason}
@@ -10,16 +10,17 @@ use Rattle.events.specs.declared.Inside.{Inside}
 use Rattle.events.specs.declared.Inside.TheVariants as inside
 use Rattle.events.specs.declared.EventView.{EventView}
 use Rattle.events.specs.declared.EventView.TheVariants as event
+use Rattle.model.specs.Rows.{HasRow}
+use Rattle.model.specs.Memory.{rows_in}
 use Rattle.model.specs.declared.Open.{Open}
 use Rattle.model.specs.declared.Open.TheVariants as block
-use Rattle.lookup.specs.Names.{NamesInside, rows_in}
+use Rattle.lookup.specs.Names.{NamesInside}
 use Rattle.following.specs.declared.Follow.{Follow}
 use Rattle.plain_walk.specs.Rows.{implicit_row, last_row, fault_as, mark_fault_in, fault_in}
 
 -- row n is there, and it and those before it have their names in the sheet
 pub record RowNamed (sheet rows : List ℕ) (n : ℕ) : Type 0 where
-  pub below : n < 513
-  pub long : n * 12 + 12 ≤ length rows
+  pub row : HasRow rows n
   pub names : NamesInside sheet rows (n + 1)
 
 -- ---- a component's line in a step has its row

@@ -7,23 +7,14 @@ use Rattle.rules.specs.Model.{Kind, ingredient, cookware}
 use Rattle.rules.specs.Modes.{is_components}
 use Rattle.rules.specs.Plain.{mark_ref}
 use Rattle.content.specs.Contents.{kept_in}
-use Rattle.model.specs.Rows.{row_at, row_of}
-use Rattle.model.specs.declared.Relation.{Relation}
-use Rattle.model.specs.declared.Relation.TheVariants.{Definition, Reference}
-use Rattle.model.specs.declared.Target.TheVariants.{Ingredient, Step, Section}
+use Rattle.model.specs.Rows.{row_on, own_target}
+use Rattle.model.specs.Memory.{rows_in}
 use Rattle.model.specs.declared.Open.{Open}
 use Rattle.model.specs.declared.Open.TheVariants as block
 use Rattle.model.specs.declared.Held.{Held}
-use Rattle.lookup.specs.Names.{name_part, same_row, rows_in}
+use Rattle.lookup.specs.Names.{name_part, same_row}
 use Rattle.following.specs.declared.Follow.{Follow}
 use Rattle.sheet.specs.Words.{define_of}
-
--- the component of its kind that a row refers to
-unfoldable pub refers_as : Relation → ℕ → Option ℕ
-refers_as Definition i = None
-refers_as (Reference Ingredient) i = Some i
-refers_as (Reference Step) i = None
-refers_as (Reference Section) i = None
 
 -- REF added where a line refers without it
 unfoldable pub marked_as : Component → Option ℕ → Component
@@ -41,11 +32,11 @@ fault_as (Some d) (Some l) = pick (eqb d l) None (Some 23)
 module _ (rows : List ℕ) where
   -- what row n refers to, where its line has no REF
   unfoldable pub implicit_row : Bool → ℕ → Option ℕ
-  implicit_row ref n = pick ref None (refers_as (row_of (row_at 12 rows n)).relation.relation (row_of (row_at 12 rows n)).relation.index)
+  implicit_row ref n = pick ref None (own_target (row_on rows n).relation.relation (row_on rows n).relation.index)
 
   -- the last row before row n that has its name, and no REF
   unfoldable pub last_row : List ℕ → ℕ → Option ℕ
-  last_row sheet n = same_row sheet (fold_name (kept_in (name_part sheet (row_of (row_at 12 rows n))))) true false rows n
+  last_row sheet n = same_row sheet (fold_name (kept_in (name_part sheet (row_on rows n)))) true false rows n
 
 -- ---- the rows in work memory
 

@@ -1,7 +1,7 @@
 // The plain form of a sheet that the pass accepted: a second walk, over the component rows that the pass left in work memory.
 #![tactic(auto)]
 
-ghost use Rattle.std.specs.Prelude.{◌≡◌, true, ◌&&◌, ◌+◌, ◌*◌, ◌≤◌, ◌<◌, length, Some};
+ghost use Rattle.std.specs.Prelude.{◌≡◌, true, ◌&&◌, ◌≤◌, ◌<◌, length, Some};
 ghost use Rattle.rules.specs.Utf8.{is_utf8};
 ghost use Rattle.rules.specs.Units.{read_units};
 ghost use Rattle.rules.specs.Answer.{units_or};
@@ -10,10 +10,13 @@ ghost use Rattle.rules.specs.Plain.{is_mode_key};
 ghost use Rattle.parts.specs.Views.{text_in, TextWithin};
 ghost use Rattle.events.specs.declared.EventView.TheVariants as event;
 ghost use Rattle.events.specs.Views.{BetweenWithin, EventWithin};
+ghost use Rattle.model.specs.Kinds.{kind_of, room_of};
+ghost use Rattle.model.specs.Memory.{rows_in};
+ghost use Rattle.model.specs.Rows.{HasRow};
 ghost use Rattle.model.specs.declared.Open.TheVariants as block;
 ghost use Rattle.plain_walk.specs.Rows.{implicit_row};
 ghost use Rattle.plain_walk.specs.Faults.{RowNamed, ComponentReady, InsideReady, EventReady, ImplicitFound, RowFault, StepFault, LineFault};
-ghost use Rattle.plain_walk.specs.Becomes.{PlainFit, Few, StartTold, BetweenTold, ComponentTold, BlockTold, TextTold, EventTold, PlainWritten};
+ghost use Rattle.plain_walk.specs.Becomes.{PlainFit, Few, row_plain, StartTold, BetweenTold, ComponentTold, BlockTold, TextTold, EventTold, PlainWritten};
 ghost use Rattle.plain_walk.specs.Walk.{PassDone, FormWritten};
 
 use components::ComponentView;
@@ -31,17 +34,13 @@ use utf8::Utf8;
 
 // What row n refers to, of its own kind, where its line has no REF.
 fn implicit_row(rows: &[u32], n: usize, reference: bool) -> Option<usize>
-    requires { (n < 513) × (n * 12 + 12 ≤ length rows.now) }
+    requires { HasRow rows.now n }
     ensures { ImplicitFound rows.now reference n result }
 {
     if reference {
         return None;
     }
-    let at = n * 12;
-    if rows[at + 9] == 1 {
-        return Some(rows[at + 10] as usize);
-    }
-    None
+    model::row_target(rows, n)
 }
 
 // 23, where row n refers to the row d without REF.
@@ -49,10 +48,8 @@ fn check_last(sheet: &[u8], rows: &[u32], n: usize, d: usize) -> Result<(), Reas
     requires { RowNamed sheet.now rows.now n }
     ensures { RowFault sheet.now rows.now n (Some d) result }
 {
-    let at = n * 12;
-    let a = rows[at + 2] as usize;
-    let e = rows[at + 3] as usize;
-    match lookup::same_name_before(sheet, rows, n, &sheet[a..e], true, false) {
+    let (from, to) = model::row_name(rows, n);
+    match lookup::same_name_before(sheet, rows, n, &sheet[from..to], true, false) {
         None => Err(Reason::NotLast),
         Some(l) => {
             if l == d {
@@ -83,12 +80,12 @@ fn check_mark(sheet: &[u8], stored: &Stored, c: ComponentEvent, f: Follow) -> Re
         ComponentEvent::Ingredient(v, i) => {
             let n = f.ingredients as usize;
             let m = v.modifiers;
-            check_row(sheet, &stored.words[0..6156], n, m.reference)
+            check_row(sheet, stored.rows(Kind::Ingredient), n, m.reference)
         }
         ComponentEvent::Cookware(v) => {
             let n = f.cookware as usize;
             let m = v.modifiers;
-            check_row(sheet, &stored.words[6156..9240], n, m.reference)
+            check_row(sheet, stored.rows(Kind::Cookware), n, m.reference)
         }
         ComponentEvent::Timer(s, n, q) => Ok(()),
     }
@@ -108,9 +105,7 @@ fn check_inside(sheet: &[u8], stored: &Stored, i: Inside, f: Follow) -> Result<(
                 Open::Nothing => Ok(()),
                 Open::Step => {
                     let define = f.define;
-                    if blocks::is_components(define) {
-                        return Err(Reason::InComponentsMode);
-                    }
+                    following::check_define(define)?;
                     check_mark(sheet, stored, c, f)
                 }
                 Open::Text => Ok(()),
@@ -190,6 +185,18 @@ fn between_plain(flags: u32, line: &[u8], b: Between, f: Follow) -> Plain
     }
 }
 
+// A component of a kind, in row n.
+fn row_plain(stored: &Stored, kind: Kind, v: ComponentView, n: usize) -> Plain
+    requires { n < room_of (kind_of kind) }
+    ensures { result ≡ row_plain kind v (implicit_row (rows_in (kind_of kind) stored.now.words.now) v.modifiers.reference n) }
+{
+    let m = v.modifiers;
+    match implicit_row(stored.rows(kind), n, m.reference) {
+        None => Plain::Copied,
+        Some(d) => Plain::Marked(kind, v),
+    }
+}
+
 // A component in a step that is kept.
 fn component_plain(stored: &Stored, c: ComponentEvent, f: Follow) -> Plain
     requires { Few f }
@@ -198,19 +205,11 @@ fn component_plain(stored: &Stored, c: ComponentEvent, f: Follow) -> Plain
     match c {
         ComponentEvent::Ingredient(v, i) => {
             let n = f.ingredients as usize;
-            let m = v.modifiers;
-            match implicit_row(&stored.words[0..6156], n, m.reference) {
-                None => Plain::Copied,
-                Some(d) => Plain::Marked(Kind::Ingredient, v),
-            }
+            row_plain(stored, Kind::Ingredient, v, n)
         }
         ComponentEvent::Cookware(v) => {
             let n = f.cookware as usize;
-            let m = v.modifiers;
-            match implicit_row(&stored.words[6156..9240], n, m.reference) {
-                None => Plain::Copied,
-                Some(d) => Plain::Marked(Kind::Cookware, v),
-            }
+            row_plain(stored, Kind::Cookware, v, n)
         }
         ComponentEvent::Timer(s, n, q) => Plain::Copied,
     }

@@ -6,7 +6,8 @@ use mathlib.Core.List.{List}
 use Rattle.std.specs.Prelude.{Result}
 use Rattle.rules.specs.Answer.{Lent, printed}
 use Rattle.refusals.specs.declared.Refusal.{Refusal}
-use Rattle.recipe.specs.Answers.{Collected, PlainFormed, PrintedAt}
+use Rattle.answers.specs.Answers.{PrintedAt}
+use Rattle.recipe.specs.Answers.{Collected, PlainFormed}
 use Rattle.program.specs.Prints.{answer_for, AnswerPrinted}
 
 module _ {plain : Bool} {sheet text units : List ℕ} {flags : ℕ} {m : Lent} {w b o₀ o : List ℕ} {r : Result ℕ Refusal} {n : ℕ} where

@@ -8,6 +8,7 @@ ghost use Rattle.std.specs.Prelude.{◌≤◌, ◌≡◌, length};
 ghost use Rattle.std.specs.Io.{ReadsAtMost};
 ghost use Rattle.recipe.specs.Answers.{lent_of};
 ghost use Rattle.program.specs.Prints.{AnswerPrinted};
+ghost use Rattle.inputs.specs.declared.TheConstants.{WORDS};
 
 use std::rt::Files;
 use std::{fs, io};
@@ -28,10 +29,10 @@ fn answer(
 {
     if plain {
         let f = recipe::plain_form(sheet, text, units, flags, words, bytes, out);
-        return recipe::print_answer(f, out);
+        return answers::print_answer(f, out);
     }
     let r = recipe::collect(sheet, text, units, flags, words, bytes, out);
-    recipe::print_answer(r, out)
+    answers::print_answer(r, out)
 }
 
 // Room for a file: one byte more than its limit, so that a longer file is seen to be longer.
@@ -54,10 +55,10 @@ fn units_room() -> [u8; 16385]
 }
 
 // What is lent.
-fn words_room() -> [u32; 45661]
-    ensures { 45661 ≡ length result }
+fn words_room() -> [u32; inputs::WORDS]
+    ensures { WORDS ≡ length result }
 {
-    [0; 45661]
+    [0; inputs::WORDS]
 }
 
 fn out_room() -> [u8; 1048576]

@@ -1,37 +1,18 @@
 -- The answer once memory is cleared, and as one number.
-use Prim.Native.Nat.{ℕ, ◌+◌, ◌-◌, ◌*◌, ◌≤◌, ◌<◌, min}
+use Prim.Native.Nat.{ℕ, ◌+◌, ◌-◌, ◌≤◌, ◌<◌}
 use mathlib.Core.Path.{◌≡◌, refl, ap, sym, ◌∙◌, subst}
 use mathlib.Core.List.{List, ◌++◌, append_assoc}
 use native.Mathlib.Omega.{arith}
 use Rattle.std.specs.Prelude.{Result, Ok, Err}
-use Rattle.std.specs.Result.{result_unwrap_or}
-use borrow.Author.Tests.{leb-true, leb-false}
 use borrow.Rule.Slice.PartMut.{put_mid}
-use lib.Dec.{leb}
 use lib.ListN.{length, take, drop, length-drop, replicate, length-append, length-replicate, replicate-append-replicate}
 use lib.Seq.{take_at, length-take-le}
-use Rattle.rules.specs.Basic.{pick}
-use Rattle.rules.proofs.Basics.{pick_either}
 use Rattle.rules.specs.Answer as rules
 use Rattle.rules.specs.Answer.{Lent, answered, declined, out_after, work_after}
-use Rattle.refusals.specs.Told.{number_of}
 use Rattle.refusals.specs.declared.Refusal.{Refusal}
-use Rattle.recipe.specs.Answers.{answer_of, used_of, code_of, answer_code, usable_of, lends, usable_lent, Answered, AnswerLeft, Coded}
-
--- ---- an answer's variants
-pub used_is : (r : Result ℕ Refusal) → result_unwrap_or r 0 ≡ used_of r
-unfolding used_of
-used_is (Ok n) = refl
-used_is (Err f) = refl
-
-module _ {r : Result ℕ Refusal} where
-  pub code_page : {n : ℕ} → r ≡ Ok n → n ≡ answer_code r
-  unfolding answer_code
-  code_page q = rw q
-
-  pub code_refused : {f : Refusal} {a : ℕ} → r ≡ Err f → a ≡ number_of f.reason → a * 4294967296 + f.line ≡ answer_code r
-  unfolding answer_code
-  code_refused q e = rw (q, e)
+use Rattle.answers.specs.Answers.{answer_of, used_of, code_of, answer_code, usable_of}
+use Rattle.answers.proofs.Answers.{code_is, usable_most, usable_short}
+use Rattle.recipe.specs.Answers.{lends, usable_lent, Answered, AnswerLeft, Coded}
 
 -- ---- the output o of an answer r, cleared behind the page
 cleared_is : (o : List ℕ) (r : Result ℕ Refusal) → used_of r ≤ length o
@@ -67,11 +48,6 @@ module _ {a : rules.Answer} {m : Lent} where
       }
 
 -- ---- as one number
-code_is : (o : List ℕ) (r : Result ℕ Refusal) → used_of r ≤ length o → answer_code r ≡ code_of (answer_of r o)
-unfolding answer_code used_of code_of answer_of
-code_is o (Ok n) h = sym (length-take-le n o h)
-code_is o (Err f) h = refl
-
 -- an answer is a page or a refusal
 pub not_answered : {P : Type 0} {n l : ℕ} {f : List ℕ} → declined n l ≡ answered f → P
 not_answered q = absurd (let z : ◌≡◌ {A = ℕ} 0 1 = cc in omega arith)
@@ -84,21 +60,6 @@ page_fits : (o : List ℕ) (r : Result ℕ Refusal) (bytes : List ℕ) → used_
 unfolding used_of answer_of
 page_fits o (Ok n) bytes h e = subst (λ (x : List ℕ). length x ≤ length o) (same_bytes e) (rw (length-take-le n o h) h)
 page_fits o (Err f) bytes h e = not_answered e
-
-usable_most : (room : ℕ) → usable_of room ≤ room
-unfolding usable_of
-usable_most room = pick_either (λ (n : ℕ). n ≤ room) (leb room 4294967295) _ _ (λ h. omega arith) (λ h. let l : 4294967295 < room = leb-false room 4294967295 h in omega arith)
-
-usable_short : (room : ℕ) → usable_of room < 4294967296
-unfolding usable_of
-usable_short room = pick_either (λ (n : ℕ). n < 4294967296) (leb room 4294967295) _ _ (λ h. let l : room ≤ 4294967295 = leb-true room 4294967295 h in omega arith) (λ h. omega arith)
-
-pub usable_least : (room : ℕ) → min room 4294967295 ≡ usable_of room
-unfolding usable_of
-usable_least room =
-    pick_either (λ (n : ℕ). min room 4294967295 ≡ n) (leb room 4294967295) _ _
-    (λ h. let l : room ≤ 4294967295 = leb-true room 4294967295 h in omega arith)
-    (λ h. let l : 4294967295 < room = leb-false room 4294967295 h in omega arith)
 
 -- an output of which the front was used, and the rest cleared
 out_longer : (n room : ℕ) (a : rules.Answer) → n ≤ room → ((bytes : List ℕ) → a ≡ answered bytes → length bytes ≤ n) → out_after n a ++ replicate (room - n) 0 ≡ out_after room a

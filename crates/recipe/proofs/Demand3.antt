@@ -3,7 +3,6 @@ use Prim.Native.Nat.{ℕ, ◌≤◌}
 use mathlib.Core.Path.{◌≡◌, refl, sym, subst, ◌∙◌}
 use mathlib.Core.Bool.{Bool, true, false}
 use mathlib.Core.List.{List}
-use native.Mathlib.Omega.{arith}
 use Rattle.std.specs.Prelude.{Result}
 use borrow.Author.Tests.{le-leb, leb-true}
 use lib.Dec.{leb}
@@ -19,7 +18,8 @@ use Rattle.rules.proofs.Lending.{plain_lent}
 use Rattle.rules.proofs.PlainForm as rules-proofs
 use Rattle.refusals.specs.declared.Refusal.{Refusal}
 use Rattle.recipe.proofs.Clears.{not_answered, same_bytes}
-use Rattle.recipe.specs.Answers.{answer_of, PlainFormed}
+use Rattle.answers.specs.Answers.{answer_of}
+use Rattle.recipe.specs.Answers.{PlainFormed}
 use Rattle.recipe.specs.Demand3.{SameCollected, Demand3}
 
 -- ---- with the memory lent

@@ -1,11 +1,11 @@
 -- One law for each way through the plain form.
 use Prim.Native.Nat.{ℕ, ◌+◌, ◌-◌, ◌≤◌, ◌<◌}
-use mathlib.Core.Path.{◌≡◌, refl, ap, sym, subst, ◌∙◌}
-use mathlib.Core.Bool.{Bool, true, false, ◌||◌}
+use mathlib.Core.Path.{◌≡◌, ap, sym, subst, ◌∙◌}
+use mathlib.Core.Bool.{Bool, true, ◌||◌}
 use mathlib.Core.List.{List, ◌++◌, append_assoc}
 use native.Mathlib.Omega.{arith}
 use Rattle.std.specs.Prelude.{Option, None, Some, Result, Ok, Err}
-use borrow.Author.Tests.{le-ltb, lt-ltb, ne_eqb}
+use borrow.Author.Tests.{le-ltb, lt-ltb}
 use lib.Dec.{ltb}
 use lib.ListN.{length, take, drop, length-append}
 use lib.Seq.{take_at}
@@ -20,9 +20,8 @@ use Rattle.rules.proofs.Basics.{by_order}
 use Rattle.rules.proofs.Collected.{Begins, collected_is}
 use Rattle.rules.proofs.Kept.{form_reads}
 use Rattle.refusals.specs.Told.{number_of}
-use Rattle.refusals.specs.declared.Reason.TheVariants.{OverLimits, ErrorLine, LongForm}
+use Rattle.refusals.specs.declared.Reason.TheVariants.{ErrorLine, LongForm}
 use Rattle.refusals.specs.declared.Refusal.{Refusal}
-use Rattle.refusals.proofs.Told.{same_reason}
 use Rattle.output.specs.Put.{Put}
 use Rattle.output.proofs.Puts.{keeps, put_room, put_fit, put_fits}
 use Rattle.inputs.specs.Inputs.{lent, InputsChecked, GoodInputs}
@@ -33,8 +32,11 @@ use Rattle.page.specs.Pages.{RecipeGiven}
 use Rattle.component_lines.proofs.Rooms.{limits_roomy}
 use Rattle.plain_walk.specs.Walk.{PassDone, FormWritten}
 use Rattle.plain_walk.proofs.Results.{form_declined, form_answered, form_put}
-use Rattle.recipe.specs.Answers.{lends, page_or20, Answered}
-use Rattle.recipe.specs.Forms.{tells17, form_given}
+use Rattle.answers.specs.Answers.{page_or20}
+use Rattle.answers.specs.Forms.{tells17, form_checked}
+use Rattle.answers.proofs.Forms.{checked_err, checked_ok}
+use Rattle.recipe.specs.Answers.{lends, Answered}
+use Rattle.recipe.specs.Forms.{form_given}
 use Rattle.recipe.proofs.Pages.{refused_as, Handed, page_handed}
 
 -- ---- before the pass
@@ -43,20 +45,6 @@ pub plain_refused : {sheet text units : List ℕ} {flags : ℕ} (m : Lent) {a : 
 plain_refused {sheet} {text} {units} {flags} m p o e q = refused_as o e (refused_plain sheet text units flags m (told_refused (rw q at p)))
 
 -- ---- whether a pass gives 17
-module _ {r : Result (Option Held) Refusal} where
-  pub tells_none : {o : Option Held} → r ≡ Ok o → false ≡ tells17 r
-  unfolding tells17
-  tells_none q = rw q
-
-  pub tells_over : {f : Refusal} → r ≡ Err f → f.reason ≡ OverLimits → true ≡ tells17 r
-  unfolding tells17
-  tells_over q e = rw (q, e)
-
-  -- no other reason is told by 17
-  pub tells_other : {f : Refusal} → r ≡ Err f → (f.reason ≡ OverLimits → ⊥) → false ≡ tells17 r
-  unfolding tells17
-  tells_other {f} q n = rw (q, ne_eqb (number_of f.reason) 17 (λ e. n (same_reason f.reason OverLimits e)))
-
 tells_gives : (text : List ℕ) (us : List NamedUnit) (flags : ℕ) (sheet : List ℕ) (es : List Event) (w : List ℕ) (a : Result (Option Held) Refusal) → RanBy text us flags sheet es w a
     → tells17 a ≡ gives17 (parse_events text us flags es)
 unfolding RanBy tells17 gives17
@@ -66,20 +54,20 @@ tells_gives text us flags sheet es w (Err f) p = sym (ap gives17 p)
 
 -- ---- a form that is not too long
 module _ {form text units : List ℕ} {flags words bytes : ℕ} (g : GoodInputs form text units flags words bytes) {w₀ w : List ℕ} {a : Result (Option Held) Refusal}
-    (p : RanAs (units_or (read_units units)) flags form text (events_or (read_sheet text form)) w₀ w a) {b : Bool} (e : b ≡ tells17 a) where
-  again : (ltb 65536 (length form) || gives17 (collection form text units flags)) ≡ b
-  again = rw (le-ltb 65536 (length form) g.sheet_short) (ap gives17 g.collects ∙ sym (tells_gives text (units_or (read_units units)) flags form (events_or (read_sheet text form)) w a p.is) ∙ sym e)
+    (p : RanAs (units_or (read_units units)) flags form text (events_or (read_sheet text form)) w₀ w a) {c : Result (Unit {0}) Refusal} (e : c ≡ form_checked a) where
+  again : {b : Bool} → tells17 a ≡ b → (ltb 65536 (length form) || gives17 (collection form text units flags)) ≡ b
+  again t = rw (le-ltb 65536 (length form) g.sheet_short) (ap gives17 g.collects ∙ sym (tells_gives text (units_or (read_units units)) flags form (events_or (read_sheet text form)) w a p.is) ∙ t)
 
-  pub form_over : {room : ℕ} (o : List ℕ) → length o ≡ room → b ≡ true → Answered (form_answer text units flags room form) room o (Err (record { reason = LongForm; line = 0 }))
+  pub form_over : {room : ℕ} {f : Refusal} (o : List ℕ) → length o ≡ room → c ≡ Err f → Answered (form_answer text units flags room form) room o (Err f)
   unfolding form_answer
-  form_over o l q = refused_as o l (rw (again ∙ q))
+  form_over o l q = let k = checked_err a (sym e ∙ q) in rw k.is (refused_as o l (rw (again k.over)))
 
-  pub form_out : {o₀ o : List ℕ} {n : ℕ} {r : Result ℕ Refusal} → b ≡ false → Put form o₀ 0 o n → r ≡ page_or20 n (length o)
+  pub form_out : {o₀ o : List ℕ} {n : ℕ} {u : Unit {0}} {r : Result ℕ Refusal} → c ≡ Ok u → Put form o₀ 0 o n → r ≡ page_or20 n (length o)
       → Answered (form_answer text units flags (length o₀) form) (length o₀) o r
   unfolding form_answer
-  form_out {o₀} {o} {n} {r} q s k =
+  form_out {o₀} {o} {n} {u} {r} q s k =
       let h : Handed form o₀ o r = page_handed s k in
-      record { is = rw (again ∙ q) h.is; fits = h.fits; long = h.long }
+      record { is = rw (again (checked_ok a (sym e ∙ q))) h.is; fits = h.fits; long = h.long }
 
 -- ---- the form as it is written to work memory
 module _ {sheet text units : List ℕ} {flags : ℕ} {w : List ℕ} {h : Held} (g : RecipeGiven sheet text units flags w h) where

@@ -4,4 +4,3 @@ pub mod Errors
 pub mod Forms
 pub mod Demand3
 pub mod Clears
-pub mod Prints

@@ -3,7 +3,7 @@ use Prim.Native.Nat.{ℕ, ◌+◌, ◌≤◌, ◌<◌}
 use mathlib.Core.Path.{◌≡◌, ap, sym, ◌∙◌}
 use mathlib.Core.List.{List}
 use native.Mathlib.Omega.{arith}
-use Rattle.std.specs.Prelude.{Result, Ok, Err}
+use Rattle.std.specs.Prelude.{Result, Err}
 use borrow.Author.Tests.{le-leb, lt-leb}
 use lib.ListN.{length, take, drop}
 use lib.Seq.{take_at}
@@ -13,17 +13,10 @@ use Rattle.rules.proofs.Basics.{by_order}
 use Rattle.output.specs.Put.{Put}
 use Rattle.output.proofs.Puts.{keeps, put_room, put_no_room, put_fits}
 use Rattle.refusals.specs.Told.{number_of}
-use Rattle.refusals.specs.declared.Reason.TheVariants.{NoRoom}
 use Rattle.refusals.specs.declared.Refusal.{Refusal}
-use Rattle.recipe.specs.Answers.{answer_of, used_of, page_or20, Answered}
-
-pub page_fits : (n room : ℕ) → n ≤ room → Ok n ≡ page_or20 n room
-unfolding page_or20
-page_fits n room h = rw (le-leb n room h)
-
-pub page_long : (n room : ℕ) → room < n → Err (record { reason = NoRoom; line = 0 }) ≡ page_or20 n room
-unfolding page_or20
-page_long n room h = rw (lt-leb n room h)
+use Rattle.answers.specs.Answers.{answer_of, used_of, page_or20}
+use Rattle.answers.proofs.Answers.{page_fits, page_long}
+use Rattle.recipe.specs.Answers.{Answered}
 
 -- a refusal, whatever stands in the output
 pub refused_as : {a : rules.Answer} {room : ℕ} {f : Refusal} (o : List ℕ) → length o ≡ room → a ≡ declined (number_of f.reason) f.line → Answered a room o (Err f)

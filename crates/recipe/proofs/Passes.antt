@@ -17,7 +17,8 @@ use Rattle.inputs.proofs.Answers.{told_refused, refused_collect, good_collect}
 use Rattle.model.specs.declared.Held.{Held}
 use Rattle.pass.specs.Walks.{RanRecipe, RanFailed, RanBy, RanAs}
 use Rattle.page.specs.Pages.{RecipeGiven, RecipePut, FailedPut}
-use Rattle.recipe.specs.Answers.{lends, page_or20, Answered}
+use Rattle.answers.specs.Answers.{page_or20}
+use Rattle.recipe.specs.Answers.{lends, Answered}
 use Rattle.recipe.proofs.Pages.{refused_as, Handed, page_handed}
 
 -- ---- before the pass
@@ -31,9 +32,9 @@ module _ {sheet text units : List ℕ} {flags words bytes : ℕ} (g : GoodInputs
   good_fewer : {n : ℕ} → n ≡ words → GoodInputs sheet text units flags n bytes_needed
   unfolding is_short words_needed bytes_needed
   good_fewer {n} e =
-      let k : 45661 ≤ n = omega (arith, g.words_enough) in
+      let k : words_needed ≤ n = omega (arith, g.words_enough) in
       record {
-        lent_enough = rw (le-ltb n 45661 k);
+        lent_enough = rw (le-ltb n words_needed k);
         words_enough = k;
         bytes_enough = omega arith;
         sheet_short = g.sheet_short;

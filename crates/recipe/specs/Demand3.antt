@@ -7,7 +7,7 @@ use Rattle.rules.specs.Answer as rules
 use Rattle.rules.specs.Answer.{answered, declined, Lent, is_short, hand_out, collect_answer, plain_answer}
 use Rattle.rules.specs.PlainForm.{Iff, EveryLine, IsPlain, events_of, Demanded, Declined}
 use Rattle.refusals.specs.declared.Refusal.{Refusal}
-use Rattle.recipe.specs.Answers.{answer_of}
+use Rattle.answers.specs.Answers.{answer_of}
 
 -- `collect` with the memory m answers both sheets with a page, or 20 where its page is longer than the output; the two pages
 -- are the same in all bytes above the findings

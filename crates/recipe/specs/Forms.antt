@@ -1,17 +1,9 @@
 -- What the parts of `plain_form` answer.
-use Rattle.std.specs.Prelude.{ℕ, List, Bool, false, eqb, Option, Result, Ok, Err}
+use Rattle.std.specs.Prelude.{ℕ, List}
 use Rattle.rules.specs.Units.{read_units}
 use Rattle.rules.specs.State.{first_state, going}
 use Rattle.rules.specs.Plain.{trace_from}
 use Rattle.rules.specs.Answer.{Answer, read_sheet, events_or, units_or, form_of}
-use Rattle.refusals.specs.Told.{number_of}
-use Rattle.refusals.specs.declared.Refusal.{Refusal}
-use Rattle.model.specs.declared.Held.{Held}
-
--- "its collection gives 17": `gives17` of what the pass answers
-unfoldable pub tells17 : Result (Option Held) Refusal → Bool
-tells17 (Ok o) = false
-tells17 (Err f) = eqb (number_of f.reason) 17
 
 -- the answer where the pass over the sheet makes a recipe: 22, 23, 24, 20 or the form
 unfoldable pub form_given : List ℕ → List ℕ → List ℕ → ℕ → ℕ → Answer

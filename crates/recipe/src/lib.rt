@@ -6,30 +6,15 @@ ghost use Rattle.std.specs.Prelude.{◌≡◌, ◌≤◌, length};
 ghost use Rattle.rules.specs.Answer.{words_needed, bytes_needed, events_or, read_sheet, collect_answer, error_line, form_answer, plain_answer};
 ghost use Rattle.page.specs.Pages.{RecipeGiven};
 ghost use Rattle.inputs.specs.Inputs.{GoodInputs};
-ghost use Rattle.recipe.specs.Answers.{used_of, answer_code, usable_of, usable_lent, lengths, lent_of, page_or20, Answered, Collected, PlainFormed, Coded, PrintedAt, ToldPrinted};
-ghost use Rattle.recipe.specs.Forms.{tells17, form_given};
+ghost use Rattle.recipe.specs.Answers.{usable_lent, lengths, lent_of, Answered, Collected, PlainFormed, Coded};
+ghost use Rattle.recipe.specs.Forms.{form_given};
 
+use answers::Answer;
 use memory::Stored;
 use model::Held;
 use reading::ReadSheet;
 use refusals::{Reason, Refusal};
 use unit_index::{Index, UnitList};
-
-// The length of the page or of the form at the front of the output, or a refusal.
-pub type Answer = Result<usize, Refusal>;
-
-// A page that was written, or 20 where it did not fit.
-fn hand_out(n: usize, room: usize) -> Answer
-    ensures { result ≡ page_or20 n room }
-{
-    if n <= room {
-        return Ok(n);
-    }
-    Err(Refusal {
-        reason: Reason::NoRoom,
-        line: 0,
-    })
-}
 
 // The pass, then the page.
 fn pass_and_write(
@@ -46,11 +31,11 @@ fn pass_and_write(
     match pass::run(sheet, units, flags, words)? {
         Some(h) => {
             let n = page::recipe_page(sheet, units, flags, words, h, out);
-            hand_out(n, out.len())
+            answers::hand_out(n, out.len())
         }
         None => {
             let n = page::failed_page(sheet, out);
-            hand_out(n, out.len())
+            answers::hand_out(n, out.len())
         }
     }
 }
@@ -75,13 +60,6 @@ fn collected(
         words: index,
     };
     pass_and_write(&read, &list, flags, words, bytes, out)
-}
-
-// How many bytes of the output an answer hands out.
-fn used(r: Answer) -> usize
-    ensures { result ≡ used_of r }
-{
-    r.unwrap_or(0)
 }
 
 // The page of a sheet with its text, its units and flags, at the front of `out`; or a refusal.
@@ -109,7 +87,7 @@ pub fn collect(
     );
     clearing::clear_words(words);
     clearing::clear_from(bytes, 0);
-    clearing::clear_from(out, used(r));
+    clearing::clear_from(out, answers::used(r));
     r
 }
 
@@ -136,19 +114,6 @@ fn error_line(sheet: &ReadSheet) -> u32
     0
 }
 
-// Whether a pass was refused by 17.
-fn tells_17(r: Result<Option<Held>, Refusal>) -> bool
-    ensures { result ≡ tells17 r }
-{
-    matches!(
-        r,
-        Err(Refusal {
-            reason: Reason::OverLimits,
-            ..
-        })
-    )
-}
-
 // A form that is not too long: collected again, then copied to the output.
 fn give_form(
     form: &[u8],
@@ -162,14 +127,9 @@ fn give_form(
     ensures { Answered (form_answer text.now units.now.lines.now flags (length out.old) form.now) (length out.old) out.new result }
 {
     let read = ReadSheet { bytes: form, text };
-    if tells_17(pass::run(&read, units, flags, words)) {
-        return Err(Refusal {
-            reason: Reason::LongForm,
-            line: 0,
-        });
-    }
+    answers::form_checked(pass::run(&read, units, flags, words))?;
     let n = output::put_bytes(out, 0, form);
-    hand_out(n, out.len())
+    answers::hand_out(n, out.len())
 }
 
 // The form of a sheet whose pass made a recipe, written to work memory first.
@@ -253,52 +213,11 @@ pub fn plain_form(
     let f = formed(sheet, text, units, &mut index, flags, words, bytes, out);
     clearing::clear_words(words);
     clearing::clear_from(bytes, 0usize);
-    clearing::clear_from(out, used(f));
+    clearing::clear_from(out, answers::used(f));
     f
 }
 
-// ---- printed
-
-// What is printed of an answer whose refusal is told by any number and line, put at the front of the output: the page or the
-// form, which is there already, or the line of the refusal.
-pub fn print_told(r: Result<usize, (u32, u32)>, out: &mut [u8]) -> usize
-    requires { (used_of r ≤ length out.old) × (30 ≤ length out.old) }
-    ensures { ToldPrinted r out.old out.new result }
-{
-    match r {
-        Ok(n) => n,
-        Err((number, line)) => output::write_refusal(out, number, line),
-    }
-}
-
-// What the programs print of an answer.
-pub fn print_answer(r: Answer, out: &mut [u8]) -> usize
-    requires { (used_of r ≤ length out.old) × (30 ≤ length out.old) }
-    ensures { PrintedAt r out.old out.new result }
-{
-    match r {
-        Ok(n) => n,
-        Err(f) => print_told(Err((f.reason.number(), f.line)), out),
-    }
-}
-
 // ---- for C and Rust (include/recipe.h)
-
-fn code(r: Answer) -> u64
-    ensures { result ≡ answer_code r }
-{
-    match r {
-        Ok(n) => n as u64,
-        Err(f) => (f.reason.number() as u64) * 4294967296 + (f.line as u64),
-    }
-}
-
-// How much of the output is used: the lower half of an answer holds a page's length.
-fn usable(room: usize) -> usize
-    ensures { (result ≡ usable_of room) × (result ≤ room) }
-{
-    room.min(4294967295)
-}
 
 pub fn recipe_words() -> usize
     ensures { result ≡ words_needed }
@@ -323,10 +242,10 @@ pub fn recipe_collect(
 ) -> u64
     ensures { Coded (collect_answer sheet.now text.now units.now flags (usable_lent (lent_of words.old bytes.old out.old))) (lent_of words.old bytes.old out.old) words.new bytes.new out.new result }
 {
-    let room = usable(out.len());
+    let room = answers::usable(out.len());
     let r = collect(sheet, text, units, flags, words, bytes, &mut out[0..room]);
     clearing::clear_from(out, room);
-    code(r)
+    answers::code(r)
 }
 
 pub fn recipe_plain_form(
@@ -340,8 +259,8 @@ pub fn recipe_plain_form(
 ) -> u64
     ensures { Coded (plain_answer sheet.now text.now units.now flags (usable_lent (lent_of words.old bytes.old out.old))) (lent_of words.old bytes.old out.old) words.new bytes.new out.new result }
 {
-    let room = usable(out.len());
+    let room = answers::usable(out.len());
     let r = plain_form(sheet, text, units, flags, words, bytes, &mut out[0..room]);
     clearing::clear_from(out, room);
-    code(r)
+    answers::code(r)
 }

@@ -9,9 +9,11 @@ use Rattle.rules.specs.Answer.{work_after}
 use Rattle.refusals.specs.declared.Refusal.{Refusal}
 use Rattle.component_records.specs.Records.{records_in}
 use Rattle.component_records.specs.declared.Component.{Component}
+use Rattle.component_records.specs.Tables.{TableRoom, Laid}
 use Rattle.recipe_components.specs.declared.ComponentCounts.{ComponentCounts}
-use Rattle.recipe_components.specs.Components.{TableRoom, Room, TableLent, ComponentsLeft}
-use Rattle.recipe_components.specs.Tables.{ingredients_of, cookware_of, Laid, RowsOf, RowsCollected}
+use Rattle.recipe_components.specs.Components.{Room, TableLent, ComponentsLeft}
+use Rattle.recipe_components.specs.Tables.{ingredients_of, cookware_of, RowsOf, RowsCollected}
+use Rattle.model.specs.declared.layout.TheConstants.{INGREDIENTS, COOKWARE}
 
 table_lent_lem : {k : Kind} {sheet w : List ℕ} {es : List Entry} {from n : ℕ} {m : TableRoom} {cs : List Component} {ps : List ℕ} → RowsOf k sheet es w from n
     → Laid w from n m cs ps → TableLent k sheet es m cs ps
@@ -19,7 +21,7 @@ table_lent_lem {w = w} {from = from} {n = n} x l =
     record { records = records_in w from n; are = x.records; all = rw (sym x.count) l.all; pairs = rw (sym x.pairs) l.pairs }
 
 pub all_left : {sheet text units : List ℕ} {flags : ℕ} {m : Room} {w w' : List ℕ} {is : List Component} {ips : List ℕ} {cs : List Component} {cps : List ℕ} {r : Result (Option ComponentCounts) Refusal}
-    → RowsCollected sheet text units flags m w r → Laid w 0 (ingredients_of r) m.ingredients is ips → Laid w 6156 (cookware_of r) m.cookware cs cps
+    → RowsCollected sheet text units flags m w r → Laid w INGREDIENTS (ingredients_of r) m.ingredients is ips → Laid w COOKWARE (cookware_of r) m.cookware cs cps
     → w' ≡ replicate (length w) 0 → ComponentsLeft sheet text units flags m w' is ips cs cps r
 unfolding work_after
 all_left x i c e =

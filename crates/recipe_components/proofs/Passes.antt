@@ -25,17 +25,22 @@ use Rattle.refusals.specs.declared.Refusal.{Refusal}
 use Rattle.inputs.specs.Inputs.{InputsChecked, GoodInputs}
 use Rattle.inputs.proofs.Answers.{told_refused, refused_outcome}
 use Rattle.model.specs.Blank.{blank, blank_tables}
-use Rattle.model.specs.Memory.{windows_of, state_of, state_in, Sound}
+use Rattle.model.specs.Kinds.{room_of, rows_from}
+use Rattle.model.specs.Rows.{entries_in}
+use Rattle.model.specs.Memory.{count_of, referrers_of, Sound}
 use Rattle.model.specs.Fits.{Fits, EachRow}
 use Rattle.model.specs.declared.Held.{Held}
 use Rattle.model.proofs.Tables.{entries_length}
+use Rattle.model.proofs.Windows.{table_is, rows_window, rows_end}
 use Rattle.component_records.specs.Records.{records_in}
 use Rattle.component_records.specs.Links.{pairs_of, pairs_from, own_count, Linkable}
 use Rattle.pass.specs.Walks.{RanRecipe, RanFailed, RanBy, RanAs}
+use Rattle.component_records.specs.Tables.{TableRoom, Ready, is_room_for}
 use Rattle.recipe_components.specs.declared.ComponentCounts.{ComponentCounts}
-use Rattle.recipe_components.specs.Components.{RecordsOf, table_pairs, TableRoom, Room, table_fits, both_fit, counts_of, answer_of, told_answer, table_lent, outcome_of}
-use Rattle.recipe_components.specs.Tables.{ingredients_of, cookware_of, Ready, is_room_for, row_counts, counts_or20, RowsOf, RowsCollected}
-use Rattle.recipe_components.proofs.Rows.{table_in, table_records, table_linkable, table_pairs_lem, table_own}
+use Rattle.recipe_components.specs.Components.{RecordsOf, table_pairs, Room, table_fits, both_fit, counts_of, answer_of, told_answer, table_lent, outcome_of}
+use Rattle.recipe_components.specs.Tables.{ingredients_of, cookware_of, row_counts, counts_or20, RowsOf, RowsCollected}
+use Rattle.recipe_components.proofs.Rows.{window_table, table_records, table_linkable, table_pairs_lem, table_own}
+use Rattle.model.specs.declared.layout.TheConstants.{ROW, MOST_ROWS, INGREDIENTS, COOKWARE}
 
 -- ---- no rows
 
@@ -59,10 +64,10 @@ module _ (sheet text units : List ℕ) (flags : ℕ) (m : Room) {w : List ℕ} (
       record {
         answer = a;
         long = long;
-        ingredients = rw (i, t ingredient) (no_rows ingredient sheet w 0);
-        cookware = rw (c, t cookware) (no_rows cookware sheet w 6156);
-        ingredients_ready = rw i (no_ready w 0 m.ingredients);
-        cookware_ready = rw c (no_ready w 6156 m.cookware);
+        ingredients = rw (i, t ingredient) (no_rows ingredient sheet w INGREDIENTS);
+        cookware = rw (c, t cookware) (no_rows cookware sheet w COOKWARE);
+        ingredients_ready = rw i (no_ready w INGREDIENTS m.ingredients);
+        cookware_ready = rw c (no_ready w COOKWARE m.cookware);
       }
 
   pub refused_rows : {f : Refusal} → outcome_of sheet text units flags m ≡ refusal (number_of f.reason) f.line → RowsCollected sheet text units flags m w (Err f)
@@ -89,8 +94,8 @@ ended_tables st = close_tables st
 
 -- n rows of which memory holds the table es
 pub record TableHeld (k : Kind) (sheet w : List ℕ) (from n : ℕ) (es : List Entry) : Type 0 where
-  pub few : n ≤ 513
-  pub held : 0 < n → from + n * 12 ≤ length w
+  pub few : n ≤ MOST_ROWS
+  pub held : 0 < n → from + n * ROW ≤ length w
   pub long : length es ≡ n
   pub own : own_count (records_in w from n) ≡ own_references k es
   pub records : RecordsOf k sheet es (records_in w from n)
@@ -115,82 +120,74 @@ module _ {k : Kind} {sheet w : List ℕ} {from n : ℕ} {es : List Entry} (x : T
         linkable = x.linkable m.pairs (leb-true _ m.pairs (and_right (leb n m.records) _ q));
       }
 
-module _ (k : Kind) (sheet w : List ℕ) (from size : ℕ) (ps : List ℕ) (m n : ℕ) (room : n * 12 ≤ size) where
-  window_held : n ≤ 513 → from + size ≤ length w → EachRow (Fits k sheet) (take size (drop from w)) n → Linked k (table_in k sheet w from size ps m n)
-      → TableHeld k sheet w from n (table_in k sheet w from size ps m n)
+module _ (k : Kind) (sheet w : List ℕ) (from size : ℕ) (by : ℕ → List ℕ) (n : ℕ) (room : n * ROW ≤ size) where
+  window_held : n ≤ MOST_ROWS → from + size ≤ length w → EachRow (Fits k sheet) (take size (drop from w)) n → Linked k (window_table k sheet w from size by n)
+      → TableHeld k sheet w from n (window_table k sheet w from size by n)
   window_held few most f l =
       record {
         few = few;
         held = λ h. omega arith;
-        long = entries_length k sheet (take size (drop from w)) ps m n;
-        own = table_own k sheet w from size ps m n room;
-        records = table_records k sheet w from size ps m n room f;
-        pairs = table_pairs_lem k sheet w from size ps m n room;
-        linkable = table_linkable k sheet w from size ps m n room l;
+        long = entries_length k sheet (take size (drop from w)) by n;
+        own = table_own k sheet w from size by n room;
+        records = table_records k sheet w from size by n room f;
+        pairs = table_pairs_lem k sheet w from size by n room;
+        linkable = table_linkable k sheet w from size by n room l;
       }
 
 module _ {text : List ℕ} {us : List NamedUnit} {flags : ℕ} {sheet : List ℕ} {es : List Event} {w : List ℕ} {h : Held} (x : RanRecipe text us flags sheet es w h) where
   abbrev st : State
   st = x.state
 
-  ingredients_in : table_of ingredient st ≡ table_in ingredient sheet w 0 6156 (windows_of w).ingredient_pairs h.counts.ingredient_pairs h.counts.ingredients
-  unfolding table_of blank blank_tables state_in state_of windows_of
-  ingredients_in = sym (ap (table_of ingredient) x.memory)
+  table_blank : (k : Kind) → table_of k (blank st) ≡ table_of k st
+  unfolding table_of blank blank_tables
+  table_blank ingredient = refl
+  table_blank cookware = refl
 
-  cookware_in : table_of cookware st ≡ table_in cookware sheet w 6156 3084 (windows_of w).cookware_pairs h.counts.cookware_pairs h.counts.cookware
-  unfolding table_of blank blank_tables state_in state_of windows_of
-  cookware_in = sym (ap (table_of cookware) x.memory)
+  rows_table : (k : Kind) → table_of k st ≡ window_table k sheet w (rows_from k) (room_of k * ROW) (referrers_of k w h) (count_of k h)
+  rows_table k = sym (table_blank k) ∙ sym (ap (table_of k) x.memory) ∙ table_is k sheet w h ∙ ap (λ (rows : List ℕ). entries_in k sheet rows (referrers_of k w h) (count_of k h)) (rows_window k w)
 
   tables_end : (k : Kind) → table_of k (ended st) ≡ table_of k st
   unfolding table_of
   tables_end ingredient = ap (λ (t : Tables). t.ingredients) (ended_tables st)
   tables_end cookware = ap (λ (t : Tables). t.cookware) (ended_tables st)
 
-  pub ingredients_held : TableHeld ingredient sheet w 0 h.counts.ingredients (table_of ingredient (ended st))
-  unfolding windows_of
-  ingredients_held =
-      let s = x.kept.sound in
-      let l = walk_linked text us flags es st x.walked ingredient in
-      rw (tables_end ingredient, ingredients_in)
-      (window_held ingredient sheet w 0 6156 (windows_of w).ingredient_pairs h.counts.ingredient_pairs h.counts.ingredients (omega (arith, s.room.ingredients))
-      s.room.ingredients (omega (arith, s.long)) x.kept.fit.ingredients (rw ingredients_in at l))
+  few_rows : (k : Kind) → (count_of k h ≤ MOST_ROWS) × (count_of k h * ROW ≤ room_of k * ROW)
+  few_rows ingredient = let n = x.kept.sound.room.rows ingredient in (omega arith, omega arith)
+  few_rows cookware = let n = x.kept.sound.room.rows cookware in (omega arith, omega arith)
 
-  pub cookware_held : TableHeld cookware sheet w 6156 h.counts.cookware (table_of cookware (ended st))
-  unfolding windows_of
-  cookware_held =
-      let s = x.kept.sound in
-      let l = walk_linked text us flags es st x.walked cookware in
-      rw (tables_end cookware, cookware_in)
-      (window_held cookware sheet w 6156 3084 (windows_of w).cookware_pairs h.counts.cookware_pairs h.counts.cookware (omega (arith, s.room.cookware))
-      (omega (arith, s.room.cookware)) (omega (arith, s.long)) x.kept.fit.cookware (rw cookware_in at l))
+  pub rows_held : (k : Kind) → TableHeld k sheet w (rows_from k) (count_of k h) (table_of k (ended st))
+  rows_held k =
+      let l = walk_linked text us flags es st x.walked k in
+      rw (tables_end k, rows_table k)
+      (window_held k sheet w (rows_from k) (room_of k * ROW) (referrers_of k w h) (count_of k h) (few_rows k).1 (few_rows k).0 (rows_end k w x.kept.sound.long) (rw (← rows_window k w) (x.kept.fit.rows k)) (rw (rows_table k) at l))
 
   -- the counts of the rows are those of the recipe
   module _ (text' units : List ℕ) (flags' : ℕ) (m : Room) (long : length w ≡ m.words) (o : outcome_of sheet text' units flags' m ≡ recipe (ended st)) where
-    both_same : both_fit m (ended st) ≡ (is_room_for h.counts.ingredients (own_count (records_in w 0 h.counts.ingredients)) m.ingredients && is_room_for h.counts.cookware (own_count (records_in w 6156 h.counts.cookware)) m.cookware)
+    both_same : both_fit m (ended st) ≡ (is_room_for h.counts.ingredients (own_count (records_in w INGREDIENTS h.counts.ingredients)) m.ingredients && is_room_for h.counts.cookware (own_count (records_in w COOKWARE h.counts.cookware)) m.cookware)
     unfolding both_fit
-    both_same = rw (fits_same ingredients_held m.ingredients, fits_same cookware_held m.cookware)
+    both_same = rw (fits_same (rows_held ingredient) m.ingredients, fits_same (rows_held cookware) m.cookware)
 
     counts_same : counts_of (ended st) ≡ row_counts w h
     unfolding counts_of row_counts
-    counts_same = rw (ingredients_held.long, cookware_held.long, ingredients_held.own, cookware_held.own)
+    counts_same = rw ((rows_held ingredient).long, (rows_held cookware).long, (rows_held ingredient).own, (rows_held cookware).own)
 
-    fit_rows : (is_room_for h.counts.ingredients (own_count (records_in w 0 h.counts.ingredients)) m.ingredients && is_room_for h.counts.cookware (own_count (records_in w 6156 h.counts.cookware)) m.cookware) ≡ true → RowsCollected sheet text' units flags' m w (Ok (Some (row_counts w h)))
+    fit_rows : (is_room_for h.counts.ingredients (own_count (records_in w INGREDIENTS h.counts.ingredients)) m.ingredients && is_room_for h.counts.cookware (own_count (records_in w COOKWARE h.counts.cookware)) m.cookware) ≡ true → RowsCollected sheet text' units flags' m w (Ok (Some (row_counts w h)))
     unfolding answer_of told_answer row_counts table_lent ingredients_of cookware_of
     fit_rows q =
         let b : both_fit m (ended st) ≡ true = both_same ∙ q in
         record {
           answer = rw (o, b) (ap (λ (x : ComponentCounts). Ok (Some x)) (sym counts_same));
           long = long;
-          ingredients = rw (o, b) (rows_are ingredients_held);
-          cookware = rw (o, b) (rows_are cookware_held);
-          ingredients_ready = rows_ready ingredients_held m.ingredients (and_left _ _ q);
-          cookware_ready = rows_ready cookware_held m.cookware (and_right (is_room_for h.counts.ingredients (own_count (records_in w 0 h.counts.ingredients)) m.ingredients) _ q);
+          ingredients = rw (o, b) (rows_are (rows_held ingredient));
+          cookware = rw (o, b) (rows_are (rows_held cookware));
+          ingredients_ready = rows_ready (rows_held ingredient) m.ingredients (and_left _ _ q);
+          cookware_ready = rows_ready (rows_held cookware) m.cookware (and_right (is_room_for h.counts.ingredients (own_count (records_in w INGREDIENTS h.counts.ingredients)) m.ingredients) _ q);
         }
 
     pub counted_rows : RowsCollected sheet text' units flags' m w (counts_or20 w h m.ingredients m.cookware)
     unfolding counts_or20
     counted_rows =
-        pick_either (RowsCollected sheet text' units flags' m w) (is_room_for h.counts.ingredients (own_count (records_in w 0 h.counts.ingredients)) m.ingredients && is_room_for h.counts.cookware (own_count (records_in w 6156 h.counts.cookware)) m.cookware) _ _ fit_rows
+        pick_either (RowsCollected sheet text' units flags' m w) (is_room_for h.counts.ingredients (own_count (records_in w INGREDIENTS h.counts.ingredients)) m.ingredients && is_room_for h.counts.cookware (own_count (records_in w COOKWARE h.counts.cookware)) m.cookware) _ _ fit_rows
         (λ q. full_rows sheet text' units flags' m long (ended st) o (both_same ∙ q))
 
 -- ---- before the pass

@@ -13,7 +13,7 @@ use Rattle.rules.specs.Reference.{entry_at, is_definition}
 use Rattle.rules.proofs.Basics.{no_truth, some_inj}
 use Rattle.rules.proofs.Referrers.{is_own, own_target, Linked, DefinedAt, entry_below}
 use Rattle.rules.proofs.LinkedRecipe.{is_own_reference, own_references}
-use Rattle.model.specs.Rows.{row_at, row_of, modifiers_in, relation_as, relation_in, entry_as, referrers_in, entry_in, entries_in}
+use Rattle.model.specs.Rows.{row_of, row_on, modifiers_in, relation_as, relation_in, entry_as, entry_in, entries_in}
 use Rattle.model.specs.Fits.{Fits, EachRow}
 use Rattle.model.specs.declared.Target.TheVariants.{Ingredient, Step, Section}
 use Rattle.model.specs.declared.Relation as memory
@@ -26,6 +26,7 @@ use Rattle.component_records.specs.Links.{pair_at, pairs_from, pairs_of, own_at,
 use Rattle.recipe_components.specs.Components.{relation_record_of, modifiers_of, RecordOf, RecordsOf, pair_of, table_pairs}
 use Rattle.component_records.proofs.Records.{length_records, get_or_records}
 use Rattle.component_records.proofs.Pairs.{count_snoc, pairs_snoc}
+use Rattle.model.specs.declared.layout.TheConstants.{ROW}
 
 -- ---- a row's window
 
@@ -125,33 +126,33 @@ module _ (k : Kind) (sheet : List ℕ) (r : Row) (by : List ℕ) where
 
 -- ---- the table of n rows in the window of `size` words from `from` on, with m pairs
 
-abbrev pub table_in : Kind → List ℕ → List ℕ → ℕ → ℕ → List ℕ → ℕ → ℕ → List Entry
-table_in k sheet w from size ps m n = entries_in k sheet (take size (drop from w)) ps m n
+abbrev pub window_table : Kind → List ℕ → List ℕ → ℕ → ℕ → (ℕ → List ℕ) → ℕ → List Entry
+window_table k sheet w from size by n = entries_in k sheet (take size (drop from w)) by n
 
-module _ (k : Kind) (sheet w : List ℕ) (from size : ℕ) (ps : List ℕ) (m n : ℕ) (room : n * 12 ≤ size) where
+module _ (k : Kind) (sheet w : List ℕ) (from size : ℕ) (by : ℕ → List ℕ) (n : ℕ) (room : n * ROW ≤ size) where
   abbrev es : List Entry
-  es = table_in k sheet w from size ps m n
+  es = window_table k sheet w from size by n
 
-  row_in : (i : ℕ) → i < n → component_in w from i ≡ component_of (row_of (row_at 12 (take size (drop from w)) i))
+  row_in : (i : ℕ) → i < n → component_in w from i ≡ component_of (row_on (take size (drop from w)) i)
   unfolding component_in
-  row_in i l = ap (λ (x : List ℕ). component_of (row_of x)) (sym (mid_take (i * 12) 12 size (drop from w) (omega arith)))
+  row_in i l = ap (λ (x : List ℕ). component_of (row_of x)) (sym (mid_take (i * ROW) ROW size (drop from w) (omega arith)))
 
-  entry_is : (i : ℕ) (e : Entry) → i < n → entry_at i es ≡ Some e → e ≡ entry_in k sheet (take size (drop from w)) ps m i
-  entry_is i e l q = some_inj (sym q ∙ entries_at k sheet (take size (drop from w)) ps m i n l)
+  entry_is : (i : ℕ) (e : Entry) → i < n → entry_at i es ≡ Some e → e ≡ entry_in k sheet (take size (drop from w)) by i
+  entry_is i e l q = some_inj (sym q ∙ entries_at k sheet (take size (drop from w)) by i n l)
 
   pub table_records : EachRow (Fits k sheet) (take size (drop from w)) n → RecordsOf k sheet es (records_in w from n)
   unfolding entry_in
   table_records f =
       record {
-        long = length_records w from n ∙ sym (entries_length k sheet (take size (drop from w)) ps m n);
+        long = length_records w from n ∙ sym (entries_length k sheet (take size (drop from w)) by n);
         at = at;
       }
     where
       at : (i : ℕ) (e : Entry) → entry_at i es ≡ Some e → RecordOf k sheet e (get_or (records_in w from n) i no_component)
       at i e q =
-          let l : i < n = omega (arith, entry_below i es e q, entries_length k sheet (take size (drop from w)) ps m n) in
+          let l : i < n = omega (arith, entry_below i es e q, entries_length k sheet (take size (drop from w)) by n) in
           rw (get_or_records w from n i l, row_in i l, entry_is i e l q)
-          (record_of k sheet (row_of (row_at 12 (take size (drop from w)) i)) (referrers_in ps i m) (f.at i l))
+          (record_of k sheet (row_on (take size (drop from w)) i) (by i) (f.at i l))
 
   pub table_linkable : Linked k es → (words : ℕ) → own_count (records_in w from n) * 2 ≤ words → Linkable (records_in w from n) words
   unfolding entry_in
@@ -159,15 +160,15 @@ module _ (k : Kind) (sheet w : List ℕ) (from size : ℕ) (ps : List ℕ) (m n 
     where
       there : (d : ℕ) → d < n → DefinedAt d es → (component_in w from d).relation.relation ≡ Definition
       there d l x =
-          let e : x.entry ≡ entry_in k sheet (take size (drop from w)) ps m d = entry_is d x.entry l x.stands in
-          rw (row_in d l) (row_defines k sheet (row_of (row_at 12 (take size (drop from w)) d)) (referrers_in ps d m) (rw e at x.is))
+          let e : x.entry ≡ entry_in k sheet (take size (drop from w)) by d = entry_is d x.entry l x.stands in
+          rw (row_in d l) (row_defines k sheet (row_on (take size (drop from w)) d) (by d) (rw e at x.is))
 
       at : (i : ℕ) → i < n → links.is_own (component_in w from i).relation.relation ≡ true
           → ((component_in w from i).relation.index < i) × ((component_in w from (component_in w from i).relation.index).relation.relation ≡ Definition)
       at i l q =
-          let o = row_own k sheet (row_of (row_at 12 (take size (drop from w)) i)) (referrers_in ps i m) (rw (row_in i l) at q) in
-          let t = h.target i (component_in w from i).relation.index (entry_in k sheet (take size (drop from w)) ps m i)
-          (entries_at k sheet (take size (drop from w)) ps m i n l) (rw (row_in i l) o) in
+          let o = row_own k sheet (row_on (take size (drop from w)) i) (by i) (rw (row_in i l) at q) in
+          let t = h.target i (component_in w from i).relation.index (entry_in k sheet (take size (drop from w)) by i)
+          (entries_at k sheet (take size (drop from w)) by i n l) (rw (row_in i l) o) in
           (t.0, there _ (omega (arith, t.0)) t.1)
 
       back : (i : ℕ) → i < length (records_in w from n) → links.is_own (get_or (records_in w from n) i no_component).relation.relation ≡ true → RefersBack (records_in w from n) i
@@ -180,20 +181,20 @@ module _ (k : Kind) (sheet w : List ℕ) (from size : ℕ) (ps : List ℕ) (m n 
           }
 
 -- pairs and counts, row by row
-module _ (k : Kind) (sheet w : List ℕ) (from size : ℕ) (ps : List ℕ) (m : ℕ) where
-  pub table_pairs_lem : (n : ℕ) → n * 12 ≤ size → pairs_of (records_in w from n) ≡ table_pairs k (table_in k sheet w from size ps m n)
+module _ (k : Kind) (sheet w : List ℕ) (from size : ℕ) (by : ℕ → List ℕ) where
+  pub table_pairs_lem : (n : ℕ) → n * ROW ≤ size → pairs_of (records_in w from n) ≡ table_pairs k (window_table k sheet w from size by n)
   unfolding records_in pairs_of pairs_from table_pairs entries_in entry_in
   table_pairs_lem zero h = refl
   table_pairs_lem (suc n) h =
       pairs_snoc (records_in w from n) (component_in w from n)
-      ∙ rw (table_pairs_lem n (omega arith), length_records w from n, row_in k sheet w from size ps m (suc n) h n (omega arith), entries_length k sheet (take size (drop from w)) ps m n)
-      (ap (λ (l : List ℕ). table_pairs k (table_in k sheet w from size ps m n) ++ l) (row_pair k sheet (row_of (row_at 12 (take size (drop from w)) n)) (referrers_in ps n m) n))
+      ∙ rw (table_pairs_lem n (omega arith), length_records w from n, row_in k sheet w from size by (suc n) h n (omega arith), entries_length k sheet (take size (drop from w)) by n)
+      (ap (λ (l : List ℕ). table_pairs k (window_table k sheet w from size by n) ++ l) (row_pair k sheet (row_on (take size (drop from w)) n) (by n) n))
 
-  pub table_own : (n : ℕ) → n * 12 ≤ size → own_count (records_in w from n) ≡ own_references k (table_in k sheet w from size ps m n)
+  pub table_own : (n : ℕ) → n * ROW ≤ size → own_count (records_in w from n) ≡ own_references k (window_table k sheet w from size by n)
   unfolding records_in own_count own_references entries_in entry_in
   table_own zero h = refl
   table_own (suc n) h =
       let a = count_snoc (records_in w from n) (component_in w from n) in
-      let b = ap own_at (row_in k sheet w from size ps m (suc n) h n (omega arith)) ∙ row_one k sheet (row_of (row_at 12 (take size (drop from w)) n)) (referrers_in ps n m) in
+      let b = ap own_at (row_in k sheet w from size by (suc n) h n (omega arith)) ∙ row_one k sheet (row_on (take size (drop from w)) n) (by n) in
       let c = table_own n (omega arith) in
       omega (arith, a, b, c)

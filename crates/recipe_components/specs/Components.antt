@@ -20,6 +20,7 @@ use Rattle.model.specs.declared.Target.TheVariants.{Ingredient, Step, Section}
 use Rattle.model.specs.declared.Relation.TheVariants.{Definition, Reference}
 use Rattle.model.specs.declared.RelationRecord.{RelationRecord}
 use Rattle.component_records.specs.Records.{no_component}
+use Rattle.component_records.specs.Tables.{TableRoom}
 use Rattle.component_records.specs.declared.Component.{Component}
 use Rattle.recipe_components.specs.declared.ComponentCounts.{ComponentCounts}
 
@@ -75,11 +76,7 @@ unfoldable pub table_pairs : Kind → List Entry → List ℕ
 table_pairs k [] = []
 table_pairs k (e ∷ es) = table_pairs k es ++ pair_of k e.relation (length es)
 
--- ---- what is lent: records, and words for pairs, of each kind; words of work memory
-
-pub record TableRoom : Type 0 where
-  pub records : ℕ
-  pub pairs : ℕ
+-- ---- what is lent: records, and words for pairs, of each kind (`TableRoom`); words of work memory
 
 pub record Room : Type 0 where
   pub words : ℕ

@@ -1,13 +1,15 @@
 // The ingredients and the cookware of a recipe, lent as records.
 #![tactic(auto)]
 
-ghost use Rattle.std.specs.Prelude.{◌≡◌, ◌+◌, ◌*◌, ◌<◌, ◌≤◌, length};
+ghost use Rattle.std.specs.Prelude.{◌≡◌, length};
 ghost use Rattle.inputs.specs.Inputs.{GoodInputs};
+ghost use Rattle.component_records.specs.Tables.{room_for};
 ghost use Rattle.recipe_components.specs.Components.{ComponentsLeft};
-ghost use Rattle.recipe_components.specs.Tables.{ingredients_of, cookware_of, OwnCounted, room_for, room_of, is_room_for, counts_or20, RowsCollected, Ready, Laid};
+ghost use Rattle.recipe_components.specs.Tables.{ingredients_of, cookware_of, room_of, counts_or20, RowsCollected};
 
 use component_records::Component;
 use memory::Stored;
+use model::layout;
 use reading::ReadSheet;
 use refusals::{Reason, Refusal};
 use unit_index::UnitList;
@@ -54,44 +56,24 @@ fn counts_of(r: Components) -> ComponentCounts
 
 // ---- rows
 
-// How many of the first `count` rows refer to a component of their own kind.
-fn own_references(words: &[u32], from: usize, count: usize) -> usize
-    requires { (count ≤ 513) × (0 < count → from + count * 12 ≤ length words.now) }
-    ensures { OwnCounted words.now from count result }
-{
-    let mut n: usize = 0;
-    for i in 0..count {
-        let c = component_records::component_at(words, from, count, i);
-        if component_records::is_own_reference(c.relation) {
-            n += 1;
-        }
-    }
-    n
-}
-
-// Whether the records of a table and its pairs fit in what is lent.
-#[tactic(auto, unfolding(crate::specs::Tables::is_room_for))]
-fn table_fits(count: usize, pairs: usize, records: usize, words: usize) -> bool
-    requires { pairs ≤ 513 }
-    ensures { result ≡ is_room_for count pairs (room_for records words) }
-{
-    count <= records && pairs * 2 <= words
-}
-
 // The counts of a recipe, or 20 where some of it does not fit.
 fn recipe_counts(stored: &Stored, room: Lent) -> Components
     ensures { result ≡ counts_or20 stored.now.words.now stored.now.held (room_for room.ingredients room.ingredient_pairs) (room_for room.cookware room.cookware_pairs) }
 {
     let h = stored.held;
-    let i = own_references(stored.words, 0, h.counts.ingredients);
-    let c = own_references(stored.words, 6156, h.counts.cookware);
-    if table_fits(
+    let i = component_records::own_references(
+        stored.words,
+        layout::INGREDIENTS,
+        h.counts.ingredients,
+    );
+    let c = component_records::own_references(stored.words, layout::COOKWARE, h.counts.cookware);
+    if component_records::table_fits(
         h.counts.ingredients,
         i,
         room.ingredients,
         room.ingredient_pairs,
     ) {
-        if table_fits(h.counts.cookware, c, room.cookware, room.cookware_pairs) {
+        if component_records::table_fits(h.counts.cookware, c, room.cookware, room.cookware_pairs) {
             return Ok(Some(ComponentCounts {
                 ingredients: h.counts.ingredients,
                 cookware: h.counts.cookware,
@@ -157,25 +139,6 @@ fn collect_rows(
 
 // ---- records
 
-// The records and the pairs of `ingredients_count` and `cookware_count` rows, each followed by nothing.
-fn lend_tables(
-    words: &[u32],
-    ingredients_count: usize,
-    cookware_count: usize,
-    ingredients: &mut [Component],
-    ingredient_pairs: &mut [u32],
-    cookware: &mut [Component],
-    cookware_pairs: &mut [u32],
-)
-    requires { Ready words.now 0 ingredients_count (room_for (length ingredients.old) (length ingredient_pairs.old))
-        × Ready words.now 6156 cookware_count (room_for (length cookware.old) (length cookware_pairs.old)) }
-    ensures { Laid words.now 0 ingredients_count (room_for (length ingredients.old) (length ingredient_pairs.old)) ingredients.new ingredient_pairs.new
-        × Laid words.now 6156 cookware_count (room_for (length cookware.old) (length cookware_pairs.old)) cookware.new cookware_pairs.new }
-{
-    component_records::lend_table(words, 0, ingredients_count, ingredients, ingredient_pairs);
-    component_records::lend_table(words, 6156, cookware_count, cookware, cookware_pairs);
-}
-
 // The ingredients and the cookware of a sheet, with its text, its units and flags, as records: the oldest first, and after
 // them empty ones; and the pairs of a definition and its referrer, two words a pair, and after them zeros. Or a refusal,
 // 20 where something that is lent is too short, and then all is empty.
@@ -202,7 +165,7 @@ pub fn collect_components(
     };
     let r = collect_rows(sheet, text, units, flags, words, room);
     let counts = counts_of(r);
-    lend_tables(
+    component_records::lend_tables(
         words,
         counts.ingredients,
         counts.cookware,

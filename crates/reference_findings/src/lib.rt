@@ -10,6 +10,7 @@ ghost use Rattle.components.specs.Views.{modifiers_in};
 ghost use Rattle.model.specs.Rows.{finding_of};
 ghost use Rattle.reference_findings.specs.Reports.{RedundantNew, RedundantRef, ConflictOrMissing, ReferenceReported};
 ghost use Rattle.model.specs.Kinds.{kind_of};
+ghost use Rattle.model.specs.declared.layout.TheConstants.{MOST_FINDINGS};
 
 use components::Modifiers;
 use memory::Memory;
@@ -104,7 +105,7 @@ pub fn reference_findings(
     at: Span,
     old: Option<Modifiers>,
 )
-    requires { memory.old.held.counts.findings + 1 < 1544 }
+    requires { memory.old.held.counts.findings + 1 < MOST_FINDINGS }
     ensures done { ReferenceReported (kind_of kind) m span at old memory.old.words.now memory.old.held memory.new.words.now memory.new.held }
     ensures lent { memory.new.words.ghost_name ≡ memory.old.words.ghost_name }
 {

@@ -3,11 +3,14 @@
 // is: a definition with what refers to it, or a reference.
 #![tactic(auto)]
 
-ghost use Rattle.std.specs.Prelude.{◌≡◌, ◌*◌, ◌≤◌, length};
+ghost use Rattle.std.specs.Prelude.{◌≡◌, ◌<◌, ◌≤◌, length};
 ghost use Rattle.inputs.specs.Inputs.{GoodInputs};
+ghost use Rattle.inputs.specs.declared.TheConstants.{WORDS};
+ghost use Rattle.model.specs.Kinds.{kind_of};
+ghost use Rattle.model.specs.Memory.{count_of};
 
 use memory::Stored;
-use model::{Held, Kind, RelationRecord};
+use model::{Held, Kind};
 use reading::ReadSheet;
 use refusals::Refusal;
 use std::io;
@@ -24,60 +27,28 @@ fn put_word(out: &mut [u8], kind: Kind) -> usize {
 }
 
 // Its kind, index and relation as a line.
-fn show_component(
-    rt: &impl Print,
-    pairs: &[u32],
-    m: usize,
-    r: RelationRecord,
-    index: u32,
-    kind: Kind,
-) -> io::Result<()>
-    requires { (m ≤ 513) × (m * 2 ≤ length pairs.now) }
+fn show_component(rt: &impl Print, stored: &Stored, kind: Kind, index: usize) -> io::Result<()>
+    requires { index < count_of (kind_of kind) stored.now.held }
 {
+    let relation = stored.row(kind, index).relation;
     let mut out = host::buffer();
     let a = put_word(&mut out, kind);
-    let b = output::put_number(&mut out, a, index);
-    let c = entry_lines::put_relation(&mut out, b, pairs, m, r, index, kind);
+    let b = output::put_number(&mut out, a, index as u32);
+    let c = entry_lines::put_relation(&mut out, b, stored, kind, index, relation);
     let n = output::put_byte(&mut out, c, b'\n');
     rt.write_all(part(&out, 0, n))
 }
 
-fn show_components(
-    rt: &impl Print,
-    rows: &[u32],
-    n: usize,
-    pairs: &[u32],
-    m: usize,
-    kind: Kind,
-) -> io::Result<()>
-    requires { (n ≤ 513) × (n * 12 ≤ length rows.now) × (m ≤ 513) × (m * 2 ≤ length pairs.now) }
-{
-    for i in 0..n {
-        let row = model::row_at(rows, i);
-        let relation = row.relation;
-        show_component(rt, pairs, m, relation, i as u32, kind)?;
+fn show_components(rt: &impl Print, stored: &Stored, kind: Kind) -> io::Result<()> {
+    for i in 0..memory::count_of(stored.held, kind) {
+        show_component(rt, stored, kind, i)?;
     }
     Ok(())
 }
 
 fn show_both(rt: &impl Print, stored: &Stored) -> io::Result<()> {
-    let (words, h) = (stored.words, stored.held);
-    show_components(
-        rt,
-        &words[0..6156],
-        h.counts.ingredients,
-        &words[9240..10266],
-        h.counts.ingredient_pairs,
-        Kind::Ingredient,
-    )?;
-    show_components(
-        rt,
-        &words[6156..9240],
-        h.counts.cookware,
-        &words[10266..10780],
-        h.counts.cookware_pairs,
-        Kind::Cookware,
-    )
+    show_components(rt, stored, Kind::Ingredient)?;
+    show_components(rt, stored, Kind::Cookware)
 }
 
 // ---- the recipe
@@ -196,10 +167,10 @@ fn relate_all(rt: &impl Print, s: &[u8], words: &mut [u32]) -> io::Result<()> {
     Ok(())
 }
 
-fn words_room() -> [u32; 45661]
-    ensures { 45661 ≡ length result }
+fn words_room() -> [u32; inputs::WORDS]
+    ensures { WORDS ≡ length result }
 {
-    [0; 45661]
+    [0; inputs::WORDS]
 }
 
 fn main(rt: HostRuntime) -> io::Result<()> {

@@ -5,8 +5,9 @@
 #![tactic(auto)]
 
 ghost use Rattle.std.specs.Prelude.{◌≡◌, ◌<◌, length};
+ghost use Rattle.inputs.specs.declared.TheConstants.{WORDS};
 
-use recipe::Answer;
+use answers::Answer;
 use refusals::Refusal;
 use std::io;
 use std::rt::Files;
@@ -188,10 +189,10 @@ fn replay_all(
 }
 
 // What is lent.
-fn words_room() -> [u32; 45661]
-    ensures { 45661 ≡ length result }
+fn words_room() -> [u32; inputs::WORDS]
+    ensures { WORDS ≡ length result }
 {
-    [0; 45661]
+    [0; inputs::WORDS]
 }
 
 fn bytes_room() -> [u8; 65536]

@@ -8,6 +8,7 @@ ghost use Rattle.content.specs.Parts.{Field};
 ghost use Rattle.parts.specs.Views.{part_of, TextWithin};
 ghost use Rattle.model.specs.Small.{with_inline};
 ghost use Rattle.step_texts.specs.Texts.{PiecesPushed, TextDone};
+ghost use Rattle.model.specs.declared.layout.TheConstants.{MOST_FINDINGS};
 
 use memory::Memory;
 use model::Held;
@@ -33,7 +34,7 @@ fn push_pieces(h: Held, items: usize, quantities: usize) -> Held
 }
 
 pub fn text_in_step(units: &UnitList, flags: u32, line: &[u8], body: TextView, memory: &mut Memory)
-    requires { TextWithin line.now body × Field (part_of line.now body.content) × (memory.old.held.counts.findings < 1544) × (memory.old.held.counts.items + length line.now < 100000) × (memory.old.held.counts.inline + length line.now < 100000) }
+    requires { TextWithin line.now body × Field (part_of line.now body.content) × (memory.old.held.counts.findings < MOST_FINDINGS) × (memory.old.held.counts.items + length line.now < 100000) × (memory.old.held.counts.inline + length line.now < 100000) }
     ensures done { TextDone (units_or (read_units units.now.lines.now)) flags line.now body memory.old.words.now memory.old.held memory.new.words.now memory.new.held }
     ensures lent { memory.new.words.ghost_name ≡ memory.old.words.ghost_name }
 {

@@ -16,7 +16,8 @@ use Rattle.content.proofs.Chars.{content_step, content_none, no_content}
 use Rattle.content.proofs.Cuts.{cut_start, cut_content}
 use Rattle.text.specs.declared.ends.Last.{Last}
 use Rattle.text.specs.declared.ends.Last.TheVariants.{Stays, Goes}
-use Rattle.text.specs.Trims.{EndAt, LastStart, CharStarts, LastChar, LastOf, last_stays, last_goes}
+use Rattle.fronts.specs.Ends.{LastStart}
+use Rattle.text.specs.Trims.{EndAt, CharStarts, LastChar, LastOf, last_stays, last_goes}
 use Rattle.text.proofs.Starts.{cut_starts, cut_within}
 use Rattle.text.proofs.Trims.{end_dropped, end_whole}
 

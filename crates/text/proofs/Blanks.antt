@@ -1,12 +1,12 @@
 -- Blanks at the end of a field.
-use Prim.Native.Nat.{ℕ, suc, ◌-◌, ◌≤◌, ◌<◌, ◌+◌}
+use Prim.Native.Nat.{ℕ, ◌-◌, ◌<◌, ◌+◌}
 use mathlib.Core.Path.{◌≡◌, refl, sym, ap, ◌∙◌}
 use mathlib.Core.Bool.{Bool, true, false}
 use mathlib.Core.List.{List, [], ◌∷◌, ◌++◌, append-nil, append_assoc}
 use Rattle.std.specs.Prelude.{None}
 use native.Mathlib.Omega.{arith}
-use lib.ListN.{length, get_or, take, drop, drop_of_length-le}
-use lib.Seq.{drop-cons, get_or-drop}
+use lib.ListN.{length, get_or, take, drop}
+use lib.Seq.{get_or-drop}
 use Rattle.rules.specs.Sheet.{escaped}
 use Rattle.rules.specs.Text.{trim_end, is_not_alphabetic}
 use Rattle.rules.specs.Utf8.{later}
@@ -18,7 +18,8 @@ use Rattle.content.proofs.Cuts.{cut_content}
 use Rattle.letters.proofs.Ascii.{white_blank, letter_upper}
 use Rattle.text.specs.declared.Dropped.{Dropped}
 use Rattle.text.specs.declared.Dropped.TheVariants.{White, NotAlphabetic}
-use Rattle.text.specs.Trims.{drops_of, CharStarts, Blanks, no_blanks, more_blanks, BlankFrom}
+use Rattle.fronts.specs.Ends.{Blanks, no_blanks, more_blanks, BlankFrom}
+use Rattle.text.specs.Trims.{drops_of, CharStarts}
 use Rattle.text.proofs.Trims.{end_dropped}
 use Rattle.text.proofs.Starts.{cut_starts}
 use Rattle.text.proofs.Backward.{Going}
@@ -66,14 +67,3 @@ module _ (drops : ℕ → Bool) (e : drops 32 ≡ true) where
         begins = b;
         is = sym (ap (trim_end drops) (cut_content s r (cut_starts s r v.most b)) ∙ end_blanks (content_in (take r s)) v.rest);
       }
-
--- ---- the turns of `blanks_end`
-
-pub blanks_none : (s : List ℕ) → BlankFrom s (length s)
-blanks_none s = record { most = omega arith; rest = let l : length s ≤ length s = omega arith in rw (drop_of_length-le s l) no_blanks }
-
-pub blanks_more : {s : List ℕ} {i : ℕ} → BlankFrom s i → 0 < i → get_or s (i - 1) 0 ≡ 32 → BlankFrom s (i - 1)
-blanks_more {s} {i} v h e =
-    let z : suc (i - 1) ≡ i = omega arith in
-    let l : i - 1 < length s = omega (arith, v.most) in
-    record { most = omega (arith, v.most); rest = rw (drop-cons s (i - 1) 0 l, e, z) (more_blanks v.rest) }

@@ -6,7 +6,5 @@ pub mod Writes
 pub mod Singles
 pub mod Names
 pub mod Paths
-pub mod Plain
-pub mod Seams
+pub mod Turns
 pub mod Pairs
-pub mod Lasts

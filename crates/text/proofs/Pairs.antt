@@ -29,8 +29,9 @@ use Rattle.text.specs.declared.meets.Pair.TheVariants.{Apart, Level, FirstShort,
 use Rattle.text.specs.declared.meets.Next.{Next}
 use Rattle.text.specs.declared.meets.Next.TheVariants.{Other, Past}
 use Rattle.text.specs.Names.{fold_from}
-use Rattle.text.proofs.Plain.{plain_stands, fold_stands}
-use Rattle.text.specs.Seams.{same_at, Seam, LetterS, StartsSs, pair_of, Following, other, past, Ahead, apart, level, first_short, second_short, several, Met, answered, onward, unclear, Settled}
+use Rattle.fronts.proofs.Plain.{plain_stands, fold_stands}
+use Rattle.fronts.specs.Seams.{same_at, Seam}
+use Rattle.text.specs.Meets.{LetterS, StartsSs, pair_of, Following, other, past, Ahead, apart, level, first_short, second_short, several, Met, answered, onward, unclear, Settled}
 
 -- ---- the ways of `meet`: ends
 

@@ -1,12 +1,12 @@
 -- Paths written as a page has them.
-use Prim.Native.Nat.{ℕ, zero, suc, ◌<◌, ◌≤◌, ◌+◌}
+use Prim.Native.Nat.{ℕ, suc, ◌<◌, ◌≤◌, ◌+◌}
 use mathlib.Core.Path.{◌≡◌, refl, sym, ap, ◌∙◌}
 use mathlib.Core.Bool.{Bool, true, false, ◌&&◌, not, and-false}
 use mathlib.Core.List.{List, [], ◌∷◌, ◌++◌}
 use native.Mathlib.Omega.{arith}
 use borrow.Author.Tests.{ne_eqb, eqb-true, eqb-false, not-true, not-false}
 use lib.Dec.{eqb}
-use lib.ListN.{length, get_or, drop, drop_of_length-le}
+use lib.ListN.{length, get_or, drop, drop_of_length-le, get_or-eq_default}
 use lib.Seq.{drop-cons, get_or-drop}
 use Rattle.rules.specs.Basic.{pick, blank, each}
 use Rattle.rules.specs.Model.{as_slash}
@@ -23,21 +23,16 @@ use Rattle.content.proofs.Kept.{retain_front, retain_other, retain_keeps, retain
 use Rattle.content.proofs.Spells.{spell_cons, escape_highs, char_written, field_spell, content_scalars}
 use Rattle.text.specs.Paths.{is_back, path_bytes}
 
-pub past_none : (w : List ℕ) (i : ℕ) → length w ≤ i → get_or w i 0 ≡ 0
-past_none [] i h = refl
-past_none (x ∷ w) zero h = absurd (omega arith)
-past_none (x ∷ w) (suc i) h = past_none w i (omega arith)
-
 -- ---- `is_back`
 
 module _ (w : List ℕ) (at : ℕ) where
   pub back_past : length w ≤ at → false ≡ is_back w at
   unfolding is_back
-  back_past h = rw (past_none w at h)
+  back_past h = rw (get_or-eq_default w 0 h)
 
   pub back_last : get_or w at 0 ≡ 92 → length w ≤ at + 1 → false ≡ is_back w at
   unfolding is_back
-  back_last e h = rw (e, past_none w (at + 1) h)
+  back_last e h = rw (e, get_or-eq_default w 0 h)
 
   pub back_other : (get_or w at 0 ≡ 92 → ⊥) → false ≡ is_back w at
   unfolding is_back
@@ -69,7 +64,7 @@ module _ (w : List ℕ) (i : ℕ) {r : Bool} (q : r ≡ is_back w i) where
 
   pub back_within : r ≡ true → i + 1 < length w
   back_within t =
-      by_order (length w) (i + 1) (λ l. absurd (let a = past_none w (i + 1) l in let b = back_there t in omega arith)) (λ l. l)
+      by_order (length w) (i + 1) (λ l. absurd (let a = get_or-eq_default w 0 l in let b = back_there t in omega arith)) (λ l. l)
 
   pub path_two : (p : ℕ) → r ≡ true → path_bytes p (drop i w) ≡ (47 ∷ []) ++ path_bytes 47 (drop (i + 2) w)
   path_two p t =

@@ -5,12 +5,9 @@ use mathlib.Core.Bool.{Bool, true, false, not}
 use mathlib.Core.List.{List, [], ◌∷◌, ◌++◌, append_assoc}
 use native.Mathlib.Omega.{arith}
 use borrow.Author.Tests.{not-true, not-false}
-use lib.ListN.{length, get_or, drop, take, length-drop, length-append, take-append-drop}
+use lib.ListN.{length, drop, take, length-drop, length-append, take-append-drop}
 use lib.Seq.{take_all, take-length, drop-length}
 use Rattle.rules.specs.Basic.{any}
-use Rattle.rules.specs.Utf8.{later}
-use Rattle.rules.proofs.Basics.{within_high}
-use Rattle.rules.proofs.Begins.{later_ascii}
 use Rattle.rules.specs.Text.{trim_start, trim_onto, trim_end, trim_matches, text_outer_trimmed, is_not_alphabetic}
 use Rattle.rules.specs.Unicode.{is_white_space, is_alphabetic}
 use Rattle.utf8.specs.declared.Char.{Char}
@@ -21,7 +18,7 @@ use Rattle.content.proofs.Chars.{content_step, content_none, no_content}
 use Rattle.content.proofs.Cuts.{cut_none, cut_all, cut_seq, cut_start, cut_step}
 use Rattle.text.specs.declared.Dropped.{Dropped}
 use Rattle.text.specs.declared.Dropped.TheVariants.{White, NotAlphabetic}
-use Rattle.text.specs.Trims.{drops_of, StartAt, EndAt, LastStart, TrimmedBy, TrimmedTo}
+use Rattle.text.specs.Trims.{drops_of, StartAt, EndAt, TrimmedBy, TrimmedTo}
 
 -- the tests
 pub dropped_white : (d : Dropped) (c : ℕ) (r : Bool) → d ≡ White → r ≡ is_white_space c → r ≡ drops_of d c
@@ -163,22 +160,6 @@ module _ (drops : ℕ → Bool) where
   trimmed_both {s} {a} {r} v w =
       let l : length (drop a s) ≤ length s - a = omega (arith, length-drop a s) in
       trimmed_behind v (rw (take_all (length s - a) (drop a s) l) at w)
-
--- ---- the ways of `last_start`
-
-later_high : (c : ℕ) → 191 < c → later c ≡ false
-unfolding later
-later_high c h = within_high 128 191 c h
-
-module _ (s : List ℕ) (i : ℕ) (h : i < length s) where
-  pub start_ascii : get_or s i 0 < 128 → LastStart s i
-  start_ascii l = record { inside = h; starts = λ _. later_ascii (get_or s i 0) l }
-
-  pub start_high : 191 < get_or s i 0 → LastStart s i
-  start_high l = record { inside = h; starts = λ _. later_high (get_or s i 0) l }
-
-pub start_none : (s : List ℕ) → 0 < length s → LastStart s 0
-start_none s h = record { inside = h; starts = λ l. absurd (omega arith) }
 
 pub trimmed_white : {s r : List ℕ} → TrimmedBy (trim_matches (drops_of White)) s r → TrimmedTo s r
 unfolding drops_of text_outer_trimmed

@@ -2,5 +2,4 @@ pub mod Trims
 pub mod Singles
 pub mod Names
 pub mod Paths
-pub mod Plain
-pub mod Seams
+pub mod Meets

@@ -29,11 +29,6 @@ pub record EndAt (drops : ℕ → Bool) (s : List ℕ) (r : ℕ) : Type 0 where
   pub cut : CutAt s r
   pub is : content_in (take r s) ≡ trim_end drops (content_in s)
 
--- no byte that goes on with a character stands at r, or r is 0
-pub record LastStart (s : List ℕ) (r : ℕ) : Type 0 where
-  pub inside : r < length s
-  pub starts : 0 < r → later (get_or s r 0) ≡ false
-
 -- a character starts at i, or the bytes end there, whatever stands farther before: no character of several bytes goes over i,
 -- and no escape
 pub record CharStarts (s : List ℕ) (i : ℕ) : Type 0 where
@@ -51,15 +46,6 @@ pub data LastOf (drops : ℕ → Bool) (s : List ℕ) : Last → Type 0 where
   last_stays : {i c : ℕ} → LastChar s i c → drops c ≡ false → LastOf drops s Stays
   last_goes : {i c : ℕ} → LastChar s i c → drops c ≡ true → LastOf drops s (Goes i)
   last_unclear : LastOf drops s Unclear
-
--- bytes that are blanks
-pub data Blanks : List ℕ → Type 0 where
-  no_blanks : Blanks []
-  more_blanks : {q : List ℕ} → Blanks q → Blanks (32 ∷ q)
-
-pub record BlankFrom (s : List ℕ) (r : ℕ) : Type 0 where
-  pub most : r ≤ length s
-  pub rest : Blanks (drop r s)
 
 -- r is the part of the field s that a trimming of its content leaves
 pub record TrimmedBy (trim : List ℕ → List ℕ) (s r : List ℕ) : Type 0 where

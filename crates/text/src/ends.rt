@@ -18,7 +18,7 @@ pub(crate) fn last_of(s: &[u8], d: Dropped) -> Last
     if s.len() < 1 {
         return Last::Unclear;
     }
-    let i = super::fronts::last_start(s);
+    let i = fronts::last_start(s);
     if 0 < i {
         if s[i - 1] == b'\\' {
             return Last::Unclear;

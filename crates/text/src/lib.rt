@@ -3,7 +3,6 @@
 #![tactic(auto)]
 
 mod ends;
-mod fronts;
 mod meets;
 
 ghost use Rattle.std.specs.Prelude.{◌≡◌, true, false, ◌&&◌, ◌+◌, ◌≤◌, ◌<◌, eqb, length, get_or};
@@ -16,7 +15,7 @@ ghost use Rattle.text.specs.Trims.{drops_of, StartAt, EndAt, TrimmedBy, TrimmedT
 ghost use Rattle.text.specs.Singles.{stay, NextBlank};
 ghost use Rattle.text.specs.Paths.{is_back, path_bytes};
 ghost use Rattle.text.specs.Names.{start_cursor, step_of, fold_from, rest, told};
-ghost use Rattle.text.specs.Seams.{Met};
+ghost use Rattle.text.specs.Meets.{Met};
 
 use ends::Last;
 use letters::Folded;

@@ -1,6 +1,7 @@
 // What characters that are not the same bytes, one of each of two names, tell of the names by their foldings.
 ghost use Rattle.std.specs.Prelude.{◌≡◌, true, ◌≤◌, length};
-ghost use Rattle.text.specs.Seams.{Seam, pair_of, Following, Settled, LetterS, StartsSs};
+ghost use Rattle.fronts.specs.Seams.{Seam};
+ghost use Rattle.text.specs.Meets.{pair_of, Following, Settled, LetterS, StartsSs};
 
 use letters::Folded;
 

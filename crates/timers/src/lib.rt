@@ -13,6 +13,7 @@ ghost use Rattle.parts.specs.Views.{span_in, OptTextWithin, OptQuantityWithin};
 ghost use Rattle.model.specs.Rows.{if_found};
 ghost use Rattle.model.specs.Small.{with_timers};
 ghost use Rattle.timers.specs.Timed.{LockChecked, time_code, UnitChecked, TimeChecked, TimerPushed, TimerDone};
+ghost use Rattle.model.specs.declared.layout.TheConstants.{MOST_FINDINGS};
 
 use memory::Memory;
 use model::{Held, Noted};
@@ -67,7 +68,7 @@ fn unit_finding(units: &UnitList, line: &[u8], unit: Option<TextView>) -> Option
 
 // The checks of a timer's quantity with flag 4.
 fn time_checks(units: &UnitList, memory: &mut Memory, line: &[u8], quantity: Option<QuantityView>)
-    requires { OptQuantityWithin line.now quantity × (memory.old.held.counts.findings + 1 < 1544) }
+    requires { OptQuantityWithin line.now quantity × (memory.old.held.counts.findings + 1 < MOST_FINDINGS) }
     ensures done { TimeChecked (units_or (read_units units.now.lines.now)) line.now quantity memory.old.words.now memory.old.held memory.new.words.now memory.new.held }
     ensures lent { memory.new.words.ghost_name ≡ memory.old.words.ghost_name }
 {
@@ -107,7 +108,7 @@ pub fn on_timer(
     quantity: Option<QuantityView>,
     memory: &mut Memory,
 )
-    requires { OptQuantityWithin line.now quantity × (memory.old.held.counts.findings + 2 < 1544) × (memory.old.held.counts.timers < 100000) × (memory.old.held.counts.items < 100000) }
+    requires { OptQuantityWithin line.now quantity × (memory.old.held.counts.findings + 2 < MOST_FINDINGS) × (memory.old.held.counts.timers < 100000) × (memory.old.held.counts.items < 100000) }
     ensures done { TimerDone (units_or (read_units units.now.lines.now)) flags line.now name quantity memory.old.words.now memory.old.held memory.new.words.now memory.new.held }
     ensures lent { memory.new.words.ghost_name ≡ memory.old.words.ghost_name }
 {

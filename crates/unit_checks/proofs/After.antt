@@ -1,12 +1,11 @@
 -- The checks of notes and quantities against a row, and all checks after a reference.
 use Rattle.std.specs.Prelude.{None, Option, Some}
-use Prim.Native.Nat.{ℕ, zero, suc, ◌+◌, ◌-◌, ◌*◌, ◌/◌, ◌%◌, ◌≤◌, ◌<◌}
+use Prim.Native.Nat.{ℕ, ◌+◌, ◌-◌, ◌/◌, ◌%◌, ◌≤◌, ◌<◌}
 use mathlib.Core.Path.{◌≡◌, refl, ap, sym, ◌∙◌}
 use mathlib.Core.Bool.{Bool, true, false, ◌&&◌, not}
 use mathlib.Core.List.{List, [], ◌∷◌, ◌++◌}
 use native.Mathlib.Omega.{arith}
-use lib.Dec.{eqb}
-use lib.ListN.{length, get_or, take, drop, length-append, length-reverse}
+use lib.ListN.{length, take, drop, length-append, length-reverse}
 use borrow.Author.Tests.{eq-eqb, ne_eqb}
 use Rattle.rules.specs.Basic.{pick, on_some}
 use Rattle.rules.specs.Units.{NamedUnit}
@@ -20,8 +19,8 @@ use Rattle.rules.specs.State.{table_of}
 use Rattle.parts.specs.Views.{opt_quantity_in}
 use Rattle.components.specs.declared.ComponentView.{ComponentView}
 use Rattle.components.specs.Views.{component_in, ComponentWithin}
-use Rattle.model.specs.Rows.{row_at, row_of, entry_as, relation_in, relation_as, referrers_in}
-use Rattle.model.specs.Memory.{windows_of, state_in}
+use Rattle.model.specs.Rows.{entry_as, relation_in, relation_as}
+use Rattle.model.specs.Memory.{state_in, Sound, count_of, row_in, referrers_of}
 use Rattle.model.specs.Fits.{AllFit}
 use Rattle.model.specs.declared.Relation.{Relation}
 use Rattle.model.specs.declared.Relation.TheVariants.{Definition, Reference}
@@ -30,26 +29,27 @@ use Rattle.model.specs.declared.Kind.TheVariants as kind
 use Rattle.model.specs.declared.Row.{Row}
 use Rattle.model.specs.declared.Held.{Held}
 use Rattle.model.proofs.Entries.{entry_relation}
-use Rattle.memory.specs.Pushes.{count_of, pairs_of}
 use Rattle.checks.specs.Reports.{NoteWithin, ReferenceChecked}
 use Rattle.memory.specs.Reports.{Reported}
 use Rattle.memory.proofs.Reports.{reported_seq, reported_fit, reported_count}
+use Rattle.memory.proofs.Reading.{referrers_few}
 use Rattle.memory.proofs.Frames.{framed_count, reported_framed}
 use Rattle.checks.proofs.Laws.{none_found, said, note_read}
-use Rattle.lookup.specs.Names.{rows_in, pairs_in, earlier_at}
+use Rattle.lookup.specs.Names.{earlier_at}
 use Rattle.recall.specs.Recalls.{Recalled}
 use Rattle.unit_checks.specs.Checked.{InStep, UnitChecked, UnitsAfter, EntryChecked, ChecksDone}
 use Rattle.unit_checks.proofs.Rows.{earlier_row, framed_earlier, row_fits, old_source, old_amount}
 use Rattle.unit_checks.proofs.Units.{sample, sample_of, against_few, referrers_none}
 use Rattle.parts.specs.declared.QuantityView.{QuantityView}
 use Rattle.model.specs.Kinds.{kind_of}
+use Rattle.model.specs.declared.layout.TheConstants.{MOST_FINDINGS}
 
 -- ---- notes and quantities
 
-module _ (k : Kind) (d : ℕ) {sheet w₀ : List ℕ} {h₀ : Held} {r : Row} {o : ComponentView} (f : AllFit sheet w₀ h₀) (l : d < count_of k h₀) (e : r ≡ row_of (row_at 12 (rows_in k w₀) d))
+module _ (k : Kind) (d : ℕ) {sheet w₀ : List ℕ} {h₀ : Held} {r : Row} {o : ComponentView} (f : AllFit sheet w₀ h₀) (l : d < count_of k h₀) (e : r ≡ row_in k w₀ d)
     (q : Recalled (take (r.line_end - r.line_at) (drop r.line_at sheet)) o) where
   abbrev by : List ℕ
-  by = referrers_in (pairs_in k w₀) d (pairs_of k h₀)
+  by = referrers_of k w₀ h₀ d
 
   old : (entry_as k sheet r by).source ≡ source_of (component_in (take (r.line_end - r.line_at) (drop r.line_at sheet)) o)
   old = old_source k (row_fits f k d l e) q by
@@ -107,15 +107,6 @@ below_ingredient b d h t l = rw t at l
 
 -- ---- how many findings it makes
 
-referrers_few : (pairs : List ℕ) (d m : ℕ) → length (referrers_in pairs d m) ≤ m
-unfolding referrers_in
-referrers_few pairs d zero = omega arith
-referrers_few pairs d (suc m) = by (eqb (get_or pairs (m * 2) 0) d) (referrers_few pairs d m)
-  where
-    by : (t : Bool) → length (referrers_in pairs d m) ≤ m → length (pick t (get_or pairs (m * 2 + 1) 0 ∷ referrers_in pairs d m) (referrers_in pairs d m)) ≤ suc m
-    by true ih = omega arith
-    by false ih = omega arith
-
 relation_few : (k : Kind) (x : Relation) (in_step : Bool) (index : ℕ) (by : List ℕ) → length (referrers (relation_as k x in_step index by)) ≤ length by
 relation_few k Definition in_step index by = unfold relation_as referrers in omega (arith, length-reverse by)
 relation_few k (Reference t) in_step index by = rw (referrers_none k t in_step index by) (omega arith)
@@ -126,29 +117,29 @@ against_all us new table [] = omega arith
 against_all us new table (i ∷ is) =
     omega (arith, length-append (unit_against us new (entry_at i table)) (units_against us new table is), against_few us new (entry_at i table), against_all us new table is)
 
-module _ (sheet w : List ℕ) (h : Held) (d : ℕ) where
+module _ (sheet : List ℕ) {w : List ℕ} {h : Held} (z : Sound w h) (d : ℕ) where
   abbrev row : Row
-  row = row_of (row_at 12 (windows_of w).ingredients d)
+  row = row_in ingredient w d
 
   abbrev its : List ℕ
-  its = referrers_in (windows_of w).ingredient_pairs d h.counts.ingredient_pairs
+  its = referrers_of ingredient w h d
 
   relation_is : (earlier_at ingredient sheet w h d).entry.relation ≡ relation_as ingredient row.relation.relation row.relation.in_step row.relation.index its
   relation_is = ap (λ (x : Entry). x.relation) (earlier_row ingredient sheet w h d refl) ∙ entry_relation ingredient sheet row its ∙ (unfold relation_in in refl)
 
-  earlier_few : length (referrers (earlier_at ingredient sheet w h d).entry.relation) ≤ h.counts.ingredient_pairs
-  earlier_few = rw relation_is (omega (arith, relation_few ingredient row.relation.relation row.relation.in_step row.relation.index its, referrers_few (windows_of w).ingredient_pairs d h.counts.ingredient_pairs))
+  earlier_few : length (referrers (earlier_at ingredient sheet w h d).entry.relation) ≤ h.counts.ingredients
+  earlier_few = rw relation_is (omega (arith, relation_few ingredient row.relation.relation row.relation.in_step row.relation.index its, referrers_few ingredient z d))
 
-  check_few : (us : List NamedUnit) (new : Entry) (table : List Entry) → length (unit_check us new table (earlier_at ingredient sheet w h d)) ≤ h.counts.ingredient_pairs + 1
+  check_few : (us : List NamedUnit) (new : Entry) (table : List Entry) → length (unit_check us new table (earlier_at ingredient sheet w h d)) ≤ h.counts.ingredients + 1
   unfolding unit_check
   check_few us new table = omega (arith, earlier_few, against_all us new table ((earlier_at ingredient sheet w h d).index ∷ referrers (earlier_at ingredient sheet w h d).entry.relation))
 
-after_most : (us : List NamedUnit) (x : Bool) (k : Kind) (new : Entry) (table : List Entry) (sheet w : List ℕ) (h : Held) (d : ℕ)
-    → length (pick (is_ingredient k && x) (unit_check us new table (earlier_at k sheet w h d)) []) ≤ h.counts.ingredient_pairs + 1
+after_most : (us : List NamedUnit) (x : Bool) (k : Kind) (new : Entry) (table : List Entry) (sheet : List ℕ) {w : List ℕ} {h : Held} → Sound w h → (d : ℕ)
+    → length (pick (is_ingredient k && x) (unit_check us new table (earlier_at k sheet w h d)) []) ≤ h.counts.ingredients + 1
 unfolding is_ingredient
-after_most us true ingredient new table sheet w h d = check_few sheet w h d us new table
-after_most us false ingredient new table sheet w h d = omega arith
-after_most us x cookware new table sheet w h d = omega arith
+after_most us true ingredient new table sheet z d = check_few sheet z d us new table
+after_most us false ingredient new table sheet z d = omega arith
+after_most us x cookware new table sheet z d = omega arith
 
 module _ {us : List NamedUnit} {flags : ℕ} {k : Kind} {sheet line : List ℕ} {a : Option QuantityView} {d : ℕ} {w₀ w : List ℕ} {h₀ h : Held} (c : UnitsAfter us flags k sheet line a d w₀ h₀ w h) where
   told : Reported (pick (is_ingredient k && has_advanced_units flags) (unit_check us (sample k line a) (table_of k (state_in sheet w₀ h₀)) (earlier_at k sheet w₀ h₀ d)) []) w₀ h₀ w h
@@ -160,8 +151,8 @@ module _ {us : List NamedUnit} {flags : ℕ} {k : Kind} {sheet line : List ℕ} 
   pub after_below : d < count_of k h₀ → d < count_of k h
   after_below l = omega (arith, framed_count (reported_framed told) k)
 
-  pub after_room : h₀.counts.findings + h₀.counts.ingredient_pairs + 3 < 1544 → h.counts.findings + 2 < 1544
-  after_room l = omega (arith, reported_count told, after_most us (has_advanced_units flags) k (sample k line a) (table_of k (state_in sheet w₀ h₀)) sheet w₀ h₀ d)
+  pub after_room : Sound w₀ h₀ → h₀.counts.findings + h₀.counts.ingredients + 3 < MOST_FINDINGS → h.counts.findings + 2 < MOST_FINDINGS
+  after_room z l = omega (arith, reported_count told, after_most us (has_advanced_units flags) k (sample k line a) (table_of k (state_in sheet w₀ h₀)) sheet z d)
 
   -- ---- all checks
 

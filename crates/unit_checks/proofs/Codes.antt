@@ -6,10 +6,9 @@ use mathlib.Core.List.{List}
 use Rattle.std.specs.Prelude.{Option, None, Some}
 use native.Mathlib.Omega.{arith}
 use native.Mathlib.Numerals.{add-one}
-use borrow.Author.Tests.{eqb-true, eqb-false, eq-eqb, ne_eqb, lt-ltb, le-ltb}
+use borrow.Author.Tests.{eqb-true, eqb-false, eq-eqb, ne_eqb, lt-ltb}
 use lib.Dec.{eqb}
-use lib.ListN.{length, get_or, set, take, drop, replicate, length-set, length-replicate, get_or-replicate}
-use lib.Seq.{get_or-set_same, get_or-set_other}
+use lib.ListN.{get_or, take, drop, replicate, length-replicate, get_or-replicate}
 use Rattle.rules.specs.Basic.{pick, eq_list, on_some}
 use Rattle.rules.specs.Event.{Text, Quantity}
 use Rattle.rules.specs.Units.{NamedUnit}
@@ -29,22 +28,17 @@ use Rattle.model.specs.Rows.{component_of_line}
 use Rattle.recall.specs.Places.{content_if, unit_of, unit_as, UnitRecalled}
 use Rattle.recall.specs.declared.UnitPlace.{UnitPlace}
 use Rattle.recall.specs.declared.UnitPlace.TheVariants.{NoQuantity, NoUnit, At}
+use Rattle.unit_codes.specs.Codes.{code_in, start_in, end_in, PlaceWord, kept_word, with_word, UpToFive, is_unlisted, code_fits, known_fits}
+use Rattle.unit_codes.proofs.Codes.{with_long, with_starts, with_ends, with_says, with_others, zero_not, eight_not}
 use Rattle.unit_checks.specs.Checked.{fits_unit}
-use Rattle.unit_checks.specs.Codes.{Trims, text_code, amount_code, line_code, code_in, start_in, end_in, UnitPlaced, LineWord, PlaceWord, CodesKept, kept_word, with_word, SameUnit, new_text, NewCode, UpToFive, is_unlisted, code_fits, known_fits}
+use Rattle.unit_checks.specs.Codes.{Trims, text_code, amount_code, line_code, UnitPlaced, LineWord, CodesKept, SameUnit, new_text, NewCode}
+use Rattle.unit_codes.specs.declared.TheConstants.{CODES}
+use Rattle.model.specs.declared.layout.TheConstants.{MOST_INGREDIENTS}
 
 pub up_to_five : (us : List NamedUnit) (a : List ℕ) {m : ℕ} → m ≡ unit_code us a → m ≤ 5
 up_to_five us a e = rw e (code_small us a)
 
 -- ---- words
-
--- of a place
-pub place_plain : {p : Part} → PlaceWord p 6
-unfolding code_in
-place_plain = record { is = refl; start = λ l. absurd (omega arith); end = λ l. absurd (omega arith) }
-
-pub place_packed : (p : Part) → 1 ≤ p.from → p.from ≤ p.to → p.to ≤ 65535 → PlaceWord p (p.from * 65536 + p.to)
-unfolding code_in start_in end_in
-place_packed p l o m = record { is = rw (le-ltb (p.from * 65536 + p.to) 16 (omega arith)); start = λ g. omega arith; end = λ g. omega arith }
 
 -- a word that is a code
 plain_word : {units line : List ℕ} {w : ℕ} → w < 16 → w ≡ line_code units line → LineWord units line w
@@ -128,35 +122,6 @@ module _ {old : List ℕ} {p : UnitPlace} (q : UnitRecalled old p) where
                 is = λ z s a u. rw (k.start l, k.end l) (unit_is z s a u);
               }
 
--- ---- what is kept
-
-module _ (codes : List ℕ) (i at end : ℕ) where
-  pub kept_here : get_or codes (i * 3) 0 ≡ at → get_or codes (i * 3 + 1) 0 ≡ end → get_or codes (i * 3 + 2) 0 ≡ kept_word codes i at end
-  unfolding kept_word
-  kept_here a b = rw (eq-eqb _ _ a, eq-eqb _ _ b)
-
-  pub kept_start : (get_or codes (i * 3) 0 ≡ at → ⊥) → 0 ≡ kept_word codes i at end
-  unfolding kept_word
-  kept_start a = rw (ne_eqb _ _ a)
-
-  pub kept_end : get_or codes (i * 3) 0 ≡ at → (get_or codes (i * 3 + 1) 0 ≡ end → ⊥) → 0 ≡ kept_word codes i at end
-  unfolding kept_word
-  kept_end a b = rw (eq-eqb _ _ a, ne_eqb _ _ b)
-
-pub and_none : (b : Bool) → false ≡ (b && false)
-and_none true = refl
-and_none false = refl
-
--- what it says
-module _ (o : ℕ) (n : Option ℕ) {k : ℕ} (e : k ≡ o) {b : Bool} (s : b ≡ (eqb k 6 && is_unlisted n)) where
-  pub known_not : b ≡ true → false ≡ known_fits o n
-  unfolding known_fits
-  known_not h = rw (← e, ← s, h)
-
-  pub known_code : {r : Bool} → b ≡ false → r ≡ code_fits k n → r ≡ known_fits o n
-  unfolding known_fits
-  known_code h c = rw (← e, ← s, h) c
-
 -- ---- its unit
 
 pub same_placed : {old f : List ℕ} {w : ℕ} {r : Bool} → UnitPlaced old w → r ≡ eq_list (trimmed_in (take (end_in w - start_in w) (drop (start_in w) old))) (trimmed_in f) → SameUnit old f r
@@ -171,14 +136,14 @@ written_trimmed j k c = rw (← trimmed_is j, ← k.is) c
 
 -- ---- kept
 
-pub codes_none : {units sheet : List ℕ} → CodesKept units sheet (replicate 1539 0)
+pub codes_none : {units sheet : List ℕ} → CodesKept units sheet (replicate CODES 0)
 codes_none =
     record {
-      long = length-replicate {A = ℕ} 1539 0;
-      is = λ i few there. absurd (there (get_or-replicate {A = ℕ} 1539 (i * 3 + 2) 0 0 (omega (arith, few))));
+      long = length-replicate {A = ℕ} CODES 0;
+      is = λ i few there. absurd (there (get_or-replicate {A = ℕ} CODES (i * 3 + 2) 0 0 (omega (arith, few))));
     }
 
-module _ {units sheet codes : List ℕ} (v : CodesKept units sheet codes) (i : ℕ) (l : i < 513) where
+module _ {units sheet codes : List ℕ} (v : CodesKept units sheet codes) (i : ℕ) (l : i < MOST_INGREDIENTS) where
   pub word_kept : (at end : ℕ) {known : ℕ} → known ≡ kept_word codes i at end → (known ≡ 0 → ⊥) → LineWord units (take (end - at) (drop at sheet)) known
   unfolding kept_word
   word_kept at end {known} k n = by (eqb (get_or codes (i * 3) 0) at) refl (eqb (get_or codes (i * 3 + 1) 0) end) refl k
@@ -190,52 +155,20 @@ module _ {units sheet codes : List ℕ} (v : CodesKept units sheet codes) (i : �
 
   -- one more
   module _ (at end w : ℕ) where
-    abbrev one : List ℕ
-    one = set codes (i * 3) at
-
-    abbrev two : List ℕ
-    two = set one (i * 3 + 1) end
-
-    one_long : length one ≡ 1539
-    one_long = length-set codes (i * 3) at ∙ v.long
-
-    two_long : length two ≡ 1539
-    two_long = length-set one (i * 3 + 1) end ∙ one_long
-
-    starts : get_or (with_word codes i at end w) (i * 3) 0 ≡ at
-    unfolding with_word
-    starts =
-        get_or-set_other two (i * 3 + 2) (i * 3) w 0 (λ q. omega arith) ∙ get_or-set_other one (i * 3 + 1) (i * 3) end 0 (λ q. omega arith)
-        ∙ get_or-set_same codes (i * 3) at 0 (omega (arith, v.long))
-
-    ends : get_or (with_word codes i at end w) (i * 3 + 1) 0 ≡ end
-    unfolding with_word
-    ends = get_or-set_other two (i * 3 + 2) (i * 3 + 1) w 0 (λ q. omega arith) ∙ get_or-set_same one (i * 3 + 1) end 0 (omega (arith, one_long))
-
-    says : get_or (with_word codes i at end w) (i * 3 + 2) 0 ≡ w
-    unfolding with_word
-    says = get_or-set_same two (i * 3 + 2) w 0 (omega (arith, two_long))
-
-    others : (k : ℕ) → (k ≡ i * 3 → ⊥) → (k ≡ i * 3 + 1 → ⊥) → (k ≡ i * 3 + 2 → ⊥) → get_or (with_word codes i at end w) k 0 ≡ get_or codes k 0
-    unfolding with_word
-    others k a b c =
-        get_or-set_other two (i * 3 + 2) k w 0 (λ q. c (omega arith)) ∙ get_or-set_other one (i * 3 + 1) k end 0 (λ q. b (omega arith))
-        ∙ get_or-set_other codes (i * 3) k at 0 (λ q. a (omega arith))
-
     -- the words of the row j, with that one
     abbrev Told : ℕ → Type 0
     Told j = LineWord units (take (get_or (with_word codes i at end w) (j * 3 + 1) 0 - get_or (with_word codes i at end w) (j * 3) 0) (drop (get_or (with_word codes i at end w) (j * 3) 0) sheet)) (get_or (with_word codes i at end w) (j * 3 + 2) 0)
 
     pub word_added : LineWord units (take (end - at) (drop at sheet)) w → CodesKept units sheet (with_word codes i at end w)
-    word_added c = record { long = unfold with_word in length-set two (i * 3 + 2) w ∙ two_long; is = λ j g n. by_order i j (λ p. by_order j i (λ q. here j (omega arith)) (λ q. there j g (λ e. omega arith) n)) (λ p. there j g (λ e. omega arith) n) }
+    word_added c = record { long = with_long codes v.long i at end w; is = λ j g n. by_order i j (λ p. by_order j i (λ q. here j (omega arith)) (λ q. there j g (λ e. omega arith) n)) (λ p. there j g (λ e. omega arith) n) }
       where
         here : (j : ℕ) → j ≡ i → Told j
-        here j e = rw (e, says, ends, starts) c
+        here j e = rw (e, with_says codes v.long i at end w l, with_ends codes v.long i at end w l, with_starts codes v.long i at end w l) c
 
-        there : (j : ℕ) → j < 513 → (j ≡ i → ⊥) → (get_or (with_word codes i at end w) (j * 3 + 2) 0 ≡ 0 → ⊥) → Told j
+        there : (j : ℕ) → j < MOST_INGREDIENTS → (j ≡ i → ⊥) → (get_or (with_word codes i at end w) (j * 3 + 2) 0 ≡ 0 → ⊥) → Told j
         there j g d n =
-            let o : get_or (with_word codes i at end w) (j * 3 + 2) 0 ≡ get_or codes (j * 3 + 2) 0 = others (j * 3 + 2) (λ q. d (omega arith)) (λ q. d (omega arith)) (λ q. d (omega arith)) in
-            rw (o, others (j * 3 + 1) (λ q. d (omega arith)) (λ q. d (omega arith)) (λ q. d (omega arith)), others (j * 3) (λ q. d (omega arith)) (λ q. d (omega arith)) (λ q. d (omega arith)))
+            let o : get_or (with_word codes i at end w) (j * 3 + 2) 0 ≡ get_or codes (j * 3 + 2) 0 = with_others codes v.long i at end w l (j * 3 + 2) (λ q. d (omega arith)) (λ q. d (omega arith)) (λ q. d (omega arith)) in
+            rw (o, with_others codes v.long i at end w l (j * 3 + 1) (λ q. d (omega arith)) (λ q. d (omega arith)) (λ q. d (omega arith)), with_others codes v.long i at end w l (j * 3) (λ q. d (omega arith)) (λ q. d (omega arith)) (λ q. d (omega arith)))
             (v.is j g (λ z. n (o ∙ z)))
 
 -- ---- whether units fit
@@ -303,24 +236,8 @@ module _ (us : List NamedUnit) {f x : List ℕ} (t : Trims f x) {n : Option ℕ}
         go None y (Some q) a w = no_truth (and_right (eqb o 6) false y)
         go (Some m) y (Some q) a w = text_fits q.unit w (eqb-true o 6 (and_left _ _ y)) (λ t u. k.is q t a u)
 
-  zero_not : code_fits 0 n ≡ true → ⊥
-  unfolding code_fits
-  zero_not = go n
-    where
-      go : (z : Option ℕ) → code_fits 0 z ≡ true → ⊥
-      go (Some m) e = omega (arith, eqb-true 0 (m + 1) e)
-      go None e = omega (arith, eqb-true 0 7 e)
-
-  eight_not : code_fits 8 n ≡ true → ⊥
-  unfolding code_fits
-  eight_not = go n refl
-    where
-      go : (z : Option ℕ) → n ≡ z → code_fits 8 z ≡ true → ⊥
-      go (Some m) p e = omega (arith, new_small m p, eqb-true 8 (m + 1) e)
-      go None p e = omega (arith, eqb-true 8 7 e)
-
 -- by the word that is kept
-module _ {units sheet codes : List ℕ} (v : CodesKept units sheet codes) (i : ℕ) (l : i < 513) {f x : List ℕ} (t : Trims f x) {n : Option ℕ} (c : NewCode (units_from units 0) x n) where
+module _ {units sheet codes : List ℕ} (v : CodesKept units sheet codes) (i : ℕ) (l : i < MOST_INGREDIENTS) {f x : List ℕ} (t : Trims f x) {n : Option ℕ} (c : NewCode (units_from units 0) x n) where
   pub fits_kept : (at end : ℕ) {r : Bool} → r ≡ known_fits (code_in (kept_word codes i at end)) n → r ≡ true
       → true ≡ fits_unit (units_from units 0) (component_of_line ingredient (take (end - at) (drop at sheet))).quantity (new_text n f)
   unfolding known_fits line_code
@@ -334,5 +251,5 @@ module _ {units sheet codes : List ℕ} (v : CodesKept units sheet codes) (i : �
           let w : (eqb o 6 && is_unlisted n) ≡ false = rw e at p in
           let no_word : code_in 0 ≡ 0 = unfold code_in in refl in
           fits_coded (units_from units 0) t c (component_of_line ingredient (take (end - at) (drop at sheet))).quantity
-          (sym e ∙ (word_kept v i l at end refl (λ g. zero_not (units_from units 0) t c (rw (sym e ∙ ap code_in g ∙ no_word) at u))).is)
-          (λ g. eight_not (units_from units 0) t c (rw g at u)) refl w (sym u)
+          (sym e ∙ (word_kept v i l at end refl (λ g. zero_not n (rw (sym e ∙ ap code_in g ∙ no_word) at u))).is)
+          (λ g. eight_not n (number_small (units_from units 0) t c) (rw g at u)) refl w (sym u)

@@ -1,17 +1,15 @@
 -- The rows of earlier components: what they stand for, their lines read again, and that findings leave them.
-use Prim.Native.Nat.{ℕ, zero, suc, ◌+◌, ◌-◌, ◌*◌, ◌≤◌, ◌<◌}
+use Prim.Native.Nat.{ℕ, ◌-◌, ◌<◌}
 use mathlib.Core.Path.{◌≡◌, refl, ap, sym, ◌∙◌}
 use mathlib.Core.Bool.{Bool, true}
 use Rattle.std.specs.Prelude.{Option, None, Some}
 use mathlib.Core.List.{List}
-use native.Mathlib.Omega.{arith}
-use lib.ListN.{length, take, drop, length-drop}
-use lib.Seq.{slice, length-take-le}
-use borrow.Author.Tests.{ne_eqb}
+use lib.ListN.{take, drop}
+use lib.Seq.{slice}
 use Rattle.rules.specs.Basic.{is_some, on_some, lf}
 use Rattle.rules.specs.Event.{Event, Component}
 use Rattle.rules.specs.Read.{parse_line}
-use Rattle.rules.specs.Model.{Kind, ingredient, cookware, is_ingredient, amount_of, Source, source_of, entry_with, entry_of}
+use Rattle.rules.specs.Model.{Kind, ingredient, is_ingredient, amount_of, Source, source_of, entry_with, entry_of}
 use Rattle.rules.specs.Reference.{entry_at}
 use Rattle.rules.specs.Checks.{is_defined_in_step}
 use Rattle.rules.specs.State.{table_of}
@@ -20,8 +18,8 @@ use Rattle.rules.proofs.Fields.{Without}
 use Rattle.parts.specs.Views.{opt_quantity_in}
 use Rattle.components.specs.declared.ComponentView.{ComponentView}
 use Rattle.components.specs.Views.{component_in}
-use Rattle.model.specs.Rows.{row_at, row_of, component_of_line, relation_as, relation_in, entry_as, entry_in, entries_in, referrers_in}
-use Rattle.model.specs.Memory.{windows_of, state_of, state_in, Sound}
+use Rattle.model.specs.Rows.{component_of_line, relation_as, relation_in, entry_as, entry_in}
+use Rattle.model.specs.Memory.{state_in, count_of, row_in, rows_in, referrers_of}
 use Rattle.model.specs.Fits.{is_of_kind, Fits, AllFit}
 use Rattle.model.specs.declared.Target.{Target}
 use Rattle.model.specs.declared.Target.TheVariants.{Ingredient, Step, Section}
@@ -31,66 +29,35 @@ use Rattle.model.specs.declared.Kind as kinds
 use Rattle.model.specs.declared.Kind.TheVariants as kind
 use Rattle.model.specs.declared.Row.{Row}
 use Rattle.model.specs.declared.Held.{Held}
-use Rattle.model.proofs.Tables.{entries_length, entries_at}
+use Rattle.model.proofs.Tables.{entries_at}
+use Rattle.model.proofs.Windows.{table_is}
 use Rattle.model.proofs.Entries.{entry_quantity, entry_source}
-use Rattle.memory.specs.Pushes.{count_of, pairs_of}
-use Rattle.memory.proofs.Frames.{Framed, framed_pairs}
-use Rattle.lookup.specs.Names.{rows_in, pairs_in, earlier_in, earlier_at}
+use Rattle.memory.specs.Frames.{Framed}
+use Rattle.lookup.specs.Names.{earlier_in, earlier_at}
 use Rattle.lookup.proofs.Names.{part_slice}
 use Rattle.recall.specs.Recalls.{Recalled, QuantityRecalled}
 use Rattle.unit_checks.specs.Checked.{InStep}
 use Rattle.parts.specs.declared.QuantityView.{QuantityView}
-use Rattle.model.specs.Kinds.{kind_of, room_of}
 
 -- ---- the entry of an index
 
-module _ (k : Kind) (sheet rows pairs : List ℕ) (m : ℕ) where
-  entries_past : (i n : ℕ) → n ≤ i → entry_at i (entries_in k sheet rows pairs m n) ≡ None
-  unfolding entries_in entry_at
-  entries_past i zero h = refl
-  entries_past i (suc n) h = rw (entries_length k sheet rows pairs m n, ne_eqb i n (λ q. omega arith)) (entries_past i n (omega arith))
-
-table_is : (k : Kind) (sheet w : List ℕ) (h : Held) → table_of k (state_in sheet w h) ≡ entries_in k sheet (rows_in k w) (pairs_in k w) (pairs_of k h) (count_of k h)
-unfolding table_of state_in state_of
-table_is ingredient sheet w h = refl
-table_is cookware sheet w h = refl
-
 module _ (k : Kind) (sheet w : List ℕ) (h : Held) (i : ℕ) where
-  pub entry_past : count_of k h ≤ i → entry_at i (table_of k (state_in sheet w h)) ≡ None
-  entry_past l = ap (entry_at i) (table_is k sheet w h) ∙ entries_past k sheet (rows_in k w) (pairs_in k w) (pairs_of k h) i (count_of k h) l
-
   pub entry_there : i < count_of k h → entry_at i (table_of k (state_in sheet w h)) ≡ Some (earlier_at k sheet w h i).entry
   unfolding earlier_in
-  entry_there l = ap (entry_at i) (table_is k sheet w h) ∙ entries_at k sheet (rows_in k w) (pairs_in k w) (pairs_of k h) i (count_of k h) l
+  entry_there l = ap (entry_at i) (table_is k sheet w h) ∙ entries_at k sheet (rows_in k w) (referrers_of k w h) i (count_of k h) l
 
-  pub earlier_row : {r : Row} → r ≡ row_of (row_at 12 (rows_in k w) i) → (earlier_at k sheet w h i).entry ≡ entry_as k sheet r (referrers_in (pairs_in k w) i (pairs_of k h))
+  pub earlier_row : {r : Row} → r ≡ row_in k w i → (earlier_at k sheet w h i).entry ≡ entry_as k sheet r (referrers_of k w h i)
   unfolding earlier_in entry_in
   earlier_row e = rw e
 
 -- findings leave it
-framed_rows : {w w₁ : List ℕ} {h h₁ : Held} → Framed w h w₁ h₁ → (k : Kind) → rows_in k w₁ ≡ rows_in k w
-framed_rows f ingredient = f.ingredients
-framed_rows f cookware = f.cookware
-
-framed_referrers : {w w₁ : List ℕ} {h h₁ : Held} → Framed w h w₁ h₁ → (k : Kind) → pairs_in k w₁ ≡ pairs_in k w
-framed_referrers f ingredient = f.ingredient_pairs
-framed_referrers f cookware = f.cookware_pairs
-
 pub framed_earlier : {w w₁ : List ℕ} {h h₁ : Held} → Framed w h w₁ h₁ → (k : Kind) (sheet : List ℕ) (i : ℕ) → earlier_at k sheet w₁ h₁ i ≡ earlier_at k sheet w h i
-framed_earlier f k sheet i = rw (framed_rows f k, framed_referrers f k, framed_pairs f k)
+framed_earlier f k sheet i = rw (f.rows k, f.referrers k)
 
 -- ---- what a row points at
 
-fits_at : {sheet w : List ℕ} {h : Held} → AllFit sheet w h → (k : Kind) (i : ℕ) → i < count_of k h → Fits k sheet (row_of (row_at 12 (rows_in k w) i))
-fits_at a ingredient i l = a.ingredients.at i l
-fits_at a cookware i l = a.cookware.at i l
-
-pub row_fits : {sheet w : List ℕ} {h : Held} {r : Row} → AllFit sheet w h → (k : Kind) (i : ℕ) → i < count_of k h → r ≡ row_of (row_at 12 (rows_in k w) i) → Fits k sheet r
-row_fits a k i l e = rw e (fits_at a k i l)
-
-pub row_room : {w : List ℕ} {h : Held} → Sound w h → (k : Kind) (i : ℕ) → i < count_of k h → i < room_of k
-row_room z ingredient i l = omega (arith, z.room.ingredients)
-row_room z cookware i l = omega (arith, z.room.cookware)
+pub row_fits : {sheet w : List ℕ} {h : Held} {r : Row} → AllFit sheet w h → (k : Kind) (i : ℕ) → i < count_of k h → r ≡ row_in k w i → Fits k sheet r
+row_fits a k i l e = rw e ((a.rows k).at i l)
 
 some_kind : (k : Kind) (o : Option Event) → is_of_kind k o ≡ true → is_some o ≡ true
 unfolding is_of_kind is_some
@@ -137,32 +104,6 @@ module _ {sheet : List ℕ} {r : Row} (f : Fits ingredient sheet r) {b : Option 
   pub quantity_source : (by : List ℕ) → (entry_as ingredient sheet r by).source.quantity ≡ opt_quantity_in (take (r.line_end - r.line_at) (drop r.line_at sheet)) b
   unfolding entry_of entry_with source_of
   quantity_source by = ap (λ (s : Source). s.quantity) (entry_source ingredient sheet r by) ∙ quantity_is
-
--- ---- the row of a kind
-
-window_long : (a n : ℕ) (w : List ℕ) → 24157 ≤ length w → a + n ≤ 24157 → length (take n (drop a w)) ≡ n
-window_long a n w l m = length-take-le n (drop a w) (omega (arith, length-drop a w))
-
-module _ (w : List ℕ) {b : kinds.Kind} (i : ℕ) where
-  pub ingredient_room : b ≡ kind.Ingredient → 24157 ≤ length w → i < room_of (kind_of b) → (i < 513) × (i * 12 + 12 ≤ length (take 6156 (drop 0 w)))
-  ingredient_room e l m =
-      let k : i < 513 = rw e at m in
-      let n : length (take 6156 (drop 0 w)) ≡ 6156 = window_long 0 6156 w l (omega arith) in
-      (k, omega arith)
-
-  pub cookware_room : b ≡ kind.Cookware → 24157 ≤ length w → i < room_of (kind_of b) → (i < 513) × (i * 12 + 12 ≤ length (take 3084 (drop 6156 w)))
-  cookware_room e l m =
-      let k : i < 257 = rw e at m in
-      let n : length (take 3084 (drop 6156 w)) ≡ 3084 = window_long 6156 3084 w l (omega arith) in
-      (omega arith, omega arith)
-
-  pub ingredient_row : {r : Row} → b ≡ kind.Ingredient → r ≡ row_of (row_at 12 (take 6156 (drop 0 w)) i) → r ≡ row_of (row_at 12 (rows_in (kind_of b) w) i)
-  unfolding windows_of
-  ingredient_row e q = rw e q
-
-  pub cookware_row : {r : Row} → b ≡ kind.Cookware → r ≡ row_of (row_at 12 (take 3084 (drop 6156 w)) i) → r ≡ row_of (row_at 12 (rows_in (kind_of b) w) i)
-  unfolding windows_of
-  cookware_row e q = rw e q
 
 -- ---- whether an entry is defined in a step
 

@@ -1,15 +1,13 @@
 -- The unit check: one row, all referrers of a definition, the definition before them.
-use Prim.Native.Nat.{ℕ, zero, suc, ◌+◌, ◌-◌, ◌*◌, ◌≤◌, ◌<◌}
+use Prim.Native.Nat.{ℕ, zero, suc, ◌+◌, ◌-◌, ◌≤◌, ◌<◌}
 use mathlib.Core.Path.{◌≡◌, refl, ap, sym, ◌∙◌}
-use mathlib.Core.Bool.{Bool, true, false}
+use mathlib.Core.Bool.{Bool, true}
 use Rattle.std.specs.Prelude.{Option, None, Some}
-use mathlib.Core.List.{List, [], ◌∷◌, ◌++◌, append-nil}
+use mathlib.Core.List.{List, [], ◌∷◌, ◌++◌, reverse, append-nil}
 use native.Mathlib.Omega.{arith}
-use borrow.Author.Tests.{lt-ltb, le-ltb}
 use lib.ListN.{length, take, drop}
 use Rattle.rules.specs.Basic.{on_some}
 use Rattle.rules.specs.Event as rules
-use Rattle.rules.proofs.Basics.{no_truth, by_order}
 use Rattle.rules.specs.Read.{no_modifiers}
 use Rattle.rules.specs.Units.{NamedUnit}
 use Rattle.rules.specs.Model.{Kind, ingredient, is_ingredient, Amount, amount_of, Entry, definition}
@@ -18,10 +16,10 @@ use Rattle.rules.specs.Checks.{unit_finding, unit_pair, unit_against, units_agai
 use Rattle.rules.specs.State.{table_of}
 use Rattle.parts.specs.Views.{opt_quantity_in}
 use Rattle.model.specs.Blank.{blank_span}
-use Rattle.model.specs.Rows.{row_at, row_of, component_of_line, entry_as, relation_in, relation_as, referrers_in, referrers_from, if_found}
-use Rattle.model.specs.Memory.{windows_of, state_in, Sound}
-use Rattle.model.specs.Fits.{Fits, AllFit}
-use Rattle.model.specs.Searches.{NextReferrer, NextAs}
+use Rattle.model.specs.Rows.{component_of_line, entry_as, relation_in, relation_as, if_found}
+use Rattle.model.specs.Memory.{state_in, Sound, row_in, referrers_of, referrers_left}
+use Rattle.model.specs.Fits.{AllFit}
+use Rattle.memory.specs.Referrers.{FirstReferrer, NextReferrer, NextAs}
 use Rattle.model.specs.declared.Target.{Target}
 use Rattle.model.specs.declared.Target.TheVariants.{Ingredient, Step, Section}
 use Rattle.model.specs.declared.Relation.{Relation}
@@ -30,20 +28,21 @@ use Rattle.model.specs.declared.Row.{Row}
 use Rattle.model.specs.declared.Noted.{Noted}
 use Rattle.model.specs.declared.Held.{Held}
 use Rattle.model.proofs.Entries.{entry_relation}
-use Rattle.model.proofs.Searches.{referrers_oldest}
-use Rattle.memory.proofs.Whole.{long_ingredient_pairs}
+use Rattle.memory.proofs.Reading.{left_few}
 use Rattle.checks.specs.Reports.{UnitsChecked}
 use Rattle.memory.specs.Reports.{Reported, nothing}
 use Rattle.memory.proofs.Reports.{reported_seq, reported_as, reported_fit, found_count}
-use Rattle.memory.proofs.Frames.{Framed, framed_none, framed_seq, framed_count, framed_pairs, reported_framed, reported_table}
+use Rattle.memory.specs.Frames.{Framed}
+use Rattle.memory.proofs.Frames.{framed_none, framed_seq, framed_count, reported_framed, reported_table}
 use Rattle.checks.proofs.Laws.{nothing_found, none_found, said}
-use Rattle.lookup.specs.Names.{rows_in, pairs_in, earlier_in, earlier_at}
+use Rattle.lookup.specs.Names.{earlier_in, earlier_at}
 use Rattle.recall.specs.Recalls.{QuantityRecalled}
 use Rattle.unit_checks.specs.Codes.{new_text}
 use Rattle.unit_checks.specs.Checked.{QuantityOf, UnitKnown, fits_unit, fits_row, RowChecked, ReferrersChecked, UnitChecked}
-use Rattle.unit_checks.proofs.Rows.{entry_past, entry_there, earlier_row, row_fits, line_amount, quantity_source}
+use Rattle.unit_checks.proofs.Rows.{entry_there, earlier_row, row_fits, line_amount, quantity_source}
 use Rattle.unit_checks.proofs.Fitting.{finding_none}
 use Rattle.parts.specs.declared.QuantityView.{QuantityView}
+use Rattle.model.specs.declared.layout.TheConstants.{MOST_FINDINGS}
 
 -- ---- one row
 
@@ -60,23 +59,12 @@ amount_is : {new : Entry} {line : List ℕ} {a : Option QuantityView} → Quanti
 unfolding is_ingredient
 amount_is n = n.is_amount
 
-module _ (w : List ℕ) (i : ℕ) where
-  row_window : {r : Row} → r ≡ row_of (row_at 12 (take 6156 (drop 0 w)) i) → r ≡ row_of (row_at 12 (rows_in ingredient w) i)
-  unfolding windows_of
-  row_window e = e
-
-  pub window_fits : {sheet : List ℕ} {h : Held} {r : Row} → AllFit sheet w h → i < h.counts.ingredients → r ≡ row_of (row_at 12 (take 6156 (drop 0 w)) i) → Fits ingredient sheet r
-  window_fits a l e = row_fits a ingredient i l (row_window e)
-
-pub row_none : {us : List NamedUnit} {sheet line : List ℕ} {a : Option QuantityView} {i : ℕ} {w : List ℕ} {h : Held} → h.counts.ingredients ≤ i → RowChecked us sheet line a i w h None
-row_none {us} {sheet} {i = i} {w = w} {h = h} l = record { is = λ new q. nothing_found (ap (unit_against us new) (entry_past ingredient sheet w h i l) ∙ (unfold unit_against in refl)) }
-
-module _ (i : ℕ) {sheet w₀ : List ℕ} {h₀ : Held} {r : Row} (f : AllFit sheet w₀ h₀) (l : i < h₀.counts.ingredients) (e : r ≡ row_of (row_at 12 (take 6156 (drop 0 w₀)) i)) where
+module _ (i : ℕ) {sheet w₀ : List ℕ} {h₀ : Held} {r : Row} (f : AllFit sheet w₀ h₀) (l : i < h₀.counts.ingredients) (e : r ≡ row_in ingredient w₀ i) where
   abbrev by : List ℕ
-  by = referrers_in (pairs_in ingredient w₀) i h₀.counts.ingredient_pairs
+  by = referrers_of ingredient w₀ h₀ i
 
   row_entry : entry_at i (table_of ingredient (state_in sheet w₀ h₀)) ≡ Some (entry_as ingredient sheet r by)
-  row_entry = entry_there ingredient sheet w₀ h₀ i l ∙ ap (λ (x : Entry). Some x) (earlier_row ingredient sheet w₀ h₀ i (row_window w₀ i e))
+  row_entry = entry_there ingredient sheet w₀ h₀ i l ∙ ap (λ (x : Entry). Some x) (earlier_row ingredient sheet w₀ h₀ i e)
 
   -- one that fits draws nothing
   row_pair : (us : List NamedUnit) (new : Entry) {line : List ℕ} {a : Option QuantityView} → QuantityOf new ingredient line a
@@ -86,7 +74,7 @@ module _ (i : ℕ) {sheet w₀ : List ℕ} {h₀ : Held} {r : Row} (f : AllFit s
       ap (unit_against us new) row_entry
       ∙ against_some us new (entry_as ingredient sheet r by)
       ∙ ap (λ (x : Option Amount). unit_pair us new x (entry_as ingredient sheet r by).quantity (entry_as ingredient sheet r by)) (amount_is n)
-      ∙ ap (λ (x : Option Amount). unit_pair us new (on_some (amount_of true) (opt_quantity_in line a)) x (entry_as ingredient sheet r by)) (line_amount (window_fits w₀ i f l e) by)
+      ∙ ap (λ (x : Option Amount). unit_pair us new (on_some (amount_of true) (opt_quantity_in line a)) x (entry_as ingredient sheet r by)) (line_amount (row_fits f ingredient i l e) by)
 
   pub row_fitting : {us vs : List NamedUnit} {line : List ℕ} {a : Option QuantityView} {g x : List ℕ} {n : Option ℕ} {t : Bool} → us ≡ vs → UnitKnown us line a g x n
       → t ≡ fits_unit us (component_of_line ingredient (take (r.line_end - r.line_at) (drop r.line_at sheet))).quantity (new_text n g) → t ≡ true
@@ -97,9 +85,9 @@ module _ (i : ℕ) {sheet w₀ : List ℕ} {h₀ : Held} {r : Row} (f : AllFit s
         is = λ new n. nothing_found (row_pair us new n ∙ finding_none us new (opt_quantity_in line a) _ _ (λ q o. ap (fits_unit us _) (k.is q o) ∙ sym t ∙ z));
       }
 
-  pub fits_there : (us : List NamedUnit) (b : Option (List ℕ)) {t : Bool} → t ≡ fits_unit us (component_of_line ingredient (take (r.line_end - r.line_at) (drop r.line_at sheet))).quantity b → t ≡ fits_row us sheet w₀ h₀ i b
+  pub fits_there : (us : List NamedUnit) (b : Option (List ℕ)) {t : Bool} → t ≡ fits_unit us (component_of_line ingredient (take (r.line_end - r.line_at) (drop r.line_at sheet))).quantity b → t ≡ fits_row us sheet w₀ i b
   unfolding fits_row
-  fits_there us b t = rw (lt-ltb i h₀.counts.ingredients l, ← row_window w₀ i e) t
+  fits_there us b t = rw (← e) t
 
   module _ {b : Option QuantityView} (q : QuantityRecalled (take (r.line_end - r.line_at) (drop r.line_at sheet)) b) where
     same : (us : List NamedUnit) {line : List ℕ} {a : Option QuantityView} (new : Entry) → QuantityOf new ingredient line a
@@ -109,23 +97,12 @@ module _ (i : ℕ) {sheet w₀ : List ℕ} {h₀ : Held} {r : Row} (f : AllFit s
         row_pair us new n ∙ ap (λ (x : Option rules.Quantity). unit_pair us new (on_some (amount_of true) (opt_quantity_in line a)) (on_some (amount_of true) x) (entry_as ingredient sheet r by)) (sym q.is)
 
     pub row_checked : {us : List NamedUnit} {line : List ℕ} {a : Option QuantityView} {x : Option Noted} → UnitsChecked us line a (take (r.line_end - r.line_at) (drop r.line_at sheet)) b x → RowChecked us sheet line a i w₀ h₀ x
-    row_checked {us} u = record { is = λ new n. u.is true true new (entry_as ingredient sheet r by) n.is_source (quantity_source (window_fits w₀ i f l e) q by) ∙ sym (same us new n) }
-
-module _ (us : List NamedUnit) (sheet w : List ℕ) (h : Held) (i : ℕ) (b : Option (List ℕ)) where
-  pub fits_past : h.counts.ingredients ≤ i → true ≡ fits_row us sheet w h i b
-  unfolding fits_row
-  fits_past l = rw (le-ltb i h.counts.ingredients l)
-
-  pub not_past : {t : Bool} → t ≡ fits_row us sheet w h i b → t ≡ false → i < h.counts.ingredients
-  not_past e n = by_order h.counts.ingredients i (λ l. no_truth (sym n ∙ e ∙ sym (fits_past l))) (λ l. l)
+    row_checked {us} u = record { is = λ new n. u.is true true new (entry_as ingredient sheet r by) n.is_source (quantity_source (row_fits f ingredient i l e) q by) ∙ sym (same us new n) }
 
 -- a row that fits draws nothing
-pub row_skipped : {us vs : List NamedUnit} {sheet line : List ℕ} {a : Option QuantityView} {g x : List ℕ} {n : Option ℕ} {i : ℕ} {w : List ℕ} {h : Held} {t : Bool} → AllFit sheet w h → us ≡ vs → UnitKnown us line a g x n
-    → t ≡ fits_row us sheet w h i (new_text n g) → t ≡ true → RowChecked vs sheet line a i w h None
-row_skipped {us} {vs} {sheet} {line} {a} {g} {n = n} {i} {w} {h} {t} f ev k e z = by_order h.counts.ingredients i row_none there
-  where
-    there : i < h.counts.ingredients → RowChecked vs sheet line a i w h None
-    there l = row_fitting i f l refl ev k (e ∙ sym (fits_there i f l refl us (new_text n g) refl)) z
+pub row_skipped : {us vs : List NamedUnit} {sheet line : List ℕ} {a : Option QuantityView} {g x : List ℕ} {n : Option ℕ} {i : ℕ} {w : List ℕ} {h : Held} {t : Bool} → AllFit sheet w h → i < h.counts.ingredients → us ≡ vs
+    → UnitKnown us line a g x n → t ≡ fits_row us sheet w i (new_text n g) → t ≡ true → RowChecked vs sheet line a i w h None
+row_skipped {us} {g = g} {n = n} {i = i} f l ev k e z = row_fitting i f l refl ev k (e ∙ sym (fits_there i f l refl us (new_text n g) refl)) z
 
 -- ---- what it leaves, whatever the entry is
 
@@ -170,8 +147,8 @@ module _ (x : Option Noted) {w₀ w : List ℕ} {h₀ h : Held} (p : Reported (i
   pub row_below : {d : ℕ} → d < h₀.counts.ingredients → d < h.counts.ingredients
   row_below l = omega (arith, framed_count (reported_framed p) ingredient)
 
-  pub row_left : h₀.counts.findings + h₀.counts.ingredient_pairs < 1544 → h.counts.findings + h.counts.ingredient_pairs ≤ 1544
-  row_left l = omega (arith, framed_pairs (reported_framed p) ingredient, found_count x p)
+  pub row_left : h₀.counts.findings + h₀.counts.ingredients < MOST_FINDINGS → h.counts.findings + h.counts.ingredients ≤ MOST_FINDINGS
+  row_left l = omega (arith, framed_count (reported_framed p) ingredient, found_count x p)
 
 nothing_told : {w : List ℕ} {h : Held} → Reported (if_found None) w h w h
 unfolding if_found
@@ -179,74 +156,70 @@ nothing_told = nothing
 
 -- ---- the referrers
 
-pub pairs_ready : {w : List ℕ} {h : Held} → Sound w h → (h.counts.ingredient_pairs ≤ 513) × (h.counts.ingredient_pairs * 2 ≤ length (take 1026 (drop 9240 w)))
-unfolding windows_of
-pairs_ready {w} z =
-    let n : length (take 1026 (drop 9240 w)) ≡ 1026 = long_ingredient_pairs z in
-    (omega (arith, z.room.ingredients, z.room.ingredient_pairs), omega (arith, z.room.ingredients, z.room.ingredient_pairs))
-
--- what is found from the pair at `from` on makes the whole
-pub record Going (us : List NamedUnit) (sheet line : List ℕ) (a : Option QuantityView) (d : ℕ) (w₀ : List ℕ) (h₀ : Held) (w : List ℕ) (h : Held) (from : ℕ) : Type 0 where
+-- what is found from a place on makes the whole
+pub record Going (us : List NamedUnit) (sheet line : List ℕ) (a : Option QuantityView) (d : ℕ) (w₀ : List ℕ) (h₀ : Held) (w : List ℕ) (h : Held) (place : ℕ) : Type 0 where
   pub fit : AllFit sheet w h
   pub framed : Framed w₀ h₀ w h
   pub table : table_of ingredient (state_in sheet w h) ≡ table_of ingredient (state_in sheet w₀ h₀)
-  pub room : h.counts.findings + (h₀.counts.ingredient_pairs - from) ≤ 1544
+  pub room : h.counts.findings + length (referrers_left ingredient w₀ h₀ d place) ≤ MOST_FINDINGS
   pub is : (new : Entry) → QuantityOf new ingredient line a → (w₂ : List ℕ) (h₂ : Held)
-      → Reported (units_against us new (table_of ingredient (state_in sheet w₀ h₀)) (referrers_from (windows_of w₀).ingredient_pairs d from (h₀.counts.ingredient_pairs - from))) w h w₂ h₂
-      → Reported (units_against us new (table_of ingredient (state_in sheet w₀ h₀)) (referrers_from (windows_of w₀).ingredient_pairs d 0 h₀.counts.ingredient_pairs)) w₀ h₀ w₂ h₂
+      → Reported (units_against us new (table_of ingredient (state_in sheet w₀ h₀)) (referrers_left ingredient w₀ h₀ d place)) w h w₂ h₂
+      → Reported (units_against us new (table_of ingredient (state_in sheet w₀ h₀)) (reverse (referrers_of ingredient w₀ h₀ d))) w₀ h₀ w₂ h₂
 
 module _ {us : List NamedUnit} {sheet line : List ℕ} {a : Option QuantityView} {d : ℕ} {w₀ : List ℕ} {h₀ : Held} where
-  pub going_start : AllFit sheet w₀ h₀ → h₀.counts.findings + h₀.counts.ingredient_pairs ≤ 1544 → Going us sheet line a d w₀ h₀ w₀ h₀ 0
-  going_start f l =
-      let e : h₀.counts.ingredient_pairs - 0 ≡ h₀.counts.ingredient_pairs = omega arith in
-      record { fit = f; framed = framed_none; table = refl; room = omega arith; is = λ new n w₂ h₂ r. rw e at r }
+  pub going_start : {place : ℕ} → Sound w₀ h₀ → FirstReferrer ingredient w₀ h₀ d place → AllFit sheet w₀ h₀ → h₀.counts.findings + h₀.counts.ingredients ≤ MOST_FINDINGS → Going us sheet line a d w₀ h₀ w₀ h₀ place
+  going_start z p f l = record { fit = f; framed = framed_none; table = refl; room = omega (arith, left_few ingredient z d p); is = λ new n w₂ h₂ r. rw p.is at r }
 
-  module _ {w : List ℕ} {h : Held} {from : ℕ} (g : Going us sheet line a d w₀ h₀ w h from) where
-    pub going_room : from < h₀.counts.ingredient_pairs → h.counts.findings < 1544
-    going_room l = omega (arith, g.room)
+  module _ {w : List ℕ} {h : Held} {place : ℕ} (g : Going us sheet line a d w₀ h₀ w h place) where
+    -- the definition is there still
+    pub going_here : d < h₀.counts.ingredients → d < h.counts.ingredients
+    going_here l = omega (arith, framed_count g.framed ingredient)
 
-    none_left : referrers_from (windows_of w₀).ingredient_pairs d from (h₀.counts.ingredient_pairs - from) ≡ [] → ReferrersChecked us sheet line a d w₀ h₀ w h
-    none_left e = record { is = λ new n. g.is new n w h (none_found (rw e (unfold units_against in refl))) }
-
-    pub going_past : h₀.counts.ingredient_pairs ≤ from → ReferrersChecked us sheet line a d w₀ h₀ w h
-    going_past l =
-        let e : h₀.counts.ingredient_pairs - from ≡ 0 = omega arith in
-        none_left (rw e (unfold referrers_from in refl))
-
-    module _ {x : Option (ℕ × ℕ)} (n : NextReferrer (windows_of w).ingredient_pairs h.counts.ingredient_pairs d from x) where
-      next_is : NextAs (windows_of w₀).ingredient_pairs h₀.counts.ingredient_pairs d from x
-      next_is =
-          let e = g.framed.ingredient_pairs in
-          let k : h.counts.ingredient_pairs ≡ h₀.counts.ingredient_pairs = framed_pairs g.framed ingredient in
-          rw (e, k) at n.is
+    module _ {x : Option (ℕ × ℕ)} (n : NextReferrer ingredient w h d place x) where
+      next_is : NextAs ingredient w h d place x
+      next_is = n.is
 
       pub going_end : x ≡ None → ReferrersChecked us sheet line a d w₀ h₀ w h
-      going_end e = none_left (let z = next_is in rw e at z)
+      going_end e =
+          let z : NextAs ingredient w h d place None = (let y = next_is in rw e at y) in
+          record { is = λ new n. g.is new n w h (none_found (rw (sym (g.framed.left ingredient d place) ∙ z) (unfold units_against in refl))) }
 
       module _ (i next : ℕ) (e : x ≡ Some (i, next)) where
-        found : NextAs (windows_of w₀).ingredient_pairs h₀.counts.ingredient_pairs d from (Some (i, next))
+        found : NextAs ingredient w h d place (Some (i, next))
         found = let z = next_is in rw e at z
 
-        pub going_less : from < next
-        going_less = found.0
+        pub going_below : i < h.counts.ingredients
+        going_below = found.0
 
-        pub going_turn : {y : Option Noted} {w₁ : List ℕ} {h₁ : Held} → from < h₀.counts.ingredient_pairs → RowChecked us sheet line a i w h y → Reported (if_found y) w h w₁ h₁ → Going us sheet line a d w₀ h₀ w₁ h₁ next
-        going_turn l c p =
+        more : referrers_left ingredient w₀ h₀ d place ≡ i ∷ referrers_left ingredient w₀ h₀ d next
+        more = sym (g.framed.left ingredient d place) ∙ found.1 ∙ ap (λ (l : List ℕ). i ∷ l) (g.framed.left ingredient d next)
+
+        shorter : length (referrers_left ingredient w₀ h₀ d place) ≡ suc (length (referrers_left ingredient w₀ h₀ d next))
+        shorter = ap length more
+
+        pub going_less : length (referrers_left ingredient w₀ h₀ d next) < length (referrers_left ingredient w₀ h₀ d place)
+        going_less = omega (arith, shorter)
+
+        pub going_room : h.counts.findings < MOST_FINDINGS
+        going_room = omega (arith, g.room, shorter)
+
+        pub going_turn : {y : Option Noted} {w₁ : List ℕ} {h₁ : Held} → RowChecked us sheet line a i w h y → Reported (if_found y) w h w₁ h₁ → Going us sheet line a d w₀ h₀ w₁ h₁ next
+        going_turn c p =
             record {
               fit = reported_fit p sheet g.fit;
               framed = framed_seq g.framed (reported_framed p);
               table = reported_table p ingredient sheet ∙ g.table;
-              room = omega (arith, found_count _ p, g.room, found.0, found.1);
+              room = omega (arith, found_count _ p, g.room, shorter);
               is =
                   λ new n w₂ h₂ r.
                   g.is new n w₂ h₂
-                  (said (ap (units_against us new (table_of ingredient (state_in sheet w₀ h₀))) found.2 ∙ units_more us new (table_of ingredient (state_in sheet w₀ h₀)) i _)
+                  (said (ap (units_against us new (table_of ingredient (state_in sheet w₀ h₀))) more ∙ units_more us new (table_of ingredient (state_in sheet w₀ h₀)) i _)
                   (reported_seq (said (ap (λ (t : List Entry). unit_against us new (entry_at i t)) (sym g.table)) (row_told _ p c new n)) r));
             }
 
         -- nothing is drawn
-        pub going_skip : from < h₀.counts.ingredient_pairs → RowChecked us sheet line a i w h None → Going us sheet line a d w₀ h₀ w h next
-        going_skip l c = going_turn l c nothing_told
+        pub going_skip : RowChecked us sheet line a i w h None → Going us sheet line a d w₀ h₀ w h next
+        going_skip c = going_turn c nothing_told
 
 -- ---- the definition, and then its referrers
 
@@ -273,10 +246,10 @@ referrers_other : (k : Kind) (x : Relation) → (x ≡ Definition → ⊥) → (
 referrers_other k Definition n in_step index _ = absurd (n refl)
 referrers_other k (Reference t) n in_step index its = referrers_none k t in_step index its
 
-module _ {us : List NamedUnit} {sheet line : List ℕ} {a : Option QuantityView} {d : ℕ} {w₀ w₁ : List ℕ} {h₀ h₁ : Held} {r : Row} (e : r ≡ row_of (row_at 12 (rows_in ingredient w₀) d))
+module _ {us : List NamedUnit} {sheet line : List ℕ} {a : Option QuantityView} {d : ℕ} {w₀ w₁ : List ℕ} {h₀ h₁ : Held} {r : Row} (e : r ≡ row_in ingredient w₀ d)
     {y : Option Noted} (c : RowChecked us sheet line a d w₀ h₀ y) (t : Reported (if_found y) w₀ h₀ w₁ h₁) where
   relation_is : (earlier_at ingredient sheet w₀ h₀ d).entry.relation
-      ≡ relation_as ingredient r.relation.relation r.relation.in_step r.relation.index (referrers_in (windows_of w₀).ingredient_pairs d h₀.counts.ingredient_pairs)
+      ≡ relation_as ingredient r.relation.relation r.relation.in_step r.relation.index (referrers_of ingredient w₀ h₀ d)
   relation_is = ap (λ (x : Entry). x.relation) (earlier_row ingredient sheet w₀ h₀ d e) ∙ entry_relation ingredient sheet r _ ∙ (unfold relation_in in refl)
 
   split : (new : Entry) (is : List ℕ) → referrers (earlier_at ingredient sheet w₀ h₀ d).entry.relation ≡ is
@@ -305,15 +278,14 @@ module _ {us : List NamedUnit} {sheet line : List ℕ} {a : Option QuantityView}
       record {
         is =
             λ new p q.
-            said (split new (referrers_from (windows_of w₀).ingredient_pairs d 0 h₀.counts.ingredient_pairs) (ap referrers relation_is ∙ rw o (unfold relation_as in referrers_oldest (windows_of w₀).ingredient_pairs d h₀.counts.ingredient_pairs _)))
+            said (split new (reverse (referrers_of ingredient w₀ h₀ d)) (ap referrers relation_is ∙ rw o (unfold relation_as referrers in refl)))
             (reported_seq (row_told _ t c new (quantity_of new p q)) (later new (quantity_of new p q)));
       }
     where
       later : (new : Entry) → QuantityOf new ingredient line a
-          → Reported (units_against us new (table_of ingredient (state_in sheet w₀ h₀)) (referrers_from (windows_of w₀).ingredient_pairs d 0 h₀.counts.ingredient_pairs)) w₁ h₁ w h
+          → Reported (units_against us new (table_of ingredient (state_in sheet w₀ h₀)) (reverse (referrers_of ingredient w₀ h₀ d))) w₁ h₁ w h
       later new n =
           said
-          (ap (λ (l : List Entry). units_against us new l (referrers_from (windows_of w₀).ingredient_pairs d 0 h₀.counts.ingredient_pairs)) (sym (reported_table t ingredient sheet))
-          ∙ ap (λ (p : List ℕ). units_against us new (table_of ingredient (state_in sheet w₁ h₁)) (referrers_from p d 0 h₀.counts.ingredient_pairs)) (sym (reported_framed t).ingredient_pairs)
-          ∙ ap (λ (m : ℕ). units_against us new (table_of ingredient (state_in sheet w₁ h₁)) (referrers_from (windows_of w₁).ingredient_pairs d 0 m)) (sym (ap (λ (z : Held). z.counts.ingredient_pairs) (reported_framed t).held)))
+          (ap (λ (l : List Entry). units_against us new l (reverse (referrers_of ingredient w₀ h₀ d))) (sym (reported_table t ingredient sheet))
+          ∙ ap (λ (by : ℕ → List ℕ). units_against us new (table_of ingredient (state_in sheet w₁ h₁)) (reverse (by d))) (sym ((reported_framed t).referrers ingredient)))
           (g.is new n)

@@ -1,5 +1,5 @@
 -- What the unit check of a row answers, and all checks after a reference leave in work memory.
-use Rattle.std.specs.Prelude.{ℕ, ◌-◌, ◌<◌, ◌≡◌, List, [], Bool, true, ◌&&◌, not, eqb, ltb, take, drop, Option, None, Some}
+use Rattle.std.specs.Prelude.{ℕ, reverse, ◌-◌, ◌<◌, ◌≡◌, List, [], Bool, true, ◌&&◌, not, eqb, take, drop, Option, None, Some}
 use Rattle.rules.specs.Basic.{pick, is_some, on_some}
 use Rattle.rules.specs.Units.{NamedUnit}
 use Rattle.rules.specs.Modes.{has_advanced_units}
@@ -14,15 +14,14 @@ use Rattle.unit_checks.specs.Codes.{new_text, NewCode}
 use Rattle.parts.specs.Views.{opt_quantity_in, OptQuantityWithin}
 use Rattle.components.specs.declared.ComponentView.{ComponentView}
 use Rattle.components.specs.Views.{component_in}
-use Rattle.model.specs.Rows.{row_at, row_of, component_of_line, referrers_from, relation_in, if_found}
-use Rattle.model.specs.Memory.{windows_of, state_in}
+use Rattle.model.specs.Rows.{component_of_line, relation_in, if_found}
+use Rattle.model.specs.Memory.{count_of, row_in, referrers_of, state_in}
 use Rattle.model.specs.declared.RelationRecord.{RelationRecord}
 use Rattle.model.specs.declared.Row.{Row}
 use Rattle.model.specs.declared.Noted.{Noted}
 use Rattle.model.specs.declared.Held.{Held}
-use Rattle.memory.specs.Pushes.{count_of}
 use Rattle.memory.specs.Reports.{Reported}
-use Rattle.lookup.specs.Names.{rows_in, earlier_at}
+use Rattle.lookup.specs.Names.{earlier_at}
 use Rattle.parts.specs.declared.QuantityView.{QuantityView}
 
 -- whether the entry of a relation is defined in a step
@@ -64,9 +63,9 @@ unfoldable pub fits_unit : List NamedUnit → Option Quantity → Option (List �
 fits_unit us None b = true
 fits_unit us (Some q) b = eqb (compatible_unit us (on_some trimmed_text q.unit) b) 0
 
--- the same of the row i, where it is there: the quantity is that of its line
-unfoldable pub fits_row : List NamedUnit → List ℕ → List ℕ → Held → ℕ → Option (List ℕ) → Bool
-fits_row us sheet w h i b = pick (ltb i h.counts.ingredients) (fits_unit us (component_of_line ingredient (row_line sheet (row_of (row_at 12 (rows_in ingredient w) i)))).quantity b) true
+-- the same of the row i: the quantity is that of its line
+unfoldable pub fits_row : List NamedUnit → List ℕ → List ℕ → ℕ → Option (List ℕ) → Bool
+fits_row us sheet w i b = fits_unit us (component_of_line ingredient (row_line sheet (row_in ingredient w i))).quantity b
 
 -- whatever else the new entry is: its unit against that of the row i, where there is one
 pub record RowChecked (us : List NamedUnit) (sheet line : List ℕ) (a : Option QuantityView) (i : ℕ) (w : List ℕ) (h : Held) (r : Option Noted) : Type 0 where
@@ -75,7 +74,7 @@ pub record RowChecked (us : List NamedUnit) (sheet line : List ℕ) (a : Option 
 -- against those of all rows that refer to the row d
 pub record ReferrersChecked (us : List NamedUnit) (sheet line : List ℕ) (a : Option QuantityView) (d : ℕ) (w₀ : List ℕ) (h₀ : Held) (w : List ℕ) (h : Held) : Type 0 where
   pub is : (new : Entry) → QuantityOf new ingredient line a
-      → Reported (units_against us new (table_of ingredient (state_in sheet w₀ h₀)) (referrers_from (windows_of w₀).ingredient_pairs d 0 h₀.counts.ingredient_pairs)) w₀ h₀ w h
+      → Reported (units_against us new (table_of ingredient (state_in sheet w₀ h₀)) (reverse (referrers_of ingredient w₀ h₀ d))) w₀ h₀ w h
 
 -- 15 to 17: the definition at d, then each of its references
 pub record UnitChecked (us : List NamedUnit) (sheet line : List ℕ) (a : Option QuantityView) (d : ℕ) (w₀ : List ℕ) (h₀ : Held) (w : List ℕ) (h : Held) : Type 0 where

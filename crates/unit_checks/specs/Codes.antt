@@ -1,15 +1,16 @@
--- The codes of earlier ingredients' units, and where those that are not in the list stand, kept so that each line is read for its
--- unit once.
-use Rattle.std.specs.Prelude.{ℕ, suc, ◌+◌, ◌-◌, ◌*◌, ◌/◌, ◌%◌, ◌≤◌, ◌<◌, ◌≡◌, Bool, false, ◌&&◌, List, eqb, ltb, length, get_or, set, take, drop, Option, None, Some}
-use Rattle.rules.specs.Basic.{pick, eq_list}
+-- What the words that are kept say of the lines of earlier ingredients and of a new unit.
+use Rattle.std.specs.Prelude.{ℕ, suc, ◌+◌, ◌-◌, ◌*◌, ◌≤◌, ◌<◌, ◌≡◌, Bool, List, length, get_or, take, drop, Option, None, Some}
+use Rattle.rules.specs.Basic.{eq_list}
 use Rattle.rules.specs.Units.{NamedUnit}
 use Rattle.rules.specs.Event.{Text, Quantity}
 use Rattle.rules.specs.Model.{ingredient, trimmed_text}
 use Rattle.content.specs.Contents.{kept_in}
 use Rattle.units.specs.Lists.{units_from}
-use Rattle.parts.specs.declared.Part.{Part}
 use Rattle.compatible.specs.Fitting.{unit_code, trimmed_in}
+use Rattle.unit_codes.specs.Codes.{code_in, start_in, end_in}
 use Rattle.model.specs.Rows.{component_of_line}
+use Rattle.unit_codes.specs.declared.TheConstants.{CODES}
+use Rattle.model.specs.declared.layout.TheConstants.{MOST_INGREDIENTS}
 
 -- 1 to 5 for a unit of a physical quantity, 6 for one that is not in the list, 7 for none
 unfoldable pub text_code : List NamedUnit → Option Text → ℕ
@@ -25,18 +26,6 @@ amount_code us (Some q) = text_code us q.unit
 unfoldable pub line_code : List ℕ → List ℕ → ℕ
 line_code units line = amount_code (units_from units 0) (component_of_line ingredient line).quantity
 
--- the code that a kept word says: the word itself below 16, else 6
-unfoldable pub code_in : ℕ → ℕ
-code_in w = pick (ltb w 16) w 6
-
--- where the content of a unit starts in its line, by a word from 16 on
-unfoldable pub start_in : ℕ → ℕ
-start_in w = w / 65536
-
--- where it ends
-unfoldable pub end_in : ℕ → ℕ
-end_in w = w % 65536
-
 -- the content of a line's unit, where it has one, stands where the word w says
 pub record UnitPlaced (line : List ℕ) (w : ℕ) : Type 0 where
   pub order : start_in w ≤ end_in w
@@ -48,25 +37,11 @@ pub record LineWord (units line : List ℕ) (w : ℕ) : Type 0 where
   pub is : code_in w ≡ line_code units line
   pub placed : 16 ≤ w → UnitPlaced line w
 
--- w is a word of a unit that is not in the list and stands at p
-pub record PlaceWord (p : Part) (w : ℕ) : Type 0 where
-  pub is : code_in w ≡ 6
-  pub start : 16 ≤ w → start_in w ≡ p.from
-  pub end : 16 ≤ w → end_in w ≡ p.to
-
 -- three words for each row: where a line of the sheet starts, where it ends, and a word of it; 0 where none is kept
 pub record CodesKept (units sheet codes : List ℕ) : Type 0 where
-  pub long : length codes ≡ 1539
-  pub is : (i : ℕ) → i < 513 → (get_or codes (i * 3 + 2) 0 ≡ 0 → ⊥)
+  pub long : length codes ≡ CODES
+  pub is : (i : ℕ) → i < MOST_INGREDIENTS → (get_or codes (i * 3 + 2) 0 ≡ 0 → ⊥)
       → LineWord units (take (get_or codes (i * 3 + 1) 0 - get_or codes (i * 3) 0) (drop (get_or codes (i * 3) 0) sheet)) (get_or codes (i * 3 + 2) 0)
-
--- the word kept for the row i, where it is that of the line from `at` to `end`; else 0
-unfoldable pub kept_word : List ℕ → ℕ → ℕ → ℕ → ℕ
-kept_word codes i at end = pick (eqb (get_or codes (i * 3) 0) at) (pick (eqb (get_or codes (i * 3 + 1) 0) end) (get_or codes (i * 3 + 2) 0) 0) 0
-
--- the words with one for the row i
-unfoldable pub with_word : List ℕ → ℕ → ℕ → ℕ → ℕ → List ℕ
-with_word codes i at end w = set (set (set codes (i * 3) at) (i * 3 + 1) end) (i * 3 + 2) w
 
 -- x stands for what the field f does, trimmed
 pub record Trims (f x : List ℕ) : Type 0 where
@@ -86,22 +61,3 @@ new_text (Some m) f = Some (trimmed_in f)
 -- n is the number that the list gives it: x is its field, trimmed
 pub record NewCode (us : List NamedUnit) (x : List ℕ) (n : Option ℕ) : Type 0 where
   pub is : (m : ℕ) → n ≡ Some m → m ≡ unit_code us (kept_in x)
-
--- that number is 5 at most
-abbrev pub UpToFive : Option ℕ → Type 0
-UpToFive None = Unit {0}
-UpToFive (Some m) = m ≤ 5
-
--- whether it is in no list: the number is 5 (`unit_code` of crates/compatible)
-unfoldable pub is_unlisted : Option ℕ → Bool
-is_unlisted None = false
-is_unlisted (Some m) = eqb m 5
-
--- whether a line with the code o fits it
-unfoldable pub code_fits : ℕ → Option ℕ → Bool
-code_fits o None = eqb o 7
-code_fits o (Some m) = eqb o (m + 1)
-
--- the same where the two need not be compared as they are written
-unfoldable pub known_fits : ℕ → Option ℕ → Bool
-known_fits o n = pick (eqb o 6 && is_unlisted n) false (code_fits o n)

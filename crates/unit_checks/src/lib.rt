@@ -4,31 +4,26 @@
 
 mod kept;
 
-ghost use Rattle.std.specs.Prelude.{◌≡◌, true, ◌+◌, ◌-◌, ◌<◌, ◌≤◌, length, None, Some};
+ghost use Rattle.std.specs.Prelude.{◌≡◌, true, ◌+◌, ◌-◌, ◌<◌, ◌≤◌, None, Some};
 ghost use Rattle.rules.specs.Units.{read_units};
 ghost use Rattle.rules.specs.Answer.{units_or};
 ghost use Rattle.units.specs.Lists.{units_from};
 ghost use Rattle.compatible.specs.Fitting.{unit_code};
 ghost use Rattle.parts.specs.Views.{OptQuantityWithin};
 ghost use Rattle.components.specs.Views.{ComponentWithin};
-ghost use Rattle.model.specs.Rows.{row_at, row_of};
-ghost use Rattle.model.specs.Memory.{windows_of};
+ghost use Rattle.model.specs.Memory.{count_of};
 ghost use Rattle.model.specs.Fits.{AllFit};
-ghost use Rattle.model.specs.Searches.{NextReferrer};
-ghost use Rattle.memory.specs.Pushes.{count_of};
-ghost use Rattle.lookup.specs.Names.{rows_in};
 ghost use Rattle.unit_checks.specs.Codes.{Trims, new_text, NewCode, CodesKept};
 ghost use Rattle.unit_checks.specs.Checked.{InStep, SameBelow, HasUnit, UnitField, NumberRead, UnitKnown, fits_row, RowChecked, ReferrersChecked, UnitChecked, UnitsAfter, EntryChecked, ChecksDone};
-ghost use Rattle.model.specs.Kinds.{kind_of, room_of};
+ghost use Rattle.model.specs.Kinds.{kind_of};
+ghost use Rattle.model.specs.declared.layout.TheConstants.{MOST_FINDINGS};
 
 use components::ComponentView;
 use memory::Memory;
-use model::{Kind, Noted, Relation, RelationRecord, Row};
+use model::{Kind, Noted, Relation, RelationRecord};
 use parts::QuantityView;
+use unit_codes::Codes;
 use unit_index::UnitList;
-
-// What is kept of earlier ingredients, three words for each: where its line begins and ends, and the word of its unit.
-pub type Codes = [u32; 1539];
 
 // The unit of a new quantity: its field, that trimmed, and the number of its physical quantity, where there is a unit.
 #[derive(Clone, Copy)]
@@ -37,27 +32,6 @@ pub(crate) struct NewUnit<'a> {
     pub trimmed: &'a [u8],
     pub number: Option<u32>,
     ghost trims: { Trims field.now trimmed.now },
-}
-
-// ---- rows
-
-// The row i of a kind.
-pub fn kind_row(words: &[u32], kind: Kind, i: usize) -> Row
-    requires { (24157 ≤ length words.now) × (i < room_of (kind_of kind)) }
-    ensures { result ≡ row_of (row_at 12 (rows_in (kind_of kind) words.now) i) }
-{
-    match kind {
-        Kind::Ingredient => model::row_at(&words[0..6156], i),
-        Kind::Cookware => model::row_at(&words[6156..9240], i),
-    }
-}
-
-// The same of a whole `Memory`: of the words that a `&mut Memory` lends in part the check knows only their length afterwards.
-fn row_in(memory: &Memory, kind: Kind, i: usize) -> Row
-    requires { i < room_of (kind_of kind) }
-    ensures { result ≡ row_of (row_at 12 (rows_in (kind_of kind) memory.now.words.now) i) }
-{
-    kind_row(memory.words, kind, i)
 }
 
 fn in_step(r: RelationRecord) -> bool
@@ -113,7 +87,7 @@ fn unit_field<'a>(line: &'a [u8], a: Option<QuantityView>) -> &'a [u8]
     }
 }
 
-// Whether the row i draws nothing beside a new unit. A row that is not there draws nothing.
+// Whether the row i draws nothing beside a new unit.
 fn row_fits(
     units: &UnitList,
     codes: &mut Codes,
@@ -122,17 +96,13 @@ fn row_fits(
     new: &NewUnit,
     i: usize,
 ) -> bool
-    requires { CodesKept units.now.lines.now sheet.now codes.old × AllFit sheet.now memory.now.words.now memory.now.held × NewCode (units_from units.now.lines.now 0) new.now.trimmed.now new.now.number }
-    ensures { (result ≡ fits_row (units_from units.now.lines.now 0) sheet.now memory.now.words.now memory.now.held i (new_text new.now.number new.now.field.now)) × CodesKept units.now.lines.now sheet.now codes.new }
+    requires { CodesKept units.now.lines.now sheet.now codes.old × AllFit sheet.now memory.now.words.now memory.now.held × NewCode (units_from units.now.lines.now 0) new.now.trimmed.now new.now.number × (i < memory.now.held.counts.ingredients) }
+    ensures { (result ≡ fits_row (units_from units.now.lines.now 0) sheet.now memory.now.words.now i (new_text new.now.number new.now.field.now)) × CodesKept units.now.lines.now sheet.now codes.new }
 {
-    let n = memory.held.counts.ingredients;
-    if n <= i {
-        return true;
-    }
-    let r = model::row_at(&memory.words[0..6156], i);
+    let r = memory.row(Kind::Ingredient, i);
     let at = r.line_at;
     let end = r.line_end;
-    kept::known_fits(codes, i, at, end, new.number)
+    unit_codes::known_fits(codes, i, at, end, new.number)
         || kept::line_fits(units, codes, sheet, at, end, i, new)
 }
 
@@ -148,14 +118,14 @@ fn row_against(
     requires { OptQuantityWithin line.now a × AllFit sheet.now memory.now.words.now memory.now.held × (i < memory.now.held.counts.ingredients) }
     ensures { RowChecked (units_or (read_units units.now.lines.now)) sheet.now line.now a i memory.now.words.now memory.now.held result }
 {
-    let r = model::row_at(&memory.words[0..6156], i);
+    let r = memory.row(Kind::Ingredient, i);
     let at = r.line_at as usize;
     let end = r.line_end as usize;
     let b = recall::quantity_in(&sheet[at..end]);
     checks::unit_pair(units, line, a, &sheet[at..end], b)
 }
 
-// The same where they do not fit; nothing where there is no such row.
+// The same where they do not fit.
 fn unit_against(
     units: &UnitList,
     codes: &mut Codes,
@@ -166,21 +136,13 @@ fn unit_against(
     new: &NewUnit,
     i: usize,
 ) -> Option<Noted>
-    requires { OptQuantityWithin line.now a × UnitKnown (units_from units.now.lines.now 0) line.now a new.now.field.now new.now.trimmed.now new.now.number × AllFit sheet.now memory.now.words.now memory.now.held × CodesKept units.now.lines.now sheet.now codes.old }
+    requires { OptQuantityWithin line.now a × UnitKnown (units_from units.now.lines.now 0) line.now a new.now.field.now new.now.trimmed.now new.now.number × AllFit sheet.now memory.now.words.now memory.now.held × CodesKept units.now.lines.now sheet.now codes.old × (i < memory.now.held.counts.ingredients) }
     ensures { RowChecked (units_or (read_units units.now.lines.now)) sheet.now line.now a i memory.now.words.now memory.now.held result × CodesKept units.now.lines.now sheet.now codes.new }
 {
     if row_fits(units, codes, memory, sheet, new, i) {
         return None;
     }
     row_against(units, memory, sheet, line, a, i)
-}
-
-// The first pair from `from` on of an ingredient that refers to the row `definition`: that ingredient, and the pair after.
-fn next_pair(memory: &Memory, definition: u32, from: usize) -> Option<(u32, usize)>
-    ensures { NextReferrer (windows_of memory.now.words.now).ingredient_pairs memory.now.held.counts.ingredient_pairs definition from result }
-{
-    let n = memory.held.counts.ingredient_pairs;
-    model::next_referrer(&memory.words[9240..10266], n, definition, from)
 }
 
 // Against those of all rows that refer to the row d, oldest first.
@@ -194,16 +156,14 @@ fn referrer_check(
     new: &NewUnit,
     d: usize,
 )
-    requires { OptQuantityWithin line.now a × UnitKnown (units_from units.now.lines.now 0) line.now a new.now.field.now new.now.trimmed.now new.now.number × AllFit sheet.now memory.old.words.now memory.old.held × (d < memory.old.held.counts.ingredients) × (memory.old.held.counts.findings + memory.old.held.counts.ingredient_pairs ≤ 1544) × CodesKept units.now.lines.now sheet.now codes.old }
+    requires { OptQuantityWithin line.now a × UnitKnown (units_from units.now.lines.now 0) line.now a new.now.field.now new.now.trimmed.now new.now.number × AllFit sheet.now memory.old.words.now memory.old.held × (d < memory.old.held.counts.ingredients) × (memory.old.held.counts.findings + memory.old.held.counts.ingredients ≤ MOST_FINDINGS) × CodesKept units.now.lines.now sheet.now codes.old }
     ensures done { ReferrersChecked (units_or (read_units units.now.lines.now)) sheet.now line.now a d memory.old.words.now memory.old.held memory.new.words.now memory.new.held }
     ensures codes { CodesKept units.now.lines.now sheet.now codes.new }
     ensures lent { memory.new.words.ghost_name ≡ memory.old.words.ghost_name }
 {
-    let n = memory.held.counts.ingredient_pairs;
-    let definition = d as u32;
-    let mut from = 0;
-    while from < n {
-        let Some((i, next)) = next_pair(memory, definition, from) else {
+    let mut place = memory.stored().first_referrer(Kind::Ingredient, d);
+    loop {
+        let Some((i, next)) = memory.stored().next_referrer(Kind::Ingredient, d, place) else {
             return;
         };
         let j = i as usize;
@@ -212,7 +172,7 @@ fn referrer_check(
             let found = row_against(units, memory, sheet, line, a, j);
             memory.push_found(found);
         }
-        from = next;
+        place = next;
     }
 }
 
@@ -226,7 +186,7 @@ fn unit_check(
     a: Option<QuantityView>,
     d: usize,
 )
-    requires { OptQuantityWithin line.now a × AllFit sheet.now memory.old.words.now memory.old.held × (d < memory.old.held.counts.ingredients) × (memory.old.held.counts.findings + memory.old.held.counts.ingredient_pairs < 1544) × CodesKept units.now.lines.now sheet.now codes.old }
+    requires { OptQuantityWithin line.now a × AllFit sheet.now memory.old.words.now memory.old.held × (d < memory.old.held.counts.ingredients) × (memory.old.held.counts.findings + memory.old.held.counts.ingredients < MOST_FINDINGS) × CodesKept units.now.lines.now sheet.now codes.old }
     ensures done { UnitChecked (units_or (read_units units.now.lines.now)) sheet.now line.now a d memory.old.words.now memory.old.held memory.new.words.now memory.new.held }
     ensures codes { CodesKept units.now.lines.now sheet.now codes.new }
     ensures lent { memory.new.words.ghost_name ≡ memory.old.words.ghost_name }
@@ -234,7 +194,7 @@ fn unit_check(
     let Some(_) = a else {
         return;
     };
-    let r = row_in(memory, Kind::Ingredient, d);
+    let r = memory.row(Kind::Ingredient, d);
     let g = r.relation;
     let e = g.relation;
     let field = unit_field(line, a);
@@ -265,7 +225,7 @@ fn units_after(
     a: Option<QuantityView>,
     d: usize,
 )
-    requires { OptQuantityWithin line.now a × AllFit sheet.now memory.old.words.now memory.old.held × (d < count_of (kind_of kind) memory.old.held) × (memory.old.held.counts.findings + memory.old.held.counts.ingredient_pairs < 1544) × CodesKept units.now.lines.now sheet.now codes.old }
+    requires { OptQuantityWithin line.now a × AllFit sheet.now memory.old.words.now memory.old.held × (d < count_of (kind_of kind) memory.old.held) × (memory.old.held.counts.findings + memory.old.held.counts.ingredients < MOST_FINDINGS) × CodesKept units.now.lines.now sheet.now codes.old }
     ensures done { UnitsAfter (units_or (read_units units.now.lines.now)) flags (kind_of kind) sheet.now line.now a d memory.old.words.now memory.old.held memory.new.words.now memory.new.held }
     ensures codes { CodesKept units.now.lines.now sheet.now codes.new }
     ensures lent { memory.new.words.ghost_name ≡ memory.old.words.ghost_name }
@@ -287,11 +247,11 @@ fn entry_check(
     v: ComponentView,
     d: usize,
 )
-    requires { ComponentWithin line.now v × AllFit sheet.now memory.old.words.now memory.old.held × (d < count_of (kind_of kind) memory.old.held) × (memory.old.held.counts.findings + 2 < 1544) }
+    requires { ComponentWithin line.now v × AllFit sheet.now memory.old.words.now memory.old.held × (d < count_of (kind_of kind) memory.old.held) × (memory.old.held.counts.findings + 2 < MOST_FINDINGS) }
     ensures done { EntryChecked (kind_of kind) sheet.now line.now v d memory.old.words.now memory.old.held memory.new.words.now memory.new.held }
     ensures lent { memory.new.words.ghost_name ≡ memory.old.words.ghost_name }
 {
-    let r = row_in(memory, kind, d);
+    let r = memory.row(kind, d);
     let g = r.relation;
     let inside = in_step(g);
     let at = r.line_at as usize;
@@ -317,7 +277,7 @@ pub fn checks_after(
     v: ComponentView,
     to: Option<usize>,
 )
-    requires { ComponentWithin line.now v × AllFit sheet.now memory.old.words.now memory.old.held × SameBelow (kind_of kind) memory.old.held to × (memory.old.held.counts.findings + memory.old.held.counts.ingredient_pairs + 3 < 1544) × CodesKept units.now.lines.now sheet.now codes.old }
+    requires { ComponentWithin line.now v × AllFit sheet.now memory.old.words.now memory.old.held × SameBelow (kind_of kind) memory.old.held to × (memory.old.held.counts.findings + memory.old.held.counts.ingredients + 3 < MOST_FINDINGS) × CodesKept units.now.lines.now sheet.now codes.old }
     ensures done { ChecksDone (units_or (read_units units.now.lines.now)) flags (kind_of kind) sheet.now line.now v to memory.old.words.now memory.old.held memory.new.words.now memory.new.held }
     ensures codes { CodesKept units.now.lines.now sheet.now codes.new }
     ensures lent { memory.new.words.ghost_name ≡ memory.old.words.ghost_name }

@@ -1,13 +1,12 @@
-use Rattle.std.proofs.Common.{rules}
-use Rattle.output.proofs.Writes.{writer}
-use Rattle.model.specs.Kinds.{kind_of}
-use Rattle.model.specs.Rows.{entry_in}
-use Rattle.entry_lines.specs.Lines.{entry_line}
+use native.Mathlib.Omega.{arith}
+use Rattle.output.proofs.Puts.{put_past, rest_fits, put_rest}
 use Rattle.entry_lines.proofs.put_entry.Goals as goal
 
-pub put_line-requires : goal.put_line-requires
-put_line-requires c =
-    writer (entry_line (kind_of c.args.kind) c.args.i (entry_in (kind_of c.args.kind) c.args.sheet.now c.args.rows.now c.args.pairs.now c.args.m c.args.i)) (λ p e. search rules) (λ n o' e. search rules)
+pub returns-then-out-at : goal.returns-then-out-at
+returns-then-out-at c = put_past _ _ _ c.if-out-at.true
+
+pub overflow_add-result-2 : goal.overflow_add-result-2
+overflow_add-result-2 c = record { fits = rest_fits _ _ (omega arith) c.if-out-at.false c.entry_line.ensures }
 
 pub returns : goal.returns
-returns c = c.put_line.ensures.put (λ n o' e. search rules)
+returns c = put_rest _ _ c.if-out-at.false c.entry_line.ensures

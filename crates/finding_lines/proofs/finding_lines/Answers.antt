@@ -2,17 +2,17 @@ use borrow.Author.Rules.{rules}
 use native.Mathlib.Omega.{arith}
 use mathlib.Core.Path.{refl}
 use Rattle.output.proofs.Puts.{keeps}
-use Rattle.finding_lines.proofs.Tables.{list_starts, list_on, list_ends, window_long}
+use Rattle.finding_lines.proofs.Tables.{list_starts, list_on, list_ends}
 use Rattle.finding_lines.proofs.finding_lines.Goals as goal
 
 pub loop-i-init : goal.loop-i-init
 loop-i-init c = list_starts c.begin-n.ensures
 
-pub finding_at-requires : goal.finding_at-requires
-finding_at-requires c = let z = c.args.stored.now.sound in omega (arith, window_long c.args.stored.now.words.now z.long, c.loop-i-test.true, z.room.findings)
+pub finding-requires : goal.finding-requires
+finding-requires c = omega (arith, c.loop-i-test.true, c.args.stored.now.sound.room.findings)
 
 pub loop-i-preserved : goal.loop-i-preserved
-loop-i-preserved c = list_on c.loop-i.invariant c.loop-i-test.true c.finding_at.ensures c.put_finding-n.ensures
+loop-i-preserved c = list_on c.loop-i.invariant c.loop-i-test.true c.finding.ensures c.put_finding-n.ensures
 
 pub shape_of-out : goal.shape_of-out
 shape_of-out c = search (rules, keeps c.loop-i.invariant.put)

@@ -1,12 +1,17 @@
-use Rattle.lookup.proofs.Names.{asked_opt, asked_ref, fits_not, fits_name, name_order, name_most}
+use borrow.Author.Tests.{not-true, not-false}
+use Rattle.lookup.proofs.Names.{fits_not_ref, fits_not_opt, fits_name}
+use Rattle.lookup.proofs.row_fits.Goals.{then-row_reference-via-then-row_reference, then-row_reference-via-else-row_reference+then-not-agrees}
 use Rattle.lookup.proofs.row_fits.Goals as goal
-use Rattle.lookup.proofs.row_fits.Goals.{then-rows-at-ne1, else-rows-at-ne1}
 
 pub named-requires : goal.named-requires
-named-requires c = let p = c.requires.2 in (name_order _ c.args.rows.now c.args.i p, name_most _ c.args.rows.now c.args.i p)
+named-requires c = (rw (c.row_name-from.ensures.0, c.row_name-from.ensures.1) c.requires.1.order, rw c.row_name-from.ensures.1 c.requires.1.most)
 
-pub returns-then-agrees : goal.returns-then-agrees
-returns-then-agrees c = fits_name _ c.args.rows.now c.args.i _ _ _ (elim c.if-rows-at-ne1.branch [ then-rows-at-ne1 w ↦ asked_opt c.args.sheet.now c.args.rows.now c.args.i c.args.name.now c.args.any_opt c.args.is_opt w.if-rows-at-ne1.true w.agrees.ensures w.value-is | else-rows-at-ne1 w ↦ asked_ref c.args.sheet.now c.args.rows.now c.args.i c.args.name.now c.args.any_opt c.args.is_opt w.if-rows-at-ne1.false w.value-is ]) c.if-agrees.true _ c.named.ensures
+pub returns-then-row_reference : goal.returns-then-row_reference
+returns-then-row_reference c =
+    elim c.then-row_reference.branch [
+      | then-row_reference-via-then-row_reference w ↦ fits_not_ref _ c.args.rows.now c.args.i _ _ _ c.row_reference.ensures w.if-row_reference.true
+      | then-row_reference-via-else-row_reference+then-not-agrees w ↦ fits_not_opt _ c.args.rows.now c.args.i _ _ _ c.row_reference.ensures w.if-row_reference.false w.row_opt.ensures w.agrees.ensures (not-true _ w.if-not-agrees.true-raw)
+    ]
 
-pub returns-else-agrees : goal.returns-else-agrees
-returns-else-agrees c = fits_not _ c.args.rows.now c.args.i _ _ _ (elim c.if-rows-at-ne1.branch [ then-rows-at-ne1 w ↦ asked_opt c.args.sheet.now c.args.rows.now c.args.i c.args.name.now c.args.any_opt c.args.is_opt w.if-rows-at-ne1.true w.agrees.ensures w.value-is | else-rows-at-ne1 w ↦ asked_ref c.args.sheet.now c.args.rows.now c.args.i c.args.name.now c.args.any_opt c.args.is_opt w.if-rows-at-ne1.false w.value-is ]) c.if-agrees.false
+pub returns : goal.returns
+returns c = fits_name _ c.args.rows.now c.args.i _ _ _ c.row_reference.ensures c.if-row_reference.false c.row_opt.ensures c.agrees.ensures (not-false _ c.if-not-agrees.false-raw) c.row_name-from.ensures _ c.named.ensures

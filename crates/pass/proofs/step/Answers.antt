@@ -13,8 +13,8 @@ on_event-requires c = c.requires
 pub returns-in_err-on_event-clause-done : goal.returns-in_err-on_event-clause-done
 returns-in_err-on_event-clause-done c = rw (err_is _ _ c.from_residual.ensures.1) (step_stopped c.is_error.ensures c.if-is_error.false c.on_event.ensures.done _ (ap (left _) c.in_err-on_event.was))
 
-pub returns-then-over_limits-clause-done : goal.returns-then-over_limits-clause-done
-returns-then-over_limits-clause-done c = step_over c.is_error.ensures c.if-is_error.false c.on_event.ensures.done _ (ap (left _) c.in_ok-on_event.was) c.over_limits.ensures c.if-over_limits.true
+pub returns-in_err-check_limits-clause-done : goal.returns-in_err-check_limits-clause-done
+returns-in_err-check_limits-clause-done c = rw (err_is _ _ c.from_residual-in_err-check_limits.ensures.1) (step_over c.is_error.ensures c.if-is_error.false c.on_event.ensures.done _ (ap (left _) c.in_ok-on_event.was) c.check_limits.ensures _ c.in_err-check_limits.was)
 
 pub returns-clause-done : goal.returns-clause-done
-returns-clause-done c = step_going c.is_error.ensures c.if-is_error.false c.on_event.ensures.done _ (ap (left _) c.in_ok-on_event.was) c.over_limits.ensures c.if-over_limits.false c.requires.0 c.requires.1
+returns-clause-done c = step_going c.is_error.ensures c.if-is_error.false c.on_event.ensures.done _ (ap (left _) c.in_ok-on_event.was) c.check_limits.ensures c.in_ok-check_limits.was c.requires.0 c.requires.1

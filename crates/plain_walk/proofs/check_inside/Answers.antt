@@ -1,8 +1,9 @@
+use Rattle.std.proofs.result.Match.{err_is}
 use Rattle.plain_walk.proofs.FaultLines.{ready_step, inside_end, inside_text, component_none, component_text, component_mode, component_listed, component_step}
 use Rattle.plain_walk.proofs.check_inside.Goals as goal
 
-pub returns-then-is_components : goal.returns-then-is_components
-returns-then-is_components c = component_listed _ c.args.stored.now.words.now c.args.f _ c.in-Component.is c.in-Step.is c.is_components.ensures c.if-is_components.true
+pub returns-in_err-check_define-in-Step : goal.returns-in_err-check_define-in-Step
+returns-in_err-check_define-in-Step c = rw (err_is _ _ c.from_residual.ensures.1) (component_listed _ c.args.stored.now.words.now c.args.f _ c.in-Component.is c.in-Step.is c.check_define.ensures c.in_err-check_define-in-Step.was)
 
 pub check_mark-requires : goal.check_mark-requires
 check_mark-requires c = ready_step _ c.args.stored.now.words.now c.args.f _ c.in-Component.is c.in-Step.is c.requires
@@ -16,8 +17,8 @@ returns-in-Text c = inside_text _ c.args.stored.now.words.now c.args.f _ c.in-Te
 pub returns-in-Nothing : goal.returns-in-Nothing
 returns-in-Nothing c = component_none _ c.args.stored.now.words.now c.args.f _ c.in-Component.is c.in-Nothing.is
 
-pub returns-else-is_components : goal.returns-else-is_components
-returns-else-is_components c = component_step _ c.args.stored.now.words.now c.args.f _ c.in-Component.is c.in-Step.is c.is_components.ensures c.if-is_components.false c.check_mark.ensures
+pub returns-in_ok-check_define-in-Step : goal.returns-in_ok-check_define-in-Step
+returns-in_ok-check_define-in-Step c = component_step _ c.args.stored.now.words.now c.args.f _ c.in-Component.is c.in-Step.is c.check_define.ensures c.in_ok-check_define-in-Step.was c.check_mark.ensures
 
 pub returns-in-Text-b : goal.returns-in-Text-b
 returns-in-Text-b c = component_text _ c.args.stored.now.words.now c.args.f _ c.in-Component.is c.in-Text-b.is

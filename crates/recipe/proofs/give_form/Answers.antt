@@ -1,4 +1,5 @@
 use mathlib.Core.Path.{refl}
+use Rattle.std.proofs.result.Match.{err_is}
 use Rattle.pass.proofs.Given.{run_ready}
 use Rattle.recipe.proofs.Forms.{form_over, form_out}
 use Rattle.recipe.proofs.give_form.Goals as goal
@@ -9,8 +10,8 @@ invariant_of-read c = record { read = c.requires.sheet_read }
 pub run-requires : goal.run-requires
 run-requires c = run_ready c.requires
 
-pub returns-then-tells_17 : goal.returns-then-tells_17
-returns-then-tells_17 c = form_over c.requires c.run.ensures c.tells_17.ensures _ refl c.if-tells_17.true
+pub returns-in_err-form_checked : goal.returns-in_err-form_checked
+returns-in_err-form_checked c = rw (err_is _ _ c.from_residual.ensures.1) (form_over c.requires c.run.ensures c.form_checked.ensures _ refl c.in_err-form_checked.was)
 
 pub returns : goal.returns
-returns c = form_out c.requires c.run.ensures c.tells_17.ensures c.if-tells_17.false c.put_bytes-n.ensures c.hand_out.ensures
+returns c = form_out c.requires c.run.ensures c.form_checked.ensures c.in_ok-form_checked.was c.put_bytes-n.ensures c.hand_out.ensures

@@ -1,4 +1,4 @@
-use Rattle.text.specs.Seams.{unclear}
+use Rattle.text.specs.Meets.{unclear}
 use Rattle.text.proofs.Pairs.{met_parted, met_end, met_right, met_pair}
 use Rattle.text.proofs.meet.Goals as goal
 

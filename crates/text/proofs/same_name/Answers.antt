@@ -1,6 +1,6 @@
 use mathlib.Core.Path.{sym, ◌∙◌}
 use borrow.Author.Tests.{not-false}
-use Rattle.text.proofs.Seams.{parted_first}
+use Rattle.text.proofs.Turns.{parted_first}
 use Rattle.text.proofs.same_name.Goals as goal
 
 pub returns-then-is_parted : goal.returns-then-is_parted

@@ -1,6 +1,7 @@
 use native.Mathlib.Omega.{arith}
 use Prim.Native.Nat.{◌-◌}
-use Rattle.text.proofs.Seams.{facing, facing_seam, facing_answer, facing_on, facing_rest}
+use Rattle.fronts.proofs.Seams.{facing_seam}
+use Rattle.text.proofs.Turns.{facing, facing_answer, facing_on, facing_rest}
 use Rattle.text.proofs.same_whole.Goals as goal
 
 pub loop-r-init : goal.loop-r-init

@@ -1,6 +1,6 @@
 use Prim.Native.Nat.{◌-◌}
 use lib.ListN.{length}
-use Rattle.text.proofs.Seams.{Facing}
+use Rattle.fronts.proofs.Seams.{Facing}
 use Rattle.text.proofs.same_whole.Given as goal
 
 abbrev pub invariant-loop-r : goal.invariant-loop-r

@@ -1,4 +1,4 @@
-use Rattle.text.specs.Seams.{many}
+use Rattle.text.specs.Meets.{many}
 use Rattle.text.proofs.Pairs.{following_end, following_past, following_other}
 use Rattle.text.proofs.meets.following.Goals as goal
 

@@ -1,5 +1,5 @@
 use Rattle.text.proofs.Pairs.{sharp_seam}
-use Rattle.text.proofs.Seams.{seam_none}
+use Rattle.fronts.proofs.Seams.{seam_none}
 use Rattle.text.proofs.meets.sharp_pair.Goals as goal
 
 pub returns-then-starts_ss : goal.returns-then-starts_ss

@@ -1,5 +1,5 @@
 use Rattle.text.proofs.Pairs.{wide_seam}
-use Rattle.text.proofs.Seams.{seam_none}
+use Rattle.fronts.proofs.Seams.{seam_none}
 use Rattle.text.proofs.meets.wide_pair.Goals as goal
 
 pub returns-then-is_empty : goal.returns-then-is_empty

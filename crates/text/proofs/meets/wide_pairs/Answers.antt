@@ -1,6 +1,6 @@
 use native.Mathlib.Omega.{arith}
 use Prim.Native.Nat.{◌-◌}
-use Rattle.text.proofs.Seams.{seam_none, seam_on}
+use Rattle.fronts.proofs.Seams.{seam_none, seam_on}
 use Rattle.text.proofs.meets.wide_pairs.Goals as goal
 
 pub loop-i-init : goal.loop-i-init

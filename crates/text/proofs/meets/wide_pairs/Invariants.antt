@@ -1,6 +1,6 @@
 use Prim.Native.Nat.{◌-◌}
 use lib.ListN.{length}
-use Rattle.text.specs.Seams.{Seam}
+use Rattle.fronts.specs.Seams.{Seam}
 use Rattle.text.proofs.meets.wide_pairs.Given as goal
 
 abbrev pub invariant-loop-i : goal.invariant-loop-i

@@ -1,6 +1,6 @@
 use native.Mathlib.Omega.{arith}
 use Rattle.unit_checks.proofs.Codes.{same_absent, same_unitless, same_at, same_placed}
-use Rattle.unit_checks.specs.Codes.{start_in, end_in}
+use Rattle.unit_codes.specs.Codes.{start_in, end_in}
 use Rattle.unit_checks.proofs.kept.same_unit.Goals as goal
 
 pub slice_bounds-same_written-count : goal.slice_bounds-same_written-count

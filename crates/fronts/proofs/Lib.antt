@@ -1,0 +1,4 @@
+pub mod Plain
+pub mod Seams
+pub mod Lasts
+pub mod Ends

@@ -1,0 +1,7 @@
+use Prim.Native.Nat.{◌≤◌}
+use lib.ListN.{length}
+use Rattle.fronts.specs.Seams.{Common}
+use Rattle.fronts.proofs.common.Given as goal
+
+abbrev pub invariant-loop-i : goal.invariant-loop-i
+invariant-loop-i l = (l.n ≤ length l.a) × (l.n ≤ length l.b) × Common l.a l.b l.i

@@ -1,6 +1,0 @@
-pub mod Tracked
-pub mod Lines
-pub mod Turns
-pub mod Seen
-pub mod Idle
-pub mod Drawing

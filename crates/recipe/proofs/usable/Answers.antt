@@ -1,7 +1,0 @@
-use native.Mathlib.Omega.{arith}
-use mathlib.Core.Path.{◌∙◌}
-use Rattle.recipe.proofs.Clears.{usable_least}
-use Rattle.recipe.proofs.usable.Goals as goal
-
-pub returns : goal.returns
-returns c = (c.min.ensures ∙ usable_least c.args.room, omega (arith, c.min.ensures))
