@@ -73,6 +73,7 @@ def uses():
             "use mathlib.Core.Path.{◌≡◌, refl}\n"
             "use mathlib.Core.List.{List, [], ◌∷◌}\n"
             "use Rattle.rules.specs.Basic.{codes, concat}\n"
+            "use Rattle.rules.specs.Input.{input_of}\n"
             "use Rattle.rules.specs.Answer.{Lent, collect_answer, plain_answer, printed, flags_of, words_needed, bytes_needed}\n"
             "use Rattle.rules.specs.Evaluate.{evaluate}\n\n"
             "abbrev lent : ℕ → Lent\n"
@@ -80,7 +81,7 @@ def uses():
 
 
 def theorem(name, answer, case, prints):
-    return ("\npub %s : printed (%s %s %s %s (flags_of %s) (lent %d)) ≡ %s\nunfolding evaluate\n%s = refl\n"
+    return ("\npub %s : printed (%s (input_of %s %s %s (flags_of %s)) (lent %d)) ≡ %s\nunfolding evaluate\n%s = refl\n"
             % (name, answer, literal(case.sheet), literal(case.text), literal(case.units), literal(case.flags), case.room, literal(prints), name))
 
 
@@ -182,7 +183,7 @@ def one_case(n, c, shows):
         out += "\nabbrev sheet_%d : List ℕ\nsheet_%d =\n%s\n" % (n, n, spread(sheet))
         sheet = "sheet_%d" % n
     for side, answer, prints in (("collect", "collect_answer", c.collect), ("plain", "plain_answer", c.plain)):
-        call = "printed (%s %s %s %s (flags_of %s) (lent %d))" % (answer, sheet, put(c.text), put(c.units), put(c.flags), c.room)
+        call = "printed (%s (input_of %s %s %s (flags_of %s)) (lent %d))" % (answer, sheet, put(c.text), put(c.units), put(c.flags), c.room)
         to = spread(literal(prints))
         if "\n" not in to and len(call) + len(to) < 130:
             out += "\npub %s_%d : %s ≡ %s" % (side, n, call, to.strip())
@@ -231,7 +232,7 @@ def large_text():
             else:
                 assert prints == b"recipe\tyes\n" + b"parse\tW\t1\n" * 1024
                 to = 'codes "recipe\\tyes\\n" ++ concat (replicate 1024 (codes "parse\\tW\\t1\\n"))'
-            out += ("\n-- limits: %s\npub %s_%s :\n    printed (%s (%s) %s %s 7 (lent %d))\n    ≡ %s\nunfolding evaluate\n%s_%s = refl\n"
+            out += ("\n-- limits: %s\npub %s_%s :\n    printed (%s (input_of (%s) %s %s 7) (lent %d))\n    ≡ %s\nunfolding evaluate\n%s_%s = refl\n"
                     % (name, side, name.replace("-", "_"), answer, sheet, text, units, c.room, to, side, name.replace("-", "_"))).replace("([])", "[]")
     return out
 

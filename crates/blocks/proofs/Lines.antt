@@ -282,11 +282,11 @@ stopped r = record { is = λ sheet. refl; sound = tt; fit = λ sheet a. tt }
 module _ {w₀ w : List ℕ} {h₀ : Held} {k : BlockKind} where
   pub step_ended : {h : Held} → k ≡ block.Step → Went (close_step []) w₀ h₀ w h → StepEnded k w₀ h₀ w (Ok h)
   unfolding in_step_block block_in
-  step_ended e g = rw e record { at = λ units flags. stepped g }
+  step_ended e g = rw e record { at = λ cx. stepped g }
 
   pub step_refused : k ≡ block.Text → StepEnded k w₀ h₀ w (Err OtherEnd)
   unfolding in_step_block block_in
-  step_refused e = rw e record { at = λ units flags. stopped OtherEnd }
+  step_refused e = rw e record { at = λ cx. stopped OtherEnd }
 
 module _ {w₀ w : List ℕ} {h₀ : Held} {e : Inside} where
   pub text_ended : {h : Held} (k : BlockKind) → e ≡ inside.End k → k ≡ block.Text → Went (close_text []) w₀ h₀ w h → InTextBlock e w₀ h₀ w (Ok h)

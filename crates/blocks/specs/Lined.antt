@@ -4,7 +4,7 @@ use Rattle.std.specs.Prelude.{ℕ, ◌≡◌, List, [], Bool, length, Option, Re
 use Rattle.rules.specs.Event as rules
 use Rattle.rules.specs.Model.{Item}
 use Rattle.rules.specs.State.{State, set_block, Step, next, stop}
-use Rattle.rules.specs.Units.{NamedUnit}
+use Rattle.rules.specs.Input.{Context}
 use Rattle.rules.specs.Pass.{is_open, opened, on_section, push_items, in_step_block, in_text_block, component_in_text, in_text_mode}
 use Rattle.parts.specs.Views.{span_in, opt_text_in}
 use Rattle.parts.specs.declared.Span.{Span}
@@ -91,7 +91,7 @@ kind_open block.Text = TextBlock
 
 -- `end` in a step
 pub record StepEnded (k : BlockKind) (w₀ : List ℕ) (h₀ : Held) (w : List ℕ) (r : Result Held Reason) : Type 0 where
-  pub at : (units : List NamedUnit) (flags : ℕ) → Stepped (in_step_block units flags (rules.end_event (block_in k)) []) w₀ h₀ w r
+  pub at : (cx : Context) → Stepped (in_step_block cx (rules.end_event (block_in k)) []) w₀ h₀ w r
 
 -- a component in text mode
 pub record ComponentInText (c : ComponentEvent) (w₀ : List ℕ) (h₀ : Held) (w : List ℕ) (h : Held) : Type 0 where

@@ -4,8 +4,7 @@
 
 ghost use Rattle.std.specs.Prelude.{◌≡◌, not, ◌+◌, ◌<◌};
 ghost use Rattle.rules.specs.Basic.{when};
-ghost use Rattle.rules.specs.Units.{read_units};
-ghost use Rattle.rules.specs.Answer.{units_or};
+ghost use Rattle.rules.specs.Units.{read_units, units_or};
 ghost use Rattle.rules.specs.Finding.{found_two};
 ghost use Rattle.rules.specs.Model.{is_textual};
 ghost use Rattle.rules.specs.Checks.{text_check, widened};

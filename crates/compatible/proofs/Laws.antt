@@ -8,8 +8,7 @@ use native.Mathlib.Omega.{arith}
 use lib.Dec.{eqb}
 use borrow.Author.Tests.{eq-eqb, ne_eqb, eqb-true}
 use Rattle.rules.specs.Basic.{pick, eq_list, is_some, on_some}
-use Rattle.rules.specs.Units.{NamedUnit, PhysicalQuantity, volume, mass, len, temperature, time, physical_number, same_physical, read_units, find_unit}
-use Rattle.rules.specs.Answer.{units_or}
+use Rattle.rules.specs.Units.{NamedUnit, PhysicalQuantity, volume, mass, len, temperature, time, physical_number, same_physical, read_units, find_unit, units_or}
 use Rattle.rules.specs.Model.{trimmed_text}
 use Rattle.rules.specs.Checks.{known_units, compatible_unit}
 use Rattle.rules.proofs.Basics.{no_truth, no_some, some_inj}

@@ -2,8 +2,7 @@
 #![tactic(auto)]
 
 ghost use Rattle.std.specs.Prelude.{◌≡◌};
-ghost use Rattle.rules.specs.Units.{physical_number, read_units};
-ghost use Rattle.rules.specs.Answer.{units_or};
+ghost use Rattle.rules.specs.Units.{physical_number, read_units, units_or};
 ghost use Rattle.rules.specs.Checks.{compatible_unit};
 ghost use Rattle.content.specs.Contents.{kept_in};
 ghost use Rattle.text.specs.Trims.{TrimmedTo};

@@ -9,7 +9,7 @@ use lib.ListN.{length}
 use lib.Seq.{slice}
 use Rattle.rules.specs.Basic.{on_some}
 use Rattle.rules.specs.Event as rules
-use Rattle.rules.specs.Units.{NamedUnit}
+use Rattle.rules.specs.Input.{Context}
 use Rattle.rules.specs.Finding.{Finding}
 use Rattle.rules.specs.Model.{Kind, ingredient, cookware, Relation, definition, Entry, entry_of, entry_with, set_relation}
 use Rattle.rules.specs.Modes.{is_components}
@@ -90,10 +90,10 @@ entry_relation : (k : Kind) (in_step : Bool) (c : rules.Component) → (entry_of
 unfolding entry_of entry_with
 entry_relation k in_step c = refl
 
-made_intermediate_lem : (us : List NamedUnit) (flags : ℕ) (c : rules.Component) (i : rules.Intermediate) (st : State) {new : Entry} {target : Option ℕ} → new_entry ingredient c st ≡ new
-    → target ≡ resolve_intermediate_ref i st.place.section.content (length st.kept.sections) → make_ingredient us flags c (Some i) st ≡ made_intermediate us flags c new i target
+made_intermediate_lem : (cx : Context) (c : rules.Component) (i : rules.Intermediate) (st : State) {new : Entry} {target : Option ℕ} → new_entry ingredient c st ≡ new
+    → target ≡ resolve_intermediate_ref i st.place.section.content (length st.kept.sections) → make_ingredient cx c (Some i) st ≡ made_intermediate c new i target
 unfolding make_ingredient
-made_intermediate_lem us flags c i st e q = rw (e, q)
+made_intermediate_lem cx c i st e q = rw (e, q)
 
 component_modifiers : (line : List ℕ) (v : ComponentView) → (component_in line v).modifiers ≡ modifiers_in v.modifiers
 unfolding component_in
@@ -112,7 +112,7 @@ locked line v l p = reported_as p (l.is line)
 pub intermediate_found : {v : ComponentView} {i : Intermediate} {target : Option ℕ} {x y : Option Noted} {w₀ w₁ w₂ w : List ℕ} {h₀ h₁ h₂ h : Held} → LockChecked v.quantity x → Reported (if_found x) w₀ h₀ w₁ h₁
     → ModifiersReported v.modifiers v.modifiers_span y → Reported (if_found y) w₁ h₁ w₂ h₂ → Reported (intermediate_findings (intermediate_in i) target) w₂ h₂ w h → IntermediateReported v i target w₀ h₀ w h
 intermediate_found {v} {i} {target} l p m q r =
-    record { is = λ us flags line new. intermediate_reported us flags (component_in line v) new i target (component_modifiers line v) (component_place line v) (locked line v l p) m q r }
+    record { is = λ line new. intermediate_reported (component_in line v) new i target (component_modifiers line v) (component_place line v) (locked line v l p) m q r }
 
 -- the bounds for a row and its place
 pub row_ready : {k : Kind} {sheet : List ℕ} {at end : ℕ} {v : ComponentView} {p : NamePart} → ComponentHere k sheet at end v → NamePlaced k sheet at v p → (end ≤ 65536) × (at ≤ end) × (p.at ≤ p.end) × (p.end ≤ 65536)
@@ -121,27 +121,27 @@ row_ready x n = (omega (arith, x.whole.most, x.short), x.whole.order, n.new.orde
 pub reported_roomy : {fs : List Finding} {w w₁ : List ℕ} {h h₁ : Held} → Reported fs w h w₁ h₁ → Roomy h → Roomy h₁
 reported_roomy f r = roomy_kept (reported_framed f) r
 
--- what the units, the flags and the line are does not matter for that
+-- what the line is does not matter for that
 pub intermediate_roomy : {v : ComponentView} {i : Intermediate} {target : Option ℕ} {w₀ w : List ℕ} {h₀ h : Held} → IntermediateReported v i target w₀ h₀ w h → Roomy h₀
     → Roomy h × ReferredBelow ingredient h None
-intermediate_roomy {v} f r = (reported_roomy (f.is [] 0 [] (entry_of ingredient true (component_in [] v))) r, record { is = tt })
+intermediate_roomy {v} f r = (reported_roomy (f.is [] (entry_of ingredient true (component_in [] v))) r, record { is = tt })
 
 pub intermediate_done : {sheet : List ℕ} {at end : ℕ} {v : ComponentView} {i : Intermediate} {p : NamePart} {target : Option ℕ} {b : Bool} {relation : RelationRecord} {row : Row} {w₀ w₁ w : List ℕ} {h₀ h₁ h : Held}
     → ComponentHere ingredient sheet at end v → AllFit sheet w₀ h₀ → NamePlaced ingredient sheet at v p → Resolved i w₀ h₀ target → b ≡ is_components (define_of h₀.define) → Related i (not b) target relation
     → RowMade at end p.at p.end v.modifiers relation row → IntermediateReported v i target w₀ h₀ w₁ h₁ → RowPut ingredient w₁ h₁ row None w h → IntermediateDone sheet (slice at end sheet) v i w₀ h₀ w h
 intermediate_done {sheet} {at} {end} {v} {i} {target = target} {b = b} {row = row} {w₀ = w₀} {w = w} {h₀ = h₀} {h = h} x a q t e rel made f put =
-    record { is = λ us flags. rw (made_intermediate_lem us flags (component_in (slice at end sheet) v) (intermediate_in i) (state_in sheet w₀ h₀) (new_entry_lem ingredient (component_in (slice at end sheet) v) sheet w₀ h₀ e) (t.is sheet)) (done us flags) }
+    record { is = λ cx. rw (made_intermediate_lem cx (component_in (slice at end sheet) v) (intermediate_in i) (state_in sheet w₀ h₀) (new_entry_lem ingredient (component_in (slice at end sheet) v) sheet w₀ h₀ e) (t.is sheet)) done }
   where
-    entry : (us : List NamedUnit) (flags : ℕ) → entry_as ingredient sheet row [] ≡ (made_intermediate us flags (component_in (slice at end sheet) v) (entry_of ingredient (not b) (component_in (slice at end sheet) v)) (intermediate_in i) target).entry
-    entry us flags =
+    entry : entry_as ingredient sheet row [] ≡ (made_intermediate (component_in (slice at end sheet) v) (entry_of ingredient (not b) (component_in (slice at end sheet) v)) (intermediate_in i) target).entry
+    entry =
         unfold made_intermediate in
         (row_related ingredient sheet made (component_in (slice at end sheet) v) x.is (not b) (intermediate_relation (intermediate_in i) (definition (not b) []) target) (component_modifiers (slice at end sheet) v) rel.is
         ∙ ap (λ (z : Relation). set_relation (intermediate_relation (intermediate_in i) z target) (entry_of ingredient (not b) (component_in (slice at end sheet) v))) (sym (entry_relation ingredient (not b) (component_in (slice at end sheet) v))))
 
-    none_to : (us : List NamedUnit) (flags : ℕ) → None ≡ on_some (λ (d : Earlier). d.index) (made_intermediate us flags (component_in (slice at end sheet) v) (entry_of ingredient (not b) (component_in (slice at end sheet) v)) (intermediate_in i) target).refers_to
-    none_to us flags = unfold made_intermediate on_some in refl
+    none_to : None ≡ on_some (λ (d : Earlier). d.index) (made_intermediate (component_in (slice at end sheet) v) (entry_of ingredient (not b) (component_in (slice at end sheet) v)) (intermediate_in i) target).refers_to
+    none_to = unfold made_intermediate on_some in refl
 
-    done : (us : List NamedUnit) (flags : ℕ) → MadePushed ingredient (made_intermediate us flags (component_in (slice at end sheet) v) (entry_of ingredient (not b) (component_in (slice at end sheet) v)) (intermediate_in i) target) sheet w₀ h₀ w h
-    done us flags =
-        pushed_done ingredient sheet (made_intermediate us flags (component_in (slice at end sheet) v) (entry_of ingredient (not b) (component_in (slice at end sheet) v)) (intermediate_in i) target)
-        (f.is us flags (slice at end sheet) (entry_of ingredient (not b) (component_in (slice at end sheet) v))) a put (row_fits x q made) (entry us flags) (none_to us flags)
+    done : MadePushed ingredient (made_intermediate (component_in (slice at end sheet) v) (entry_of ingredient (not b) (component_in (slice at end sheet) v)) (intermediate_in i) target) sheet w₀ h₀ w h
+    done =
+        pushed_done ingredient sheet (made_intermediate (component_in (slice at end sheet) v) (entry_of ingredient (not b) (component_in (slice at end sheet) v)) (intermediate_in i) target)
+        (f.is (slice at end sheet) (entry_of ingredient (not b) (component_in (slice at end sheet) v))) a put (row_fits x q made) entry none_to

@@ -2,7 +2,7 @@
 use Rattle.std.specs.Prelude.{ℕ, ◌≤◌, ◌≡◌, false, List, [], length, Some, Result}
 use Rattle.std.proofs.Math.Seq.{slice}
 use Rattle.rules.specs.Event.{Event}
-use Rattle.rules.specs.Units.{NamedUnit}
+use Rattle.rules.specs.Input.{Context, Agrees}
 use Rattle.rules.specs.Read.{parse_line}
 use Rattle.rules.specs.Model.{Kind}
 use Rattle.rules.specs.State.{table_of, over_limits}
@@ -30,8 +30,8 @@ pub record Kept (sheet w : List ℕ) (h : Held) : Type 0 where
   pub definitions : (k : Kind) → chained.Sound (table_of k (state_in sheet w h))
   pub limits : over_limits (state_in sheet w h) ≡ false
 
--- a component's line in a step
-pub record ComponentDone (us : List NamedUnit) (flags : ℕ) (sheet line : List ℕ) (c : ComponentEvent) (w₀ : List ℕ) (h₀ : Held) (w : List ℕ) (r : Result Held Reason) : Type 0 where
-  pub is : step_in sheet w r ≡ blank_step (on_component us flags (component_event_in line c) [] (state_in sheet w₀ h₀))
+-- a component's line in a step, in every context that agrees with what is lent
+pub record ComponentDone (units : List ℕ) (flags : ℕ) (sheet line : List ℕ) (c : ComponentEvent) (w₀ : List ℕ) (h₀ : Held) (w : List ℕ) (r : Result Held Reason) : Type 0 where
+  pub at : (cx : Context) → Agrees units flags cx → step_in sheet w r ≡ blank_step (on_component cx (component_event_in line c) [] (state_in sheet w₀ h₀))
   pub sound : SoundStep w r
   pub fit : FitStep sheet w r

@@ -5,6 +5,7 @@ use Rattle.rules.specs.Basic.{on_some}
 use Rattle.rules.specs.Event as rules
 use Rattle.rules.specs.Read.{parse_line}
 use Rattle.rules.specs.Units.{NamedUnit}
+use Rattle.rules.specs.Input.{Context}
 use Rattle.rules.specs.Model.{Kind, ingredient, both, either, with_ref, inherits, target_of, Relation, definition, reference, Entry, entry_of}
 use Rattle.rules.specs.Reference.{Earlier, refers_to}
 use Rattle.rules.specs.State.{table_of}
@@ -116,13 +117,13 @@ pub record MadePushed (k : Kind) (m : Made) (sheet w₀ : List ℕ) (h₀ : Held
   pub sound : Sound w h
   pub fit : AllFit sheet w h
 
--- all that is found at an intermediate reference; the units, the flags and the entry do not matter
+-- all that is found at an intermediate reference; the entry does not matter
 pub record IntermediateReported (v : ComponentView) (i : Intermediate) (target : Option ℕ) (w₀ : List ℕ) (h₀ : Held) (w : List ℕ) (h : Held) : Type 0 where
-  pub is : (us : List NamedUnit) (flags : ℕ) (line : List ℕ) (new : Entry) → Reported (made_intermediate us flags (component_in line v) new (intermediate_in i) target).findings w₀ h₀ w h
+  pub is : (line : List ℕ) (new : Entry) → Reported (made_intermediate (component_in line v) new (intermediate_in i) target).findings w₀ h₀ w h
 
--- a line with an intermediate reference; the units and flags do not matter
+-- a line with an intermediate reference; the context does not matter
 pub record IntermediateDone (sheet line : List ℕ) (v : ComponentView) (i : Intermediate) (w₀ : List ℕ) (h₀ : Held) (w : List ℕ) (h : Held) : Type 0 where
-  pub is : (us : List NamedUnit) (flags : ℕ) → MadePushed ingredient (make_ingredient us flags (component_in line v) (Some (intermediate_in i)) (state_in sheet w₀ h₀)) sheet w₀ h₀ w h
+  pub is : (cx : Context) → MadePushed ingredient (make_ingredient cx (component_in line v) (Some (intermediate_in i)) (state_in sheet w₀ h₀)) sheet w₀ h₀ w h
 
 -- a line without one
 pub record NamedDone (us : List NamedUnit) (flags : ℕ) (k : Kind) (sheet line : List ℕ) (v : ComponentView) (w₀ : List ℕ) (h₀ : Held) (w : List ℕ) (h : Held) : Type 0 where

@@ -5,8 +5,7 @@ ghost use Rattle.std.specs.Prelude.{◌≡◌, ◌+◌, ◌≤◌, length};
 ghost use Rattle.std.proofs.Math.Seq.{slice};
 ghost use Rattle.rules.specs.Basic.{on_some};
 ghost use Rattle.rules.specs.Event.{inside, component_event};
-ghost use Rattle.rules.specs.Units.{read_units};
-ghost use Rattle.rules.specs.Answer.{units_or};
+ghost use Rattle.rules.specs.Units.{read_units, units_or};
 ghost use Rattle.rules.specs.Model.{ingredient};
 ghost use Rattle.components.specs.Views.{modifiers_in};
 ghost use Rattle.events.specs.Views.{component_event_in, ComponentEventWithin};
@@ -280,7 +279,7 @@ pub fn on_ingredient(
     memory: &mut Memory,
 ) -> Result<(), Reason>
     requires { LineHere sheet.now at end (inside (component_event (component_event_in (slice at end sheet.now) (event.Ingredient v i)))) × ComponentEventWithin (slice at end sheet.now) (event.Ingredient v i) × ComponentEventFields (slice at end sheet.now) (event.Ingredient v i) × Kept sheet.now memory.old.words.now memory.old.held × CodesKept units.now.lines.now sheet.now codes.old }
-    ensures done { ComponentDone (units_or (read_units units.now.lines.now)) flags sheet.now (slice at end sheet.now) (event.Ingredient v i) memory.old.words.now memory.old.held memory.new.words.now (left memory.new.held result) }
+    ensures done { ComponentDone units.now.lines.now flags sheet.now (slice at end sheet.now) (event.Ingredient v i) memory.old.words.now memory.old.held memory.new.words.now (left memory.new.held result) }
     ensures codes { CodesKept units.now.lines.now sheet.now codes.new }
     ensures lent { memory.new.words.ghost_name ≡ memory.old.words.ghost_name }
 {
@@ -310,7 +309,7 @@ pub fn on_cookware(
     memory: &mut Memory,
 ) -> Result<(), Reason>
     requires { LineHere sheet.now at end (inside (component_event (component_event_in (slice at end sheet.now) (event.Cookware v)))) × ComponentEventWithin (slice at end sheet.now) (event.Cookware v) × ComponentEventFields (slice at end sheet.now) (event.Cookware v) × Kept sheet.now memory.old.words.now memory.old.held × CodesKept units.now.lines.now sheet.now codes.old }
-    ensures done { ComponentDone (units_or (read_units units.now.lines.now)) flags sheet.now (slice at end sheet.now) (event.Cookware v) memory.old.words.now memory.old.held memory.new.words.now (left memory.new.held result) }
+    ensures done { ComponentDone units.now.lines.now flags sheet.now (slice at end sheet.now) (event.Cookware v) memory.old.words.now memory.old.held memory.new.words.now (left memory.new.held result) }
     ensures codes { CodesKept units.now.lines.now sheet.now codes.new }
     ensures lent { memory.new.words.ghost_name ≡ memory.old.words.ghost_name }
 {

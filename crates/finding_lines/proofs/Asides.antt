@@ -5,6 +5,7 @@ use mathlib.Core.Bool.{Bool, true, false, ◌&&◌, not}
 use mathlib.Core.List.{List, [], ◌∷◌, ◌++◌, reverse_aux}
 use Rattle.std.specs.Prelude.{Option, None, Some}
 use native.Mathlib.Omega.{arith}
+use Rattle.rules.specs.Input.{Context}
 use Rattle.rules.specs.Basic.{pick, when}
 use Rattle.rules.specs.Words.{BlockKind, step_kind, text_kind, define_key, duplicate_key, DefineMode, DuplicateMode}
 use Rattle.rules.specs.Event.{Span, Text, Quantity, Component, Intermediate, ComponentEvent, ingredient_event, cookware_event, timer_event, Inside, end_event, text_event, component_event}
@@ -115,15 +116,15 @@ checks_quiet i new d = both _ _ (note_quiet i _ _) (quantity_quiet i _ d _ _)
 
 -- ---- components
 
-module _ (units : List NamedUnit) (flags : ℕ) where
-  after_quiet : (k : Kind) (new : Entry) (table : List Entry) (d : Option Earlier) → NoParsed (checks_after units flags k new table d)
+module _ (cx : Context) where
+  after_quiet : (k : Kind) (new : Entry) (table : List Entry) (d : Option Earlier) → NoParsed (checks_after cx.units cx.flags k new table d)
   unfolding checks_after unit_check
   after_quiet k new table None = none_parsed
   after_quiet k new table (Some d) =
-      both (pick (is_ingredient k && has_advanced_units flags) (units_against units new table (d.index ∷ referrers d.entry.relation)) []) (reference_checks (not new.modifiers.ref) new d.entry)
-      (either (is_ingredient k && has_advanced_units flags) _ _ (all_quiet units new table _) none_parsed) (checks_quiet _ new d.entry)
+      both (pick (is_ingredient k && has_advanced_units cx.flags) (units_against cx.units new table (d.index ∷ referrers d.entry.relation)) []) (reference_checks (not new.modifiers.ref) new d.entry)
+      (either (is_ingredient k && has_advanced_units cx.flags) _ _ (all_quiet cx.units new table _) none_parsed) (checks_quiet _ new d.entry)
 
-  named_quiet : (k : Kind) (c : Component) (st : State) → NoParsed (made_by_name units flags k c st).findings
+  named_quiet : (k : Kind) (c : Component) (st : State) → NoParsed (made_by_name cx.units cx.flags k c st).findings
   unfolding made_by_name made_with
   named_quiet k c st = both _ _ (both _ _ (lock_quiet c.quantity) (reference_quiet st.modes _ _ _)) (after_quiet k _ _ _)
 
@@ -132,29 +133,29 @@ module _ (units : List NamedUnit) (flags : ℕ) where
   target_quiet i None = one_diag _ _ false
   target_quiet i (Some j) = none_parsed
 
-  ingredient_quiet : (c : Component) (i : Option Intermediate) (st : State) → NoParsed (make_ingredient units flags c i st).findings
+  ingredient_quiet : (c : Component) (i : Option Intermediate) (st : State) → NoParsed (make_ingredient cx c i st).findings
   unfolding make_ingredient made_intermediate intermediate_modifiers
   ingredient_quiet c None st = named_quiet ingredient c st
   ingredient_quiet c (Some i) st = both _ _ (both _ _ (lock_quiet c.quantity) (when_diag _ 7 _ false)) (target_quiet i _)
 
-  time_quiet : (s : Span) (o : Option PhysicalQuantity) → NoParsed (time_unit units flags s o)
+  time_quiet : (s : Span) (o : Option PhysicalQuantity) → NoParsed (time_unit cx.units cx.flags s o)
   unfolding time_unit
   time_quiet s None = one_diag 23 _ false
   time_quiet s (Some p) = when_diag _ 22 _ false
 
-  timer_unit_quiet : (o : Option Text) → NoParsed (timer_unit units flags o)
+  timer_unit_quiet : (o : Option Text) → NoParsed (timer_unit cx.units cx.flags o)
   unfolding timer_unit
   timer_unit_quiet None = none_parsed
   timer_unit_quiet (Some t) = time_quiet t.span _
 
-  timer_checks_quiet : (q : Option Quantity) → NoParsed (timer_checks units flags q)
+  timer_checks_quiet : (q : Option Quantity) → NoParsed (timer_checks cx.units cx.flags q)
   unfolding timer_checks
   timer_checks_quiet None = none_parsed
   timer_checks_quiet (Some q) = both _ _ (when_diag _ 21 _ false) (timer_unit_quiet q.unit)
 
-  timer_quiet : (q : Option Quantity) → NoParsed (timer_findings units flags q)
+  timer_quiet : (q : Option Quantity) → NoParsed (timer_findings cx.units cx.flags q)
   unfolding timer_findings
-  timer_quiet q = both _ _ (lock_quiet q) (either (has_advanced_units flags) _ _ (timer_checks_quiet q) none_parsed)
+  timer_quiet q = both _ _ (lock_quiet q) (either (has_advanced_units cx.flags) _ _ (timer_checks_quiet q) none_parsed)
 
 -- ---- states
 
@@ -235,35 +236,35 @@ component_pushed : (k : Kind) (m : Made) (is : List Item) (st : State) → NoPar
 unfolding push_component
 component_pushed k m is st p = then (then (table_aside k _ st) (items_aside _ is _)) (reported m.findings _ p)
 
-module _ (units : List NamedUnit) (flags : ℕ) where
-  pieces_aside : (t : List ℕ) (is : List Item) (st : State) → Aside st (push_pieces (pieces units flags t) is st)
+module _ (cx : Context) where
+  pieces_aside : (t : List ℕ) (is : List Item) (st : State) → Aside st (push_pieces (pieces cx.units cx.flags t) is st)
   unfolding push_pieces
   pieces_aside t is st = then (inline_aside _ st) (items_aside _ is _)
 
-  text_aside : (t : Text) (is : List Item) (st : State) → Aside st (text_in_step units flags t is st)
+  text_aside : (t : Text) (is : List Item) (st : State) → Aside st (text_in_step cx.units cx.flags t is st)
   unfolding text_in_step
   text_aside t is st =
       pick_either (Aside st) (is_components st.modes.define) _ _ (λ _. reported _ st (when_diag _ 4 _ false)) (λ _. pieces_aside t.content is st)
 
-  timer_aside : (n : Option Text) (q : Option Quantity) (is : List Item) (st : State) → Aside st (push_timer units flags n q is st)
+  timer_aside : (n : Option Text) (q : Option Quantity) (is : List Item) (st : State) → Aside st (push_timer cx.units cx.flags n q is st)
   unfolding push_timer
-  timer_aside n q is st = then (then (timers_aside _ st) (items_aside _ is _)) (reported _ _ (timer_quiet units flags q))
+  timer_aside n q is st = then (then (timers_aside _ st) (items_aside _ is _)) (reported _ _ (timer_quiet cx q))
 
-  made_aside : (k : Kind) (m : Made) (is : List Item) (st : State) → NoParsed m.findings → AsideStep st (on_made units flags k m is st)
+  made_aside : (k : Kind) (m : Made) (is : List Item) (st : State) → NoParsed m.findings → AsideStep st (on_made k m is st)
   unfolding on_made
   made_aside k m is st p = chained_aside m (component_pushed k m is st p)
 
-  component_aside : (c : ComponentEvent) (is : List Item) (st : State) → AsideStep st (on_component units flags c is st)
+  component_aside : (c : ComponentEvent) (is : List Item) (st : State) → AsideStep st (on_component cx c is st)
   unfolding on_component make_cookware
-  component_aside (ingredient_event c i) is st = fault_aside st (intermediate_fault c i) _ (made_aside ingredient _ is st (ingredient_quiet units flags c i st))
-  component_aside (cookware_event c) is st = made_aside cookware _ is st (named_quiet units flags cookware c st)
+  component_aside (ingredient_event c i) is st = fault_aside st (intermediate_fault c i) _ (made_aside ingredient _ is st (ingredient_quiet cx c i st))
+  component_aside (cookware_event c) is st = made_aside cookware _ is st (named_quiet cx cookware c st)
   component_aside (timer_event s n q) is st = timer_aside n q is st
 
   close_step_aside : (is : List Item) (st : State) → Aside st (close_step is st)
   unfolding close_step
   close_step_aside is st = pick_either (Aside st) (is_components st.modes.define) _ _ (λ _. block_aside no_block st) (λ _. keep_aside _ _ st)
 
-  step_aside : (i : Inside) (is : List Item) (st : State) → AsideStep st (in_step_block units flags i is st)
+  step_aside : (i : Inside) (is : List Item) (st : State) → AsideStep st (in_step_block cx i is st)
   unfolding in_step_block
   step_aside (end_event step_kind) is st = close_step_aside is st
   step_aside (end_event text_kind) is st = tt
@@ -287,12 +288,12 @@ mode_aside text (end_event k) ts st = close_text_aside ts st
 mode_aside text (text_event t) ts st = block_aside _ st
 mode_aside text (component_event c) ts st = then (block_aside _ st) (reported _ _ (one_diag 5 _ false))
 
-pub inside_aside : (text : List ℕ) (units : List NamedUnit) (flags : ℕ) (i : Inside) (o : Open) (st : State) → AsideStep st (on_inside text units flags i o st)
+pub inside_aside : (cx : Context) (i : Inside) (o : Open) (st : State) → AsideStep st (on_inside cx i o st)
 unfolding on_inside
-inside_aside text units flags i no_block st = tt
-inside_aside text units flags i (step_open is) st = step_aside units flags i is st
-inside_aside text units flags i (text_open ts) st = block_text_aside i ts st
-inside_aside text units flags i (text_mode_open ts) st = mode_aside text i ts st
+inside_aside cx i no_block st = tt
+inside_aside cx i (step_open is) st = step_aside cx i is st
+inside_aside cx i (text_open ts) st = block_text_aside i ts st
+inside_aside cx i (text_mode_open ts) st = mode_aside cx.text i ts st
 
 -- ---- `meta` lines
 

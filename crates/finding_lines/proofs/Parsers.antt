@@ -6,11 +6,11 @@ use mathlib.Core.Bool.{Bool, true, false}
 use mathlib.Core.List.{List, [], ◌∷◌, ◌++◌, append_assoc, append-nil}
 use native.Mathlib.Omega.{arith}
 use lib.ListN.{length, take, drop}
+use Rattle.rules.specs.Input.{Context}
 use Rattle.rules.specs.Basic.{pick}
 use Rattle.rules.specs.Utf8.{is_utf8}
 use Rattle.rules.specs.Words as words
 use Rattle.rules.specs.Event.{Between, meta_event, section_event, start_event, Event, between, inside, parser_event}
-use Rattle.rules.specs.Units.{NamedUnit}
 use Rattle.rules.specs.Finding.{Finding, parsed, only_parsed}
 use Rattle.rules.specs.Read.{parse_line}
 use Rattle.rules.specs.State.{State, first_state, report, over_limits, Step, next, stop, Walk, going, failed, refused, Outcome, no_recipe}
@@ -65,51 +65,51 @@ pub aside_next : {st a : State} (s : Step) → AsideStep st s → s ≡ next a �
 aside_next {st} {a} (next b) p e = rw (next_inj e) at p
 aside_next (stop n) p e = stop_next e
 
-module _ (text : List ℕ) (units : List NamedUnit) (flags : ℕ) where
-  between_parsers : (b : Between) (st : State) → only_parsed (on_between text units flags b st).findings ≡ only_parsed st.findings
+module _ (cx : Context) where
+  between_parsers : (b : Between) (st : State) → only_parsed (on_between cx b st).findings ≡ only_parsed st.findings
   unfolding on_between
-  between_parsers (meta_event k v) st = meta_parsers flags k v st
+  between_parsers (meta_event k v) st = meta_parsers cx.flags k v st
   between_parsers (section_event n) st = (section_aside n st).parsers
   between_parsers (start_event k) st = (start_aside k st).parsers
 
   -- an event adds its own
-  pub event_parsers : (e : Event) (st a : State) → on_event text units flags e st ≡ next a → only_parsed a.findings ≡ parser_findings e ++ only_parsed st.findings
+  pub event_parsers : (e : Event) (st a : State) → on_event cx e st ≡ next a → only_parsed a.findings ≡ parser_findings e ++ only_parsed st.findings
   unfolding on_event parser_findings
   event_parsers (between b) st a q =
       pick_either (λ (s : Step). s ≡ next a → only_parsed a.findings ≡ only_parsed st.findings) (is_open st.place.block) _ _ (λ _ e. stop_next e)
       (λ _ e. ap (λ (x : State). only_parsed x.findings) (sym (next_inj e)) ∙ between_parsers b st) q
-  event_parsers (inside i) st a q = (aside_next _ (inside_aside text units flags i st.place.block st) q).parsers
+  event_parsers (inside i) st a q = (aside_next _ (inside_aside cx i st.place.block st) q).parsers
   event_parsers (parser_event s n) st a q = unfold report only_parsed in ap (λ (x : State). only_parsed x.findings) (sym (next_inj q))
 
-  refused_failed : {P : Type 0} (line n l : ℕ) (es : List Event) (fs : List Finding) → walk text units flags line (refused n l) es ≡ failed fs → P
-  refused_failed line n l es fs q = absurd (let h = sym (stays_refused text units flags line n l es) ∙ q in let z : ◌≡◌ {A = ℕ} 0 1 = cc in omega arith)
+  refused_failed : {P : Type 0} (line n l : ℕ) (es : List Event) (fs : List Finding) → walk cx line (refused n l) es ≡ failed fs → P
+  refused_failed line n l es fs q = absurd (let h = sym (stays_refused cx line n l es) ∙ q in let z : ◌≡◌ {A = ℕ} 0 1 = cc in omega arith)
 
   abbrev Done : List Event → ℕ → Walk → Type 0
-  Done es line w = (fs : List Finding) → walk text units flags line w es ≡ failed fs → table_lines finding_line fs ≡ table_lines finding_line (parsed_of w) ++ parsed_lines es
+  Done es line w = (fs : List Finding) → walk cx line w es ≡ failed fs → table_lines finding_line fs ≡ table_lines finding_line (parsed_of w) ++ parsed_lines es
 
   -- a walk that has the event's findings
   walk_more : (e : Event) (es : List Event) (line : ℕ) (fs : List Finding) (w : Walk) → parsed_of w ≡ parser_findings e ++ fs → Done es line w
-      → (gs : List Finding) → walk text units flags line w es ≡ failed gs → table_lines finding_line gs ≡ table_lines finding_line fs ++ parsed_lines (e ∷ es)
+      → (gs : List Finding) → walk cx line w es ≡ failed gs → table_lines finding_line gs ≡ table_lines finding_line fs ++ parsed_lines (e ∷ es)
   unfolding parsed_lines
   walk_more e es line fs w p d gs q =
       d gs q
       ∙ (ap (λ (l : List Finding). table_lines finding_line l ++ parsed_lines es) p
       ∙ (ap (λ (l : List ℕ). l ++ parsed_lines es) (event_lines e fs) ∙ append_assoc (table_lines finding_line fs) (parsed_line e) (parsed_lines es)))
 
-  settled_more : (e : Event) (es : List Event) (line : ℕ) (st : State) → ((w : Walk) → Done es (suc line) w) → (s : Step) → on_event text units flags e st ≡ s
-      → (gs : List Finding) → walk text units flags (suc line) (settle line s) es ≡ failed gs → table_lines finding_line gs ≡ table_lines finding_line (only_parsed st.findings) ++ parsed_lines (e ∷ es)
+  settled_more : (e : Event) (es : List Event) (line : ℕ) (st : State) → ((w : Walk) → Done es (suc line) w) → (s : Step) → on_event cx e st ≡ s
+      → (gs : List Finding) → walk cx (suc line) (settle line s) es ≡ failed gs → table_lines finding_line gs ≡ table_lines finding_line (only_parsed st.findings) ++ parsed_lines (e ∷ es)
   unfolding settle
   settled_more e es line st ih (stop n) k gs q = refused_failed (suc line) n line es gs q
   settled_more e es line st ih (next a) k gs q =
-      pick_either (λ (w : Walk). walk text units flags (suc line) w es ≡ failed gs → table_lines finding_line gs ≡ table_lines finding_line (only_parsed st.findings) ++ parsed_lines (e ∷ es))
+      pick_either (λ (w : Walk). walk cx (suc line) w es ≡ failed gs → table_lines finding_line gs ≡ table_lines finding_line (only_parsed st.findings) ++ parsed_lines (e ∷ es))
       (over_limits a) _ _ (λ _ p. refused_failed (suc line) 17 line es gs p)
       (λ _ p. walk_more e es (suc line) (only_parsed st.findings) (going a) (event_parsers e st a k) (ih (going a)) gs p) q
 
   going_more : (e : Event) (es : List Event) (line : ℕ) (st : State) → ((w : Walk) → Done es (suc line) w) → (t : Bool) → is_error_event e ≡ t
-      → (gs : List Finding) → walk text units flags (suc line) (step text units flags line e (going st)) es ≡ failed gs → table_lines finding_line gs ≡ table_lines finding_line (only_parsed st.findings) ++ parsed_lines (e ∷ es)
+      → (gs : List Finding) → walk cx (suc line) (step cx line e (going st)) es ≡ failed gs → table_lines finding_line gs ≡ table_lines finding_line (only_parsed st.findings) ++ parsed_lines (e ∷ es)
   going_more e es line st ih true k gs q =
-      walk_more e es (suc line) (only_parsed st.findings) (failed (parser_findings e ++ only_parsed st.findings)) refl (ih _) gs (rw (step_fails text units flags line e st k) at q)
-  going_more e es line st ih false k gs q = settled_more e es line st ih (on_event text units flags e st) refl gs (rw (step_settles text units flags line e st k) at q)
+      walk_more e es (suc line) (only_parsed st.findings) (failed (parser_findings e ++ only_parsed st.findings)) refl (ih _) gs (rw (step_fails cx line e st k) at q)
+  going_more e es line st ih false k gs q = settled_more e es line st ih (on_event cx e st) refl gs (rw (step_settles cx line e st k) at q)
 
   walk_failed : (es : List Event) (line : ℕ) (w : Walk) → Done es line w
   walk_failed [] line w fs q = unfold walk parsed_lines in sym (append-nil _ ∙ ap (λ (x : Walk). table_lines finding_line (parsed_of x)) q)
@@ -130,7 +130,7 @@ module _ (text : List ℕ) (units : List NamedUnit) (flags : ℕ) where
   finish_failed (refused n l) fs q = absurd (let z : ◌≡◌ {A = ℕ} 0 1 = cc in omega arith)
 
   -- the findings of a failed recipe are those of the parser's lines
-  pub failed_lines : (es : List Event) (fs : List Finding) → parse_events text units flags es ≡ no_recipe fs → table_lines finding_line fs ≡ parsed_lines es
+  pub failed_lines : (es : List Event) (fs : List Finding) → parse_events cx es ≡ no_recipe fs → table_lines finding_line fs ≡ parsed_lines es
   failed_lines es fs q =
       walk_failed es 1 (going first_state) fs (finish_failed _ fs (unfold parse_events in q)) ∙ unfold first_state only_parsed table_lines lines_onto in refl
 
@@ -208,5 +208,5 @@ module _ {text bytes o₀ : List ℕ} {at : ℕ} {o : List ℕ} {m from : ℕ} (
           }
 
 -- the page of a failed recipe
-pub parsed_failed : {text bytes o₀ o : List ℕ} {at r : ℕ} (units : List NamedUnit) (flags : ℕ) (fs : List Finding) → parse_events text units flags (events_or (read_sheet text bytes)) ≡ no_recipe fs → ParsedPut text bytes o₀ at o r → Put (table_lines finding_line fs) o₀ at o r
-parsed_failed {text} {bytes} units flags fs q p = text_is _ (failed_lines text units flags (events_or (read_sheet text bytes)) fs q) p.is
+pub parsed_failed : {text bytes o₀ o : List ℕ} {at r : ℕ} (cx : Context) (fs : List Finding) → parse_events cx (events_or (read_sheet text bytes)) ≡ no_recipe fs → ParsedPut text bytes o₀ at o r → Put (table_lines finding_line fs) o₀ at o r
+parsed_failed {text} {bytes} cx fs q p = text_is _ (failed_lines cx (events_or (read_sheet text bytes)) fs q) p.is

@@ -5,12 +5,12 @@ use mathlib.Core.List.{List, [], ◌∷◌, ◌++◌, append-nil}
 use mathlib.Core.Bool.{Bool, false, ◌||◌}
 use Rattle.std.specs.Prelude.{Option, None, Some}
 use lib.ListN.{length}
+use Rattle.rules.specs.Input.{Context}
 use Rattle.rules.specs.Basic.{pick, is_empty, is_some, on_some, word_in, concat}
 use Rattle.rules.specs.Utf8.{encode}
 use Rattle.rules.specs.Sheet.{escape}
 use Rattle.rules.specs.Words.{BlockKind, step_kind, text_kind, DefineMode, DuplicateMode, mode_all, mode_components, mode_steps, mode_text, define_key, duplicate_key, define_words, duplicate_words}
 use Rattle.rules.specs.Event.{Text, Between, meta_event, section_event, start_event, Event, between, inside, parser_event}
-use Rattle.rules.specs.Units.{NamedUnit}
 use Rattle.rules.specs.Finding.{Finding}
 use Rattle.rules.specs.Model.{trimmed_text, InlineQuantity, Block}
 use Rattle.rules.specs.Modes.{is_components, is_text, has_modes, Key, config, unknown_config, ordinary, key_of, key_text, value_text}
@@ -85,12 +85,12 @@ named_shown (Some x) = refl
 abbrev begun : Option Text → State → State
 begun x st = set_place (record { section = record { name = on_some trimmed_text x; content = [] }; step_counter = 1; block = no_block }) st
 
-module _ (text : List ℕ) (units : List NamedUnit) (flags : ℕ) (m : DefineMode) (d : DuplicateMode) (md : Metadata) (name : Option (List ℕ)) (content : List Block) (n : ℕ) (k : Kept) (t : Tables) (fs : List Finding) where
+module _ (cx : Context) (m : DefineMode) (d : DuplicateMode) (md : Metadata) (name : Option (List ℕ)) (content : List Block) (n : ℕ) (k : Kept) (t : Tables) (fs : List Finding) where
   abbrev here : State
   here = made m d md name content n no_block k t fs
 
   section_grows : (x : Option Text) (k' : Kept) → sections_drawn here ≡ table_lines section_lines k'.sections
-      → EventGrows text units flags (between (section_event x)) here (begun x (made m d md name content n no_block k' t fs))
+      → EventGrows cx (between (section_event x)) here (begun x (made m d md name content n no_block k' t fs))
   unfolding set_place next_follow between_follow section_follow with_inline follow_of is_shown keeps kind_of sections_drawn old_drawn sections_add timers_add inline_add quantities_added old_add open_drawn is_empty
   section_grows x k' q =
       record {
@@ -102,7 +102,7 @@ module _ (text : List ℕ) (units : List NamedUnit) (flags : ℕ) (m : DefineMod
         table_is = refl;
       }
 
-  start_event_lem : (b : BlockKind) → EventGrows text units flags (between (start_event b)) here (set_block (opened m b) here)
+  start_event_lem : (b : BlockKind) → EventGrows cx (between (start_event b)) here (set_block (opened m b) here)
   unfolding set_block set_place next_follow between_follow start_follow with_inline follow_of sections_add timers_add inline_add quantities_added old_add
   start_event_lem b =
       subst (λ (o : Open). Grows here (set_block (opened m b) here) (start_follow o (follow_of here)) (start_adds (follow_of here) o) [] [] [] []) (opens_kind m b)
@@ -128,37 +128,37 @@ module _ (text : List ℕ) (units : List NamedUnit) (flags : ℕ) (m : DefineMod
   key_grows unknown_config a v = record { follow = refl; sections_is = nil; timers_is = nil; inline_is = nil; old_is = nil; table_is = refl }
   key_grows ordinary a v = record { follow = refl; sections_is = nil; timers_is = nil; inline_is = nil; old_is = span_more (record { start = a.span.start; end = v.span.end }) md.old; table_is = refl }
 
-  meta_event_lem : (a v : Text) → EventGrows text units flags (between (meta_event a v)) here (on_metadata flags a v here)
+  meta_event_lem : (a v : Text) → EventGrows cx (between (meta_event a v)) here (on_metadata cx.flags a v here)
   unfolding on_metadata next_follow between_follow meta_of sections_add timers_add inline_add quantities_added old_add
-  meta_event_lem a v = inline_grows (key_grows (pick (has_modes flags) (key_of (key_text a)) ordinary) a v)
+  meta_event_lem a v = inline_grows (key_grows (pick (has_modes cx.flags) (key_of (key_text a)) ordinary) a v)
 
-section_event_lem : (text : List ℕ) (units : List NamedUnit) (flags : ℕ) (m : DefineMode) (d : DuplicateMode) (md : Metadata) (name : Option (List ℕ)) (content : List Block) (n : ℕ) (k : Kept) (t : Tables) (fs : List Finding) (x : Option Text) → EventGrows text units flags (between (section_event x)) (made m d md name content n no_block k t fs) (on_section x (made m d md name content n no_block k t fs))
+section_event_lem : (cx : Context) (m : DefineMode) (d : DuplicateMode) (md : Metadata) (name : Option (List ℕ)) (content : List Block) (n : ℕ) (k : Kept) (t : Tables) (fs : List Finding) (x : Option Text) → EventGrows cx (between (section_event x)) (made m d md name content n no_block k t fs) (on_section x (made m d md name content n no_block k t fs))
 unfolding on_section close_section is_empty_section set_kept is_some is_empty
-section_event_lem text units flags m d md (Some s) content n k t fs x = section_grows text units flags m d md (Some s) content n k t fs x (record { sections = record { name = Some s; content = content } ∷ k.sections; blocks = k.blocks; items = k.items }) (sections_closed m d md (Some s) content n k t fs)
-section_event_lem text units flags m d md None (b ∷ bs) n k t fs x = section_grows text units flags m d md None (b ∷ bs) n k t fs x (record { sections = record { name = None; content = b ∷ bs } ∷ k.sections; blocks = k.blocks; items = k.items }) (sections_closed m d md None (b ∷ bs) n k t fs)
-section_event_lem text units flags m d md None [] n k t fs x = section_grows text units flags m d md None [] n k t fs x k (sections_closed m d md None [] n k t fs)
+section_event_lem cx m d md (Some s) content n k t fs x = section_grows cx m d md (Some s) content n k t fs x (record { sections = record { name = Some s; content = content } ∷ k.sections; blocks = k.blocks; items = k.items }) (sections_closed m d md (Some s) content n k t fs)
+section_event_lem cx m d md None (b ∷ bs) n k t fs x = section_grows cx m d md None (b ∷ bs) n k t fs x (record { sections = record { name = None; content = b ∷ bs } ∷ k.sections; blocks = k.blocks; items = k.items }) (sections_closed m d md None (b ∷ bs) n k t fs)
+section_event_lem cx m d md None [] n k t fs x = section_grows cx m d md None [] n k t fs x k (sections_closed m d md None [] n k t fs)
 
 -- ---- every line
 
-module _ (text : List ℕ) (units : List NamedUnit) (flags : ℕ) (m : DefineMode) (d : DuplicateMode) (md : Metadata) (name : Option (List ℕ)) (content : List Block) (n : ℕ) (k : Kept) (t : Tables) (fs : List Finding) where
-  between_grows : (b : Between) → EventGrows text units flags (between b) (made m d md name content n no_block k t fs) (on_between text units flags b (made m d md name content n no_block k t fs))
+module _ (cx : Context) (m : DefineMode) (d : DuplicateMode) (md : Metadata) (name : Option (List ℕ)) (content : List Block) (n : ℕ) (k : Kept) (t : Tables) (fs : List Finding) where
+  between_grows : (b : Between) → EventGrows cx (between b) (made m d md name content n no_block k t fs) (on_between cx b (made m d md name content n no_block k t fs))
   unfolding on_between
-  between_grows (meta_event a v) = meta_event_lem text units flags m d md name content n k t fs a v
-  between_grows (section_event x) = section_event_lem text units flags m d md name content n k t fs x
-  between_grows (start_event b) = start_event_lem text units flags m d md name content n k t fs b
+  between_grows (meta_event a v) = meta_event_lem cx m d md name content n k t fs a v
+  between_grows (section_event x) = section_event_lem cx m d md name content n k t fs x
+  between_grows (start_event b) = start_event_lem cx m d md name content n k t fs b
 
-  made_grows : (e : Event) (o : state.Open) → StepGrows text units flags e (made m d md name content n o k t fs) (on_event text units flags e (made m d md name content n o k t fs))
+  made_grows : (e : Event) (o : state.Open) → StepGrows cx e (made m d md name content n o k t fs) (on_event cx e (made m d md name content n o k t fs))
   unfolding on_event is_open
   made_grows (between b) no_block = between_grows b
   made_grows (between b) (step_open is) = tt
   made_grows (between b) (text_open ts) = tt
   made_grows (between b) (text_mode_open ts) = tt
-  made_grows (inside i) o = inside_grows text units flags m d md name content n k t fs i o
+  made_grows (inside i) o = inside_grows cx m d md name content n k t fs i o
   made_grows (parser_event s x) o = unfold report next_follow with_inline follow_of is_shown sections_drawn old_drawn sections_add timers_add inline_add quantities_added old_add in record { follow = refl; sections_is = nil; timers_is = nil; inline_is = nil; old_is = nil; table_is = refl }
 
-module _ (text : List ℕ) (units : List NamedUnit) (flags : ℕ) where
-  event_grows : (e : Event) (st : State) → StepGrows text units flags e st (on_event text units flags e st)
-  event_grows e st = made_grows text units flags st.modes.define st.modes.duplicate st.metadata st.place.section.name st.place.section.content st.place.step_counter st.kept st.tables st.findings e st.place.block
+module _ (cx : Context) where
+  event_grows : (e : Event) (st : State) → StepGrows cx e st (on_event cx e st)
+  event_grows e st = made_grows cx st.modes.define st.modes.duplicate st.metadata st.place.section.name st.place.section.content st.place.step_counter st.kept st.tables st.findings e st.place.block
 
-  pub line_grows : (e : Event) (st st' : State) → on_event text units flags e st ≡ next st' → EventGrows text units flags e st st'
-  line_grows e st st' q = subst (StepGrows text units flags e st) q (event_grows e st)
+  pub line_grows : (e : Event) (st st' : State) → on_event cx e st ≡ next st' → EventGrows cx e st st'
+  line_grows e st st' q = subst (StepGrows cx e st) q (event_grows e st)

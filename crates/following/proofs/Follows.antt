@@ -227,4 +227,4 @@ event_finding {flags} {line} {f = f} s n q = record { is = arm (λ (x : EventVie
 pub followed : {flags : ℕ} {line : List ℕ} {e : EventView} {f g r : Follow} (n : ℕ) → EventFollowed flags line e f g → r ≡ with_inline (f.inline + n) g → Followed flags line e n f r
 followed {flags} {line} {e} {f} n a w =
     let q = w ∙ ap (with_inline (f.inline + n)) a.is in
-    record { is = q; by = λ text units st st' z g l. follows_next text units flags (event_in line e) st' (f.inline + n) z g l q }
+    record { is = q; by = λ cx c st st' z g l. follows_next cx (event_in line e) st' (f.inline + n) z g l (rw c q) }

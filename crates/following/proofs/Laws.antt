@@ -9,11 +9,11 @@ use lib.Dec.{ltb}
 use borrow.Author.Tests.{ne_eqb, ltb-true}
 use lib.ListN.{length, length-reverse_aux}
 use native.Mathlib.Nat.{add_comm}
+use Rattle.rules.specs.Input.{Context}
 use Rattle.rules.specs.Basic.{pick, codes, comma, is_empty, is_some, join_by, each, digits, decimal}
 use Rattle.rules.specs.Sheet.{escape, escape_char, line_of}
 use Rattle.rules.specs.Words.{DefineMode, DuplicateMode}
 use Rattle.rules.specs.Event.{Span, Event}
-use Rattle.rules.specs.Units.{NamedUnit}
 use Rattle.rules.specs.Finding.{Finding, diag, is_error}
 use Rattle.rules.specs.Model.{Block}
 use Rattle.rules.specs.Modes.{first_modes}
@@ -47,37 +47,37 @@ follows_first = record { is = refl }
 
 -- ---- line by line
 
-module _ (text : List ℕ) (units : List NamedUnit) (flags : ℕ) where
-  pub drawn_next : (p : Part) (e : Event) (st st' : State) → on_event text units flags e st ≡ next st' → drawn p st' ≡ drawn p st ++ appended text units flags p e st
+module _ (cx : Context) where
+  pub drawn_next : (p : Part) (e : Event) (st st' : State) → on_event cx e st ≡ next st' → drawn p st' ≡ drawn p st ++ appended cx.text cx.units cx.flags p e st
   unfolding drawn appended added
-  drawn_next Sections e st st' q = (line_grows text units flags e st st' q).sections_is
-  drawn_next Timers e st st' q = (line_grows text units flags e st st' q).timers_is
-  drawn_next Inline e st st' q = (line_grows text units flags e st st' q).inline_is
-  drawn_next Old e st st' q = (line_grows text units flags e st st' q).old_is
+  drawn_next Sections e st st' q = (line_grows cx e st st' q).sections_is
+  drawn_next Timers e st st' q = (line_grows cx e st st' q).timers_is
+  drawn_next Inline e st st' q = (line_grows cx e st st' q).inline_is
+  drawn_next Old e st st' q = (line_grows cx e st st' q).old_is
 
   -- the same, as the small state tells it
-  pub drawn_added : (p : Part) (e : Event) {st : State} (st' : State) {f : Follow} → on_event text units flags e st ≡ next st' → Follows st f → drawn p st' ≡ drawn p st ++ added text units flags p e f
+  pub drawn_added : (p : Part) (e : Event) {st : State} (st' : State) {f : Follow} → on_event cx e st ≡ next st' → Follows st f → drawn p st' ≡ drawn p st ++ added cx.text cx.units cx.flags p e f
   unfolding appended
-  drawn_added p e {st} st' q g = drawn_next p e st st' q ∙ ap (λ (x : Follow). drawn p st ++ added text units flags p e x) (sym g.is)
+  drawn_added p e {st} st' q g = drawn_next p e st st' q ∙ ap (λ (x : Follow). drawn p st ++ added cx.text cx.units cx.flags p e x) (sym g.is)
 
-  pub follows_next : (e : Event) {st : State} (st' : State) {f r : Follow} (n : ℕ) → on_event text units flags e st ≡ next st' → Follows st f
-      → length st'.tables.inline ≡ n → r ≡ with_inline n (next_follow flags e f) → Follows st' r
+  pub follows_next : (e : Event) {st : State} (st' : State) {f r : Follow} (n : ℕ) → on_event cx e st ≡ next st' → Follows st f
+      → length st'.tables.inline ≡ n → r ≡ with_inline n (next_follow cx.flags e f) → Follows st' r
   follows_next e {st} st' {f} {r} n q g l w =
       record {
         is =
-            w ∙ (ap (λ (x : Follow). with_inline n (next_follow flags e x)) g.is
-            ∙ (ap (λ (x : ℕ). with_inline x (next_follow flags e (follow_of st))) (sym l) ∙ sym (line_grows text units flags e st st' q).follow));
+            w ∙ (ap (λ (x : Follow). with_inline n (next_follow cx.flags e x)) g.is
+            ∙ (ap (λ (x : ℕ). with_inline x (next_follow cx.flags e (follow_of st))) (sym l) ∙ sym (line_grows cx e st st' q).follow));
       }
 
   -- how many inline quantities there are then
-  pub inline_next : (e : Event) {st : State} (st' : State) {f : Follow} → on_event text units flags e st ≡ next st' → Follows st f
-      → length st'.tables.inline ≡ f.inline + length (quantities_added units flags e f)
+  pub inline_next : (e : Event) {st : State} (st' : State) {f : Follow} → on_event cx e st ≡ next st' → Follows st f
+      → length st'.tables.inline ≡ f.inline + length (quantities_added cx.units cx.flags e f)
   unfolding follow_of
   inline_next e {st} st' {f} q g =
-      ap length (line_grows text units flags e st st' q).table_is
-      ∙ (length-reverse_aux (quantities_added units flags e (follow_of st)) st.tables.inline
-      ∙ (add_comm (length (quantities_added units flags e (follow_of st))) (length st.tables.inline)
-      ∙ ap (λ (x : Follow). x.inline + length (quantities_added units flags e x)) (sym g.is)))
+      ap length (line_grows cx e st st' q).table_is
+      ∙ (length-reverse_aux (quantities_added cx.units cx.flags e (follow_of st)) st.tables.inline
+      ∙ (add_comm (length (quantities_added cx.units cx.flags e (follow_of st))) (length st.tables.inline)
+      ∙ ap (λ (x : Follow). x.inline + length (quantities_added cx.units cx.flags e x)) (sym g.is)))
 
 -- ---- at the end
 

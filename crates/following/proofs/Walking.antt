@@ -8,9 +8,9 @@ use native.Mathlib.Numerals.{add-one}
 use lib.Dec.{ltb}
 use borrow.Author.Tests.{ltb-false}
 use lib.ListN.{length}
+use Rattle.rules.specs.Input.{Context}
 use Rattle.rules.specs.Basic.{pick, is_some}
 use Rattle.rules.specs.Event.{Event, meta_event, section_event, start_event, end_event, text_event, component_event, ComponentEvent, ingredient_event, cookware_event, timer_event, between, inside, parser_event}
-use Rattle.rules.specs.Units.{NamedUnit}
 use Rattle.rules.specs.Modes.{is_components}
 use Rattle.rules.specs.State.{State, first_state, over_limits, next, Walk, going, refused, failed, recipe, refusal}
 use Rattle.rules.specs.Pass.{is_open, on_event, walk, ended, unless_over, finish, parse_events}
@@ -124,17 +124,17 @@ first_counts = record { counter = omega arith; ingredients = omega arith; cookwa
 
 -- ---- the walk
 
-module _ (text : List ℕ) (units : List NamedUnit) (flags : ℕ) where
+module _ (cx : Context) where
   -- the walk stands at the line `number` in the state st, has the events es before it, and goes on to the end
   pub record Walking (number : ℕ) (st final : State) (es : List Event) : Type 0 where
-    pub goes : walk text units flags number (going st) es ≡ going final
+    pub goes : walk cx number (going st) es ≡ going final
     pub counts : Counts number (follow_of st)
     pub inline : length st.tables.inline ≤ 512
 
   -- one line on
   pub record Went (number : ℕ) (e : Event) (st final : State) (es : List Event) : Type 0 where
     pub after : State
-    pub event : on_event text units flags e st ≡ next after
+    pub event : on_event cx e st ≡ next after
     pub then : Walking (number + 1) after final es
 
   limit_kept : (b : Bool) (number : ℕ) (after : State) → pick b (refused 17 number) (going after) ≡ going after → b ≡ false
@@ -148,20 +148,20 @@ module _ (text : List ℕ) (units : List NamedUnit) (flags : ℕ) where
         event = t.event;
         then =
             record {
-              goes = rw (add-one number) (walk_on text units flags number e es st final t w.goes);
-              counts = rw (add-one number) (subst (Counts (suc number)) (sym (line_grows text units flags e st t.after t.event).follow) (inline_counts (length t.after.tables.inline) (next_counts flags e (follow_of st) w.counts)));
-              inline = inline_most t.after (limit_kept (over_limits t.after) number t.after (sym (step_next text units flags number e st t.after t.no_error t.event) ∙ t.steps));
+              goes = rw (add-one number) (walk_on cx number e es st final t w.goes);
+              counts = rw (add-one number) (subst (Counts (suc number)) (sym (line_grows cx e st t.after t.event).follow) (inline_counts (length t.after.tables.inline) (next_counts cx.flags e (follow_of st) w.counts)));
+              inline = inline_most t.after (limit_kept (over_limits t.after) number t.after (sym (step_next cx number e st t.after t.no_error t.event) ∙ t.steps));
             };
       }
     where
-      t : Takes text units flags number e st
-      t = takes text units flags number e es st final w.goes
+      t : Takes cx number e st
+      t = takes cx number e es st final w.goes
 
   pub walking_ends : {number : ℕ} {st final : State} → Walking number st final [] → st ≡ final
   unfolding walk
   walking_ends w = let q = w.goes in cc
 
-  pub walking_first : {final : State} {es : List Event} → walk text units flags 1 (going first_state) es ≡ going final → Walking 1 first_state final es
+  pub walking_first : {final : State} {es : List Event} → walk cx 1 (going first_state) es ≡ going final → Walking 1 first_state final es
   unfolding first_state
   walking_first q = record { goes = q; counts = subst (Counts 1) follows_first.is first_counts; inline = omega arith }
 
@@ -178,11 +178,11 @@ module _ (text : List ℕ) (units : List NamedUnit) (flags : ℕ) where
   -- a pass that yields the recipe s
   pub record Accepted (es : List Event) (s : State) : Type 0 where
     pub final : State
-    pub goes : walk text units flags 1 (going first_state) es ≡ going final
+    pub goes : walk cx 1 (going first_state) es ≡ going final
     pub shut : is_open final.place.block ≡ false
     pub is : s ≡ ended final
 
-  finished : (es : List Event) (s : State) (w : Walk) → walk text units flags 1 (going first_state) es ≡ w → finish w ≡ recipe s → Accepted es s
+  finished : (es : List Event) (s : State) (w : Walk) → walk cx 1 (going first_state) es ≡ w → finish w ≡ recipe s → Accepted es s
   unfolding finish
   finished es s (going final) e q = ends (is_open final.place.block) refl (over_limits (ended final)) refl q
     where
@@ -193,6 +193,6 @@ module _ (text : List ℕ) (units : List NamedUnit) (flags : ℕ) where
   finished es s (failed fs) e q = absurd (let u : ◌≡◌ {A = ℕ} 0 1 = cc in omega arith)
   finished es s (refused n l) e q = absurd (let u : ◌≡◌ {A = ℕ} 0 1 = cc in omega arith)
 
-  pub accepted : (es : List Event) (s : State) → parse_events text units flags es ≡ recipe s → Accepted es s
+  pub accepted : (es : List Event) (s : State) → parse_events cx es ≡ recipe s → Accepted es s
   unfolding parse_events
-  accepted es s q = finished es s (walk text units flags 1 (going first_state) es) refl q
+  accepted es s q = finished es s (walk cx 1 (going first_state) es) refl q

@@ -4,7 +4,7 @@ use Rattle.rules.specs.Basic.{pick, is_some, word_in}
 use Rattle.rules.specs.Words.{DefineMode, define_key, duplicate_key, define_words}
 use Rattle.rules.specs.Event as rules
 use Rattle.rules.specs.Event.{meta_event, section_event, start_event, end_event, text_event, component_event, ingredient_event, cookware_event, timer_event, between, inside, parser_event}
-use Rattle.rules.specs.Units.{NamedUnit}
+use Rattle.rules.specs.Input.{Context}
 use Rattle.rules.specs.Modes as modes
 use Rattle.rules.specs.Modes.{is_components, has_modes, key_of, key_text, value_text, config, unknown_config, ordinary}
 use Rattle.rules.specs.State.{State, next}
@@ -149,5 +149,5 @@ pub record Room (f : Follow) : Type 0 where
 pub record Followed (flags : ℕ) (line : List ℕ) (e : EventView) (n : ℕ) (f r : Follow) : Type 0 where
   pub is : r ≡ with_inline (f.inline + n) (next_follow flags (event_in line e) f)
   pub by :
-      (text : List ℕ) (units : List NamedUnit) (st st' : State) → on_event text units flags (event_in line e) st ≡ next st' → Follows st f
+      (cx : Context) → cx.flags ≡ flags → (st st' : State) → on_event cx (event_in line e) st ≡ next st' → Follows st f
       → length st'.tables.inline ≡ f.inline + n → Follows st' r

@@ -7,8 +7,7 @@ use native.Mathlib.Omega.{arith}
 use lib.ListN.{length}
 use Rattle.rules.specs.Basic.{eq_list, is_some}
 use Rattle.content.specs.Contents.{content_in}
-use Rattle.rules.specs.Units.{NamedUnit, read_units, find_unit}
-use Rattle.rules.specs.Answer.{units_or}
+use Rattle.rules.specs.Units.{NamedUnit, read_units, find_unit, units_or}
 use Rattle.units.specs.Lists.{units_from}
 use Rattle.units.proofs.Walks.{units_start}
 use Rattle.chains.proofs.Seeks.{Seeking}

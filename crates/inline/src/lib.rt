@@ -4,8 +4,7 @@
 
 ghost use Rattle.std.specs.Prelude.{◌≡◌, ◌≤◌, ◌<◌, length, drop};
 ghost use Rattle.rules.specs.Basic.{is_digit};
-ghost use Rattle.rules.specs.Units.{read_units};
-ghost use Rattle.rules.specs.Answer.{units_or};
+ghost use Rattle.rules.specs.Units.{read_units, units_or};
 ghost use Rattle.rules.specs.Unicode.{is_white_space};
 ghost use Rattle.content.specs.Contents.{content_in};
 ghost use Rattle.content.specs.Parts.{Field};

@@ -2,8 +2,9 @@
 #![tactic(auto)]
 
 ghost use Rattle.std.specs.Prelude.{◌≡◌, ◌≤◌, length};
+ghost use Rattle.rules.specs.Input.{input_of};
 ghost use Rattle.rules.specs.Answer.{flags_of};
-ghost use Rattle.inputs.specs.Inputs.{InputsChecked, ContentsChecked, SheetFlagsChecked, UnitsReady};
+ghost use Rattle.inputs.specs.Inputs.{EarlyChecked, LateChecked, InputsChecked, ContentsChecked, UnitsReady};
 
 use model::layout;
 use refusals::{Reason, Refusal};
@@ -14,44 +15,59 @@ pub const WORDS: usize = layout::WORDS;
 
 pub const BYTES: usize = 65536;
 
-// A refusal of what stands in no line.
-fn refused(reason: Reason) -> Refusal
-    ensures { result ≡ record { reason = reason; line = 0 } }
+// 4, then 5 and 6; the unit list gets its index.
+fn check_contents(text: &[u8], units: &[u8], index: &mut Index) -> Result<(), Reason>
+    requires { length units.now ≤ 16384 }
+    ensures { ContentsChecked text.now units.now result × UnitsReady units.now index.new result }
 {
-    Refusal { reason, line: 0 }
-}
-
-// 7, then 8 to 10.
-fn check_sheet(sheet: &[u8], text: &[u8], flags: u32) -> Result<(), Refusal>
-    ensures { SheetFlagsChecked sheet.now text.now flags result }
-{
-    if 7 < flags {
-        return Err(refused(Reason::UnknownFlags));
+    if let Some(_) = utf8::first_fault(text) {
+        return Err(Reason::TextNotUtf8);
     }
-    reading::read_sheet(sheet, text)
+    unit_index::index_units(units, index)
 }
 
-// 4, then 5 and 6, then the rest; the unit list gets its index.
-fn check_contents(
+// What is refused before the flags: the three files, words for the index of the units, and how many words and bytes of work
+// memory are lent.
+pub fn check_early(
     sheet: &[u8],
     text: &[u8],
     units: &[u8],
     index: &mut Index,
-    flags: u32,
-) -> Result<(), Refusal>
-    requires { length units.now ≤ 16384 }
-    ensures { ContentsChecked sheet.now text.now units.now flags result × UnitsReady units.now index.new result }
+    words: usize,
+    bytes: usize,
+) -> Result<(), Reason>
+    ensures { EarlyChecked sheet.now text.now units.now words bytes result × UnitsReady units.now index.new result }
 {
-    if let Some(_) = utf8::first_fault(text) {
-        return Err(refused(Reason::TextNotUtf8));
+    if words < WORDS {
+        return Err(Reason::Lengths);
     }
-    match unit_index::index_units(units, index) {
-        Err(reason) => Err(refused(reason)),
-        Ok(()) => check_sheet(sheet, text, flags),
+    if bytes < BYTES {
+        return Err(Reason::Lengths);
     }
+    if 65536 < sheet.len() {
+        return Err(Reason::Lengths);
+    }
+    if 65535 < text.len() {
+        return Err(Reason::LongText);
+    }
+    if 16384 < units.len() {
+        return Err(Reason::LongUnits);
+    }
+    check_contents(text, units, index)
 }
 
-// The three files, words for the index of the units, the flags, and how many words and bytes of work memory are lent.
+// From the flags on: 7, then 8 to 10.
+pub fn check_late(sheet: &[u8], text: &[u8], flags: u32) -> Result<(), Refusal>
+    ensures { LateChecked sheet.now text.now flags result }
+{
+    if 7 < flags {
+        let reason = Reason::UnknownFlags;
+        return Err(Refusal { reason, line: 0 });
+    }
+    reading::read_sheet(sheet, text)
+}
+
+// All that is refused before the pass, where no list of a page's own stands between.
 pub fn check_inputs(
     sheet: &[u8],
     text: &[u8],
@@ -61,24 +77,12 @@ pub fn check_inputs(
     words: usize,
     bytes: usize,
 ) -> Result<(), Refusal>
-    ensures { InputsChecked sheet.now text.now units.now flags words bytes result × UnitsReady units.now index.new result }
+    ensures { InputsChecked (input_of sheet.now text.now units.now flags) words bytes result × UnitsReady units.now index.new result }
 {
-    if words < WORDS {
-        return Err(refused(Reason::Lengths));
+    match check_early(sheet, text, units, index, words, bytes) {
+        Err(reason) => Err(Refusal { reason, line: 0 }),
+        Ok(()) => check_late(sheet, text, flags),
     }
-    if bytes < BYTES {
-        return Err(refused(Reason::Lengths));
-    }
-    if 65536 < sheet.len() {
-        return Err(refused(Reason::Lengths));
-    }
-    if 65535 < text.len() {
-        return Err(refused(Reason::LongText));
-    }
-    if 16384 < units.len() {
-        return Err(refused(Reason::LongUnits));
-    }
-    check_contents(sheet, text, units, index, flags)
 }
 
 // The flags that a file of one digit says; any other file says 8.

@@ -12,7 +12,6 @@ use Rattle.rules.specs.Event as rules
 use Rattle.rules.specs.Finding.{found}
 use Rattle.rules.specs.Model.{Entry}
 use Rattle.rules.specs.Checks.{section_indices, candidates, resolve_intermediate_ref, intermediate_modifiers, intermediate_findings, intermediate_target, intermediate_relation}
-use Rattle.rules.specs.Units.{NamedUnit}
 use Rattle.rules.specs.Components.{intermediate_fault, lock_findings, made_intermediate}
 use Rattle.refusals.specs.declared.Reason.TheVariants.{NotMarked, Negative}
 use Rattle.parts.specs.Views.{span_in}
@@ -113,8 +112,8 @@ module _ (i : Intermediate) (in_step : Bool) {f : Option ℕ} where
 
 -- ---- 6, then 7, then 8 or 9: all that is found
 
-pub intermediate_reported : (units : List NamedUnit) (flags : ℕ) (c : rules.Component) (new : Entry) (i : Intermediate) (f : Option ℕ) {m : Modifiers} {at : Span} {x : Option Noted} {w₀ w₁ w₂ w : List ℕ} {h₀ h₁ h₂ h : Held}
+pub intermediate_reported : (c : rules.Component) (new : Entry) (i : Intermediate) (f : Option ℕ) {m : Modifiers} {at : Span} {x : Option Noted} {w₀ w₁ w₂ w : List ℕ} {h₀ h₁ h₂ h : Held}
     → c.modifiers ≡ modifiers_in m → c.modifiers_span ≡ span_in at → Reported (lock_findings c.quantity) w₀ h₀ w₁ h₁ → ModifiersReported m at x → Reported (if_found x) w₁ h₁ w₂ h₂
-    → Reported (intermediate_findings (intermediate_in i) f) w₂ h₂ w h → Reported (made_intermediate units flags c new (intermediate_in i) f).findings w₀ h₀ w h
+    → Reported (intermediate_findings (intermediate_in i) f) w₂ h₂ w h → Reported (made_intermediate c new (intermediate_in i) f).findings w₀ h₀ w h
 unfolding made_intermediate
-intermediate_reported units flags c new i f em ea l k p r = reported_seq (reported_seq l (reported_as p (k.is c em ea))) r
+intermediate_reported c new i f em ea l k p r = reported_seq (reported_seq l (reported_as p (k.is c em ea))) r

@@ -9,11 +9,11 @@ use native.Mathlib.Numerals.{add-one}
 use borrow.Author.Tests.{ltb-false}
 use lib.Dec.{ltb}
 use lib.ListN.{length, take, drop}
+use Rattle.rules.specs.Input.{Context}
 use Rattle.rules.specs.Basic.{lf, is_some, all}
 use Rattle.rules.specs.Sheet.{Lines, lines}
 use Rattle.rules.specs.Words.{define_key, duplicate_key, DefineMode, DuplicateMode}
 use Rattle.rules.specs.Event.{Text, Between, meta_event, section_event, start_event, Event, between, inside, parser_event, spans_of}
-use Rattle.rules.specs.Units.{NamedUnit}
 use Rattle.rules.specs.Read.{parse_line}
 use Rattle.rules.specs.Model.{MetaEntry}
 use Rattle.rules.specs.Modes.{Key, config, unknown_config, ordinary}
@@ -54,41 +54,41 @@ key_map (config duplicate_key) k v st = duplicate_map k v _ st
 key_map unknown_config k v st = refl
 key_map ordinary k v st = refl
 
-module _ (text : List ℕ) (units : List NamedUnit) (flags : ℕ) where
-  between_map : (b : Between) (st : State) → (on_between text units flags b st).metadata.map ≡ map_on flags (between b) st.metadata.map
+module _ (cx : Context) where
+  between_map : (b : Between) (st : State) → (on_between cx b st).metadata.map ≡ map_on cx.flags (between b) st.metadata.map
   unfolding on_between map_on on_metadata map_meta
   between_map (meta_event k v) st = key_map _ k v st
   between_map (section_event n) st = ap (λ x. x.map) (section_aside n st).metadata
   between_map (start_event k) st = ap (λ x. x.map) (start_aside k st).metadata
 
-  event_map : (e : Event) (st a : State) → on_event text units flags e st ≡ next a → a.metadata.map ≡ map_on flags e st.metadata.map
+  event_map : (e : Event) (st a : State) → on_event cx e st ≡ next a → a.metadata.map ≡ map_on cx.flags e st.metadata.map
   unfolding on_event
   event_map (between b) st a q =
-      pick_either (λ (s : Step). s ≡ next a → a.metadata.map ≡ map_on flags (between b) st.metadata.map) (is_open st.place.block) _ _ (λ _ e. stop_next e)
+      pick_either (λ (s : Step). s ≡ next a → a.metadata.map ≡ map_on cx.flags (between b) st.metadata.map) (is_open st.place.block) _ _ (λ _ e. stop_next e)
       (λ _ e. ap (λ (x : State). x.metadata.map) (sym (next_inj e)) ∙ between_map b st) q
-  event_map (inside i) st a q = unfold map_on in ap (λ x. x.map) (aside_next _ (inside_aside text units flags i st.place.block st) q).metadata
+  event_map (inside i) st a q = unfold map_on in ap (λ x. x.map) (aside_next _ (inside_aside cx i st.place.block st) q).metadata
   event_map (parser_event s n) st a q = unfold map_on report in ap (λ (x : State). x.metadata.map) (sym (next_inj q))
 
   going_inj : {a b : State} → going a ≡ going b → a ≡ b
   going_inj e = cc
 
-  walk_map : (es : List Event) (line : ℕ) (st end : State) → walk text units flags line (going st) es ≡ going end → end.metadata.map ≡ map_over flags es st.metadata.map
+  walk_map : (es : List Event) (line : ℕ) (st end : State) → walk cx line (going st) es ≡ going end → end.metadata.map ≡ map_over cx.flags es st.metadata.map
   unfolding map_over
   walk_map [] line st end q = unfold walk in ap (λ (x : State). x.metadata.map) (sym (going_inj q))
   walk_map (e ∷ es) line st end q =
-      let t : Takes text units flags line e st = takes text units flags line e es st end q in
-      walk_map es (suc line) t.after end (walk_on text units flags line e es st end t q)
-      ∙ ap (λ (m : List MetaEntry). map_over flags es m) (event_map e st t.after t.event)
+      let t : Takes cx line e st = takes cx line e es st end q in
+      walk_map es (suc line) t.after end (walk_on cx line e es st end t q)
+      ∙ ap (λ (m : List MetaEntry). map_over cx.flags es m) (event_map e st t.after t.event)
 
   -- the map of a sheet that the pass accepts
-  pub accepted_map : (es : List Event) (st : State) → walk text units flags 1 (going first_state) es ≡ going st → st.metadata.map ≡ map_over flags es []
+  pub accepted_map : (es : List Event) (st : State) → walk cx 1 (going first_state) es ≡ going st → st.metadata.map ≡ map_over cx.flags es []
   accepted_map es st q = walk_map es 1 first_state st q ∙ unfold first_state in refl
 
 -- the page's `meta` lines
-pub metas_page : {text sheet m o₀ o : List ℕ} {flags n at r : ℕ} (units : List NamedUnit) (st : State) → walk text units flags 1 (going first_state) (events_or (read_sheet text sheet)) ≡ going st
+pub metas_page : {text sheet m o₀ o : List ℕ} {flags n at r : ℕ} (cx : Context) (st : State) → cx.flags ≡ flags → walk cx 1 (going first_state) (events_or (read_sheet text sheet)) ≡ going st
     → SheetIndexed flags text sheet m n → MetasPut sheet m n o₀ at o r → Put (table_lines meta_line st.metadata.map) o₀ at o r
-metas_page {text} {sheet} {flags = flags} units st q x p =
-    text_is _ (ap (table_lines meta_line) (accepted_map text units flags (events_or (read_sheet text sheet)) st q ∙ sym x.map)) p.is
+metas_page {text} {sheet} cx st c q x p =
+    let m = rw c at (accepted_map cx (events_or (read_sheet text sheet)) st q) in text_is _ (ap (table_lines meta_line) (m ∙ sym x.map)) p.is
 
 -- ---- a line of a sheet that was read
 

@@ -5,11 +5,11 @@ use mathlib.Core.List.{List, [], ◌∷◌, ◌++◌}
 use mathlib.Core.Bool.{Bool, true, false}
 use Rattle.std.specs.Prelude.{Option, None, Some}
 use lib.ListN.{length, length-replicate, length-reverse_aux}
+use Rattle.rules.specs.Input.{Context}
 use Rattle.rules.specs.Basic.{pick, each, is_empty, is_some, any, when}
 use Rattle.rules.specs.Unicode.{is_alphanumeric}
 use Rattle.rules.specs.Words.{step_kind, text_kind, define_key, duplicate_key, DefineMode, DuplicateMode, IntermediateTarget, target_step, target_section}
 use Rattle.rules.specs.Event.{Span, Text, Quantity, Component, Intermediate, ComponentEvent, ingredient_event, cookware_event, timer_event, Between, meta_event, section_event, start_event, Inside, end_event, text_event, component_event, component_span, Event, between, inside, parser_event}
-use Rattle.rules.specs.Units.{NamedUnit}
 use Rattle.rules.specs.Inline.{Piece}
 use Rattle.rules.specs.Finding.{Finding, found, only_parsed}
 use Rattle.rules.specs.Model.{Kind, ingredient, cookware, Item, Block, step_block, text_block}
@@ -208,17 +208,17 @@ settle_like line a b e = settle_blank line a ∙ ap (λ (s : Step). blank_walk (
 
 -- ---- components and texts of a step
 
-module _ (units : List NamedUnit) (flags : ℕ) where
-  pub make_ingredient_lem : (c : Component) (i : Option Intermediate) (st : State) → make_ingredient units flags c i (blank st) ≡ make_ingredient units flags c i st
+module _ (cx : Context) where
+  pub make_ingredient_lem : (c : Component) (i : Option Intermediate) (st : State) → make_ingredient cx c i (blank st) ≡ make_ingredient cx c i st
   unfolding make_ingredient made_by_name new_entry table_of blank blank_place blank_kept blank_tables
   make_ingredient_lem c None st = refl
   make_ingredient_lem c (Some i) st = simp (length-replicate, resolve_blank)
 
-  pub make_cookware_lem : (c : Component) (st : State) → make_cookware units flags c (blank st) ≡ make_cookware units flags c st
+  pub make_cookware_lem : (c : Component) (st : State) → make_cookware cx.units cx.flags c (blank st) ≡ make_cookware cx.units cx.flags c st
   unfolding make_cookware made_by_name new_entry table_of blank blank_tables
   make_cookware_lem c st = refl
 
-  on_made_lem : (k : Kind) (m : Made) (is js : List Item) (st : State) → blank_step (on_made units flags k m is st) ≡ blank_step (on_made units flags k m js (blank st))
+  on_made_lem : (k : Kind) (m : Made) (is js : List Item) (st : State) → blank_step (on_made k m is st) ≡ blank_step (on_made k m js (blank st))
   unfolding on_made unless_chained
   on_made_lem k m is js st = rw (over_component k m is js st) (go (refers_to_reference m.refers_to) (over_limits (push_component k m js (blank st))))
     where
@@ -231,26 +231,26 @@ module _ (units : List NamedUnit) (flags : ℕ) where
   fault_step None a b e = e
   fault_step (Some n) a b e = refl
 
-  push_timer_lem : (n : Option Text) (q : Option Quantity) (is js : List Item) (st : State) → blank (push_timer units flags n q is st) ≡ blank (push_timer units flags n q js (blank st))
+  push_timer_lem : (n : Option Text) (q : Option Quantity) (is js : List Item) (st : State) → blank (push_timer cx.units cx.flags n q is st) ≡ blank (push_timer cx.units cx.flags n q js (blank st))
   unfolding push_timer report push_items set_timers set_tables set_block set_kept set_place blank blank_place blank_metadata blank_kept blank_tables blank_open
   push_timer_lem n q is js st = simp (length-replicate, blocks_twice, name_twice_lem)
 
-  on_component_lem : (e : ComponentEvent) (is js : List Item) (st : State) → blank_step (on_component units flags e is st) ≡ blank_step (on_component units flags e js (blank st))
+  on_component_lem : (e : ComponentEvent) (is js : List Item) (st : State) → blank_step (on_component cx e is st) ≡ blank_step (on_component cx e js (blank st))
   unfolding on_component
   on_component_lem (ingredient_event c i) is js st = rw (make_ingredient_lem c i st) (fault_step _ _ _ (on_made_lem ingredient _ is js st))
   on_component_lem (cookware_event c) is js st = rw (make_cookware_lem c st) (on_made_lem cookware _ is js st)
   on_component_lem (timer_event s n q) is js st = next_like _ _ (push_timer_lem n q is js st)
 
-  text_in_step_lem : (t : Text) (is js : List Item) (st : State) → blank (text_in_step units flags t is st) ≡ blank (text_in_step units flags t js (blank st))
+  text_in_step_lem : (t : Text) (is js : List Item) (st : State) → blank (text_in_step cx.units cx.flags t is st) ≡ blank (text_in_step cx.units cx.flags t js (blank st))
   unfolding text_in_step blank
   text_in_step_lem t is js st = go (is_components st.modes.define)
     where
-      go : (b : Bool) → blank (pick b (report (when (any is_alphanumeric t.content) (found 4 t.span)) st) (push_pieces (pieces units flags t.content) is st))
-          ≡ blank (pick b (report (when (any is_alphanumeric t.content) (found 4 t.span)) (blank st)) (push_pieces (pieces units flags t.content) js (blank st)))
+      go : (b : Bool) → blank (pick b (report (when (any is_alphanumeric t.content) (found 4 t.span)) st) (push_pieces (pieces cx.units cx.flags t.content) is st))
+          ≡ blank (pick b (report (when (any is_alphanumeric t.content) (found 4 t.span)) (blank st)) (push_pieces (pieces cx.units cx.flags t.content) js (blank st)))
       go true = report_blank _ st
       go false = push_pieces_lem _ is js st
 
-  in_step : (e : Inside) (is js : List Item) (st : State) → blank_step (in_step_block units flags e is st) ≡ blank_step (in_step_block units flags e js (blank st))
+  in_step : (e : Inside) (is js : List Item) (st : State) → blank_step (in_step_block cx e is st) ≡ blank_step (in_step_block cx e js (blank st))
   unfolding in_step_block
   in_step (end_event step_kind) is js st = next_like _ _ (close_step_lem is js st)
   in_step (end_event text_kind) is js st = refl
@@ -302,57 +302,57 @@ on_key_lem ordinary k v st = store_meta_lem _ _ _ _ st (ap suc (old_count st))
 
 -- ---- one line, and all of them
 
-module _ (text : List ℕ) (units : List NamedUnit) (flags : ℕ) where
-  on_inside_lem : (e : Inside) (o : Open) (st : State) → blank_step (on_inside text units flags e o st) ≡ blank_step (on_inside text units flags e (blank_open o) (blank st))
+module _ (cx : Context) where
+  on_inside_lem : (e : Inside) (o : Open) (st : State) → blank_step (on_inside cx e o st) ≡ blank_step (on_inside cx e (blank_open o) (blank st))
   unfolding on_inside blank_open
   on_inside_lem e no_block st = refl
-  on_inside_lem e (step_open is) st = in_step units flags e is [] st
+  on_inside_lem e (step_open is) st = in_step cx e is [] st
   on_inside_lem e (text_open ts) st = in_text e ts [] st
-  on_inside_lem e (text_mode_open ts) st = in_text_mode_lem text e ts [] st
+  on_inside_lem e (text_mode_open ts) st = in_text_mode_lem cx.text e ts [] st
 
-  on_between_lem : (b : Between) (st : State) → blank (on_between text units flags b st) ≡ blank (on_between text units flags b (blank st))
+  on_between_lem : (b : Between) (st : State) → blank (on_between cx b st) ≡ blank (on_between cx b (blank st))
   unfolding on_between on_metadata blank
   on_between_lem (meta_event k v) st = on_key_lem _ k v st
   on_between_lem (section_event n) st = on_section_lem n st
   on_between_lem (start_event k) st = start_block_lem (opened st.modes.define k) st
 
-  pub blank_event : (e : Event) (st : State) → blank_step (on_event text units flags e st) ≡ blank_step (on_event text units flags e (blank st))
+  pub blank_event : (e : Event) (st : State) → blank_step (on_event cx e st) ≡ blank_step (on_event cx e (blank st))
   unfolding on_event blank blank_place
   blank_event (between b) st = rw (open_blank st.place.block) (go (is_open st.place.block))
     where
-      go : (t : Bool) → blank_step (pick t (stop 11) (next (on_between text units flags b st))) ≡ blank_step (pick t (stop 11) (next (on_between text units flags b (blank st))))
+      go : (t : Bool) → blank_step (pick t (stop 11) (next (on_between cx b st))) ≡ blank_step (pick t (stop 11) (next (on_between cx b (blank st))))
       go true = refl
       go false = next_like _ _ (on_between_lem b st)
   blank_event (inside i) st = on_inside_lem i st.place.block st
   blank_event (parser_event s n) st = next_like _ _ (report_blank _ st)
 
-  pub blank_step_lem : (line : ℕ) (e : Event) (w : Walk) → blank_walk (step text units flags line e w) ≡ blank_walk (step text units flags line e (blank_walk w))
+  pub blank_step_lem : (line : ℕ) (e : Event) (w : Walk) → blank_walk (step cx line e w) ≡ blank_walk (step cx line e (blank_walk w))
   unfolding step blank_walk
   blank_step_lem line e (going st) = go (is_error_event e)
     where
-      go : (t : Bool) → blank_walk (pick t (failed (parser_findings e ++ only_parsed st.findings)) (settle line (on_event text units flags e st)))
-          ≡ blank_walk (pick t (failed (parser_findings e ++ only_parsed (blank st).findings)) (settle line (on_event text units flags e (blank st))))
+      go : (t : Bool) → blank_walk (pick t (failed (parser_findings e ++ only_parsed st.findings)) (settle line (on_event cx e st)))
+          ≡ blank_walk (pick t (failed (parser_findings e ++ only_parsed (blank st).findings)) (settle line (on_event cx e (blank st))))
       go true = ap (λ (fs : List Finding). blank_walk (failed (parser_findings e ++ only_parsed fs))) (sym (blank_findings st))
       go false = settle_like line _ _ (blank_event e st)
   blank_step_lem line e (failed fs) = refl
   blank_step_lem line e (refused n l) = refl
 
   -- a walk may go on from the blank state
-  pub blank_walk_lem : (line : ℕ) (w : Walk) (es : List Event) → blank_walk (walk text units flags line w es) ≡ blank_walk (walk text units flags line (blank_walk w) es)
+  pub blank_walk_lem : (line : ℕ) (w : Walk) (es : List Event) → blank_walk (walk cx line w es) ≡ blank_walk (walk cx line (blank_walk w) es)
   unfolding walk
   blank_walk_lem line w [] = sym (walk_twice w)
   blank_walk_lem line w (e ∷ es) =
-      blank_walk_lem (suc line) (step text units flags line e w) es
-      ∙ ap (λ (v : Walk). blank_walk (walk text units flags (suc line) v es)) (blank_step_lem line e w)
-      ∙ sym (blank_walk_lem (suc line) (step text units flags line e (blank_walk w)) es)
+      blank_walk_lem (suc line) (step cx line e w) es
+      ∙ ap (λ (v : Walk). blank_walk (walk cx (suc line) v es)) (blank_step_lem line e w)
+      ∙ sym (blank_walk_lem (suc line) (step cx line e (blank_walk w)) es)
 
   -- one line more: what is left, from here, is the whole
   pub walk_on : (line : ℕ) (e : Event) (es : List Event) (w v r : Walk)
-      → blank_walk (walk text units flags line w (e ∷ es)) ≡ r → blank_walk v ≡ blank_walk (step text units flags line e w)
-      → blank_walk (walk text units flags (suc line) v es) ≡ r
+      → blank_walk (walk cx line w (e ∷ es)) ≡ r → blank_walk v ≡ blank_walk (step cx line e w)
+      → blank_walk (walk cx (suc line) v es) ≡ r
   unfolding walk
   walk_on line e es w v r h q =
       blank_walk_lem (suc line) v es
-      ∙ ap (λ (u : Walk). blank_walk (walk text units flags (suc line) u es)) q
-      ∙ sym (blank_walk_lem (suc line) (step text units flags line e w) es)
+      ∙ ap (λ (u : Walk). blank_walk (walk cx (suc line) u es)) q
+      ∙ sym (blank_walk_lem (suc line) (step cx line e w) es)
       ∙ h

@@ -6,7 +6,6 @@ use mathlib.Core.List.{List, [], ◌∷◌}
 use Rattle.std.specs.Prelude.{Option, None, Some}
 use lib.ListN.{length}
 use Rattle.rules.specs.Basic.{on_some}
-use Rattle.rules.specs.Units.{NamedUnit}
 use Rattle.rules.specs.Finding.{Finding}
 use Rattle.rules.specs.Model.{Kind, ingredient, cookware, Entry, Item, ingredient_item}
 use Rattle.rules.specs.Reference.{Earlier}
@@ -61,6 +60,6 @@ pub component_sound : {k : Kind} {w₁ w₂ : List ℕ} {h₁ h₂ h₃ : Held} 
 component_sound {w₂ = w₂} a i = (i.by (ingredient_item 0 ∷ []) refl).sound w₂ a.sound
 
 -- what refers to no reference goes on
-pub made_next : (units : List NamedUnit) (flags : ℕ) (k : Kind) (m : Made) (is : List Item) (st : State) → refers_to_reference m.refers_to ≡ false → on_made units flags k m is st ≡ next (push_component k m is st)
+pub made_next : (k : Kind) (m : Made) (is : List Item) (st : State) → refers_to_reference m.refers_to ≡ false → on_made k m is st ≡ next (push_component k m is st)
 unfolding on_made unless_chained
-made_next units flags k m is st e = rw e
+made_next k m is st e = rw e

@@ -6,13 +6,15 @@ use Rattle.std.specs.Prelude.{Some, None, Option}
 use native.Mathlib.Omega.{arith}
 use native.Mathlib.Numerals.{add-one}
 use lib.ListN.{length, take, drop, length-take}
+use Rattle.rules.specs.Units.{NamedUnit, read_units, units_or}
+use Rattle.rules.specs.Input.{Context, TextAgrees}
 use Rattle.rules.specs.Sheet.{lines}
 use Rattle.rules.specs.Event.{Event}
-use Rattle.rules.specs.Units.{NamedUnit, read_units}
 use Rattle.rules.specs.Read.{parse_line}
 use Rattle.rules.specs.State.{State, first_state, going}
 use Rattle.rules.specs.Pass.{walk}
-use Rattle.rules.specs.Answer.{events, events_or, units_or, read_from, read_sheet}
+use Rattle.rules.specs.Answer.{events, events_or, read_from, read_sheet}
+use Rattle.rules.proofs.Agreed.{text_agreed, lent_as}
 use Rattle.output.specs.Put.{Put}
 use Rattle.output.proofs.Puts.{put_seq, put_past, put_most, put_rest, rest_fits, keeps}
 use Rattle.output.proofs.Texts.{text_is}
@@ -43,48 +45,48 @@ rest_first : {text bytes : List ℕ} → read_sheet text bytes ≡ events (event
 unfolding read_sheet
 rest_first c = record { is = c }
 
-module _ (text : List ℕ) (units : List NamedUnit) (flags : ℕ) (p : Part) where
+module _ (cx : Context) (p : Part) where
   -- what the state at the end has drawn more
   pub record More (st final : State) : Type 0 where
     pub more : List ℕ
     pub is : drawn p final ≡ drawn p st ++ more
 
-  drawn_more : (es : List Event) {number : ℕ} {st final : State} → Walking text units flags number st final es → More st final
+  drawn_more : (es : List Event) {number : ℕ} {st final : State} → Walking cx number st final es → More st final
   unfolding appended
-  drawn_more [] {number} {st} {final} w = record { more = []; is = sym (append-nil (drawn p st) ∙ ap (drawn p) (walking_ends text units flags w)) }
+  drawn_more [] {number} {st} {final} w = record { more = []; is = sym (append-nil (drawn p st) ∙ ap (drawn p) (walking_ends cx w)) }
   drawn_more (e ∷ es) {number} {st} {final} w =
-      let s = walking_next text units flags w in
+      let s = walking_next cx w in
       let m = drawn_more es s.then in
       record {
-        more = added text units flags p e (follow_of st) ++ m.more;
+        more = added cx.text cx.units cx.flags p e (follow_of st) ++ m.more;
         is =
             m.is
-            ∙ (ap (λ (x : List ℕ). x ++ m.more) (drawn_next text units flags p e st s.after s.event)
-            ∙ append_assoc (drawn p st) (added text units flags p e (follow_of st)) m.more);
+            ∙ (ap (λ (x : List ℕ). x ++ m.more) (drawn_next cx p e st s.after s.event)
+            ∙ append_assoc (drawn p st) (added cx.text cx.units cx.flags p e (follow_of st)) m.more);
       }
 
-module _ (text : List ℕ) (units : List NamedUnit) (flags : ℕ) (bytes : List ℕ) (p : Part) where
+module _ (text : List ℕ) (cx : Context) (bytes : List ℕ) (p : Part) where
   -- the lines before `at` are drawn, from at₀ on in a buffer that held o₀; f follows the walk, which goes on to the state `final`
   pub record Drawing (final : State) (o₀ : List ℕ) (at₀ at : ℕ) (f : Follow) (o : List ℕ) (n : ℕ) : Type 0 where
     pub number : ℕ
     pub st : State
     pub es : List Event
     pub rest : Rest text bytes at number es
-    pub walking : Walking text units flags number st final es
+    pub walking : Walking cx number st final es
     pub low : number ≤ at + 1
     pub follows : Seen p st f
     pub counts : Counts number f
     pub put : Put (drawn p st) o₀ at₀ o n
 
   pub drawing_starts : {final : State} {o₀ : List ℕ} {at₀ n : ℕ} → read_sheet text bytes ≡ events (events_or (read_sheet text bytes))
-      → walk text units flags 1 (going first_state) (events_or (read_sheet text bytes)) ≡ going final → Put [] o₀ at₀ o₀ n → Drawing final o₀ at₀ 0 first_follow o₀ n
+      → walk cx 1 (going first_state) (events_or (read_sheet text bytes)) ≡ going final → Put [] o₀ at₀ o₀ n → Drawing final o₀ at₀ 0 first_follow o₀ n
   drawing_starts c w q =
       record {
         number = 1;
         st = first_state;
         es = events_or (read_sheet text bytes);
         rest = rest_first c;
-        walking = walking_first text units flags w;
+        walking = walking_first cx w;
         low = omega arith;
         follows = seen_first (follows_for p follows_first first_inline);
         counts = first_counts;
@@ -106,13 +108,13 @@ module _ (text : List ℕ) (units : List NamedUnit) (flags : ℕ) (bytes : List 
 
     pub drawing_ends : length bytes ≤ at → Put (drawn p final) o₀ at₀ o n
     drawing_ends h =
-        let e : d.st ≡ final = walking_ends text units flags (subst (λ (es : List Event). Walking text units flags d.number d.st final es) (rest_ends d.rest h) d.walking) in
+        let e : d.st ≡ final = walking_ends cx (subst (λ (es : List Event). Walking cx d.number d.st final es) (rest_ends d.rest h) d.walking) in
         subst (λ (s : State). Put (drawn p s) o₀ at₀ o n) e d.put
 
     -- what does not fit stays so
     pub drawing_full : length o < n → Put (drawn p final) o₀ at₀ o n
     drawing_full h =
-        let m = drawn_more text units flags p d.es d.walking in
+        let m = drawn_more cx p d.es d.walking in
         let e : length o + 1 ≡ n = omega (arith, put_most d.put, keeps d.put) in
         text_is (drawn p final) m.is (put_seq d.put (subst (λ (x : ℕ). Put m.more o n o x) e (put_past m.more o n h)))
 
@@ -120,23 +122,23 @@ module _ (text : List ℕ) (units : List NamedUnit) (flags : ℕ) (bytes : List 
       first : First e (read_from text (length text) (d.number + 1) (lines (drop (end + 1) bytes))) d.es
       first = line_first d.rest l q e k
 
-      went : Went text units flags d.number e d.st final first.others
-      went = walking_next text units flags (subst (λ (es : List Event). Walking text units flags d.number d.st final es) first.is d.walking)
+      went : Went cx d.number e d.st final first.others
+      went = walking_next cx (subst (λ (es : List Event). Walking cx d.number d.st final es) first.is d.walking)
 
       -- how many inline quantities are counted after the line: few enough
-      pub drawing_inline : f.inline + tracked p (length (quantities_added units flags e f)) ≤ 100000
+      pub drawing_inline : f.inline + tracked p (length (quantities_added cx.units cx.flags e f)) ≤ 100000
       drawing_inline =
           omega (
             arith,
-            count_then text units flags p e d.follows went.after went.event,
+            count_then cx p e d.follows went.after went.event,
             tracked_most p (follow_of went.after).inline,
             inline_of went.after,
             went.then.inline,
           )
 
       -- the line is drawn
-      pub drawing_next : {g : Follow} {o' : List ℕ} {n' : ℕ} → at ≤ end → Put (added text units flags p e f) o n o' n' → view p g ≡ view p (after units flags p e f)
-          → g.inline ≡ f.inline + tracked p (length (quantities_added units flags e f)) → Counts (d.number + 1) g → Drawing final o₀ at₀ (end + 1) g o' n'
+      pub drawing_next : {g : Follow} {o' : List ℕ} {n' : ℕ} → at ≤ end → Put (added cx.text cx.units cx.flags p e f) o n o' n' → view p g ≡ view p (after cx p e f)
+          → g.inline ≡ f.inline + tracked p (length (quantities_added cx.units cx.flags e f)) → Counts (d.number + 1) g → Drawing final o₀ at₀ (end + 1) g o' n'
       unfolding appended
       drawing_next {g} {o'} {n'} h w v z k' =
           record {
@@ -146,11 +148,11 @@ module _ (text : List ℕ) (units : List NamedUnit) (flags : ℕ) (bytes : List 
             rest = record { is = first.next };
             walking = went.then;
             low = omega (arith, d.low);
-            follows = seen_next text units flags p e d.follows went.after went.event v z;
+            follows = seen_next cx p e d.follows went.after went.event v z;
             counts = k';
             put =
                 text_is (drawn p went.after)
-                (drawn_next text units flags p e d.st went.after went.event ∙ ap (λ (x : List ℕ). drawn p d.st ++ x) (sym (added_follows text units flags p e d.follows)))
+                (drawn_next cx p e d.st went.after went.event ∙ ap (λ (x : List ℕ). drawn p d.st ++ x) (sym (added_follows cx p e d.follows)))
                 (put_seq d.put w);
           }
 
@@ -162,24 +164,24 @@ end_fits h k = omega arith
 
 pub record Walked (sheet text units : List ℕ) (flags : ℕ) (p : Part) (o₀ : List ℕ) (at₀ at : ℕ) (f : Follow) (o : List ℕ) (n : ℕ) : Type 0 where
   pub same : length o ≡ length o₀
-  pub by : (final : State) → walk text (units_or (read_units units)) flags 1 (going first_state) (events_or (read_sheet text sheet)) ≡ going final → Drawing text (units_or (read_units units)) flags sheet p final o₀ at₀ at f o n
+  pub by : (cx : Context) → TextAgrees text units flags cx → (final : State) → walk cx 1 (going first_state) (events_or (read_sheet text sheet)) ≡ going final → Drawing text cx sheet p final o₀ at₀ at f o n
 
 module _ {sheet text units : List ℕ} {flags : ℕ} (i : PassInputs sheet text units flags) where
   abbrev us : List NamedUnit
   us = units_or (read_units units)
 
   pub walked_starts : {p : Part} {o₀ : List ℕ} {at₀ n : ℕ} {f : Follow} → read_sheet text sheet ≡ events (events_or (read_sheet text sheet)) → Put [] o₀ at₀ o₀ n → f ≡ first_follow → Walked sheet text units flags p o₀ at₀ 0 f o₀ n
-  walked_starts {p} {o₀} {at₀} {n} {f} r q z = record { same = refl; by = λ final w. subst (λ (x : Follow). Drawing text us flags sheet p final o₀ at₀ 0 x o₀ n) (sym z) (drawing_starts text us flags sheet p r w q) }
+  walked_starts {p} {o₀} {at₀} {n} {f} r q z = record { same = refl; by = λ cx a final w. subst (λ (x : Follow). Drawing text cx sheet p final o₀ at₀ 0 x o₀ n) (sym z) (drawing_starts text cx sheet p r w q) }
 
   module _ {p : Part} {o₀ : List ℕ} {at₀ at : ℕ} {f : Follow} {o : List ℕ} {n : ℕ} (d : Walked sheet text units flags p o₀ at₀ at f o n) where
     pub walked_full : length o < n → PartDrawn sheet text units flags p o₀ at₀ o n
-    walked_full h = record { put = λ final w. drawing_full text us flags sheet p (d.by final w) h }
+    walked_full h = record { put = λ cx a final w. drawing_full text cx sheet p (d.by cx a final w) h }
 
     pub walked_ends : length sheet ≤ at → PartDrawn sheet text units flags p o₀ at₀ o n
-    walked_ends h = record { put = λ final w. drawing_ends text us flags sheet p (d.by final w) h }
+    walked_ends h = record { put = λ cx a final w. drawing_ends text cx sheet p (d.by cx a final w) h }
 
-    now_at : Drawing text us flags sheet p i.final o₀ at₀ at f o n
-    now_at = d.by i.final i.goes
+    now_at : Drawing text i.context sheet p i.final o₀ at₀ at f o n
+    now_at = d.by i.context i.agrees i.final i.goes
 
     module _ {r : Option ℕ} (l : LineAt sheet at r) where
       pub walked_cut : {P : Type 0} → at < length sheet → r ≡ None → P
@@ -195,13 +197,13 @@ module _ {sheet text units : List ℕ} {flags : ℕ} (i : PassInputs sheet text 
         pub walked_ready : LineReady text us flags p line f
         walked_ready =
             let b = l.inside end q in
-            let g = drawing_room text us flags sheet p now_at (omega (arith, b.0, b.1, i.sheet_short)) in
+            let g = drawing_room text i.context sheet p now_at (omega (arith, b.0, b.1, i.sheet_short)) in
             record {
               known = line_known now_at.rest l q;
               whole = line_whole now_at.rest l q;
               spans = line_spans now_at.rest l q;
               room = g;
-              few = λ e k. drawing_inline text us flags sheet p now_at l q k;
+              few = λ e k. lent_as (λ us flags. f.inline + tracked p (length (quantities_added us flags e f)) ≤ 100000) i.agrees.rest (drawing_inline text i.context sheet p now_at l q k);
               short = omega (arith, g.inline, b.0, b.1, i.sheet_short, length-take (end - at) (drop at sheet));
             }
 
@@ -209,9 +211,17 @@ module _ {sheet text units : List ℕ} {flags : ℕ} (i : PassInputs sheet text 
           pub walked_fits : length o₀ + 1 < 2 ^ 64 → n + t.count < 2 ^ 64
           walked_fits b = rest_fits o n (omega (arith, d.same)) h (w.put known.event known.is)
 
+          -- the turn in a context that agrees
+          turn_in : (cx : Context) → TextAgrees text units flags cx → TurnTaken cx.text cx.units cx.flags p line f (take (length o - n) (drop n o)) o'' t
+          turn_in cx a = text_agreed (λ text us flags. TurnTaken text us flags p line f (take (length o - n) (drop n o)) o'' t) a w
+
           pub walked_next : Walked sheet text units flags p o₀ at₀ (end + 1) t.follow (take n o ++ (o'' ++ drop (length o - n) (drop n o))) (n + t.count)
           walked_next =
               record {
                 same = keeps (put_rest o n h (w.put known.event known.is)) ∙ d.same;
-                by = λ final z. drawing_next text us flags sheet p (d.by final z) l q known.is (l.inside end q).0 (put_rest o n h (w.put known.event known.is)) (w.seen known.event known.is) (w.inline known.event known.is) (subst (λ (m : ℕ). Counts m t.follow) (sym (add-one (d.by final z).number)) (w.counts (d.by final z).counts));
+                by = λ cx a final z.
+                    let y = turn_in cx a in
+                    let g = d.by cx a final z in
+                    drawing_next text cx sheet p g l q known.is (l.inside end q).0 (put_rest o n h (y.put known.event known.is)) (y.seen known.event known.is) (y.inline known.event known.is)
+                    (subst (λ (m : ℕ). Counts m t.follow) (sym (add-one g.number)) (w.counts g.counts));
               }

@@ -4,10 +4,10 @@ use mathlib.Core.Path.{◌≡◌, refl, sym, ap, ◌∙◌}
 use mathlib.Core.List.{List}
 use native.Mathlib.Omega.{arith}
 use lib.ListN.{length}
+use Rattle.rules.specs.Input.{Context}
 use Rattle.rules.specs.Event as rules
 use Rattle.rules.specs.Event.{Event, meta_event, section_event, start_event, end_event, text_event, component_event, ComponentEvent, ingredient_event, cookware_event, timer_event, between, inside, parser_event}
 use Rattle.rules.specs.Basic.{pick}
-use Rattle.rules.specs.Units.{NamedUnit}
 use Rattle.rules.specs.Modes as modes
 use Rattle.rules.specs.Modes.{has_modes, key_of, key_text, config, unknown_config, ordinary}
 use Rattle.rules.specs.Model.{InlineQuantity}
@@ -59,15 +59,15 @@ old_seen flags (between (start_event k)) f = refl
 old_seen flags (inside i) f = refl
 old_seen flags (parser_event s n) f = refl
 
-module _ (units : List NamedUnit) (flags : ℕ) where
-  text_seen : (t : rules.Text) (b : Open) (f : Follow) → inline_adds units flags t b (view Inline f) ≡ inline_adds units flags t b f
+module _ (cx : Context) where
+  text_seen : (t : rules.Text) (b : Open) (f : Follow) → inline_adds cx.units cx.flags t b (view Inline f) ≡ inline_adds cx.units cx.flags t b f
   unfolding inline_adds unless_components view
   text_seen t block.Nothing f = refl
   text_seen t block.Step f = refl
   text_seen t block.Text f = refl
   text_seen t block.TextMode f = refl
 
-  inline_seen : (e : Event) (f : Follow) → inline_add units flags e (view Inline f) ≡ inline_add units flags e f
+  inline_seen : (e : Event) (f : Follow) → inline_add cx.units cx.flags e (view Inline f) ≡ inline_add cx.units cx.flags e f
   unfolding inline_add
   inline_seen (between b) f = refl
   inline_seen (inside (end_event k)) f = refl
@@ -75,14 +75,14 @@ module _ (units : List NamedUnit) (flags : ℕ) where
   inline_seen (inside (component_event c)) f = refl
   inline_seen (parser_event s n) f = refl
 
-  quantity_seen : (t : rules.Text) (b : Open) (f : Follow) → quantities_in units flags t b (view Inline f) ≡ quantities_in units flags t b f
+  quantity_seen : (t : rules.Text) (b : Open) (f : Follow) → quantities_in cx.units cx.flags t b (view Inline f) ≡ quantities_in cx.units cx.flags t b f
   unfolding quantities_in view
   quantity_seen t block.Nothing f = refl
   quantity_seen t block.Step f = refl
   quantity_seen t block.Text f = refl
   quantity_seen t block.TextMode f = refl
 
-  quantities_seen : (e : Event) (f : Follow) → quantities_added units flags e (view Inline f) ≡ quantities_added units flags e f
+  quantities_seen : (e : Event) (f : Follow) → quantities_added cx.units cx.flags e (view Inline f) ≡ quantities_added cx.units cx.flags e f
   unfolding quantities_added
   quantities_seen (between b) f = refl
   quantities_seen (inside (end_event k)) f = refl
@@ -90,12 +90,12 @@ module _ (units : List NamedUnit) (flags : ℕ) where
   quantities_seen (inside (component_event c)) f = refl
   quantities_seen (parser_event s n) f = refl
 
-pub added_seen : (text : List ℕ) (units : List NamedUnit) (flags : ℕ) (p : Part) (e : Event) (f : Follow) → added text units flags p e (view p f) ≡ added text units flags p e f
+pub added_seen : (cx : Context) (p : Part) (e : Event) (f : Follow) → added cx.text cx.units cx.flags p e (view p f) ≡ added cx.text cx.units cx.flags p e f
 unfolding added
-added_seen text units flags Sections e f = unfold view in refl
-added_seen text units flags Timers e f = timers_seen e f
-added_seen text units flags Inline e f = inline_seen units flags e f
-added_seen text units flags Old e f = old_seen flags e f
+added_seen cx Sections e f = unfold view in refl
+added_seen cx Timers e f = timers_seen e f
+added_seen cx Inline e f = inline_seen cx e f
+added_seen cx Old e f = old_seen cx.flags e f
 
 -- ---- and so does the state after it
 
@@ -171,10 +171,10 @@ module _ (flags : ℕ) where
   old_next (inside (component_event c)) f = sym (old_still c (view Old f).block (view Old f)) ∙ (unfold view in refl ∙ old_still c f.block f)
   old_next (parser_event s n) f = unfold view in refl
 
-module _ (units : List NamedUnit) (flags : ℕ) (p : Part) (e : Event) where
+module _ (cx : Context) (p : Part) (e : Event) where
   -- the state after the line
   abbrev pub after : Follow → Follow
-  after f = with_inline (f.inline + tracked p (length (quantities_added units flags e f))) (next_follow flags e f)
+  after f = with_inline (f.inline + tracked p (length (quantities_added cx.units cx.flags e f))) (next_follow cx.flags e f)
 
 timers_count : (x y : ℕ) (g h : Follow) → view Timers g ≡ view Timers h → view Timers (with_inline x g) ≡ view Timers (with_inline y h)
 unfolding view with_inline
@@ -192,14 +192,14 @@ view_inline : (f : Follow) → (view Inline f).inline ≡ f.inline
 unfolding view
 view_inline f = refl
 
-after_seen : (units : List NamedUnit) (flags : ℕ) (p : Part) (e : Event) (f : Follow) → view p (after units flags p e (view p f)) ≡ view p (after units flags p e f)
-after_seen units flags Sections e f = unfold view in refl
-after_seen units flags Timers e f = timers_count _ _ _ _ (timers_next flags e f)
-after_seen units flags Inline e f =
-    inline_count _ _ _ _ (inline_next flags e f)
-    (ap (λ (l : List InlineQuantity). (view Inline f).inline + tracked Inline (length l)) (quantities_seen units flags e f)
-    ∙ ap (λ (n : ℕ). n + tracked Inline (length (quantities_added units flags e f))) (view_inline f))
-after_seen units flags Old e f = old_count _ _ _ _ (old_next flags e f)
+after_seen : (cx : Context) (p : Part) (e : Event) (f : Follow) → view p (after cx p e (view p f)) ≡ view p (after cx p e f)
+after_seen cx Sections e f = unfold view in refl
+after_seen cx Timers e f = timers_count _ _ _ _ (timers_next cx.flags e f)
+after_seen cx Inline e f =
+    inline_count _ _ _ _ (inline_next cx.flags e f)
+    (ap (λ (l : List InlineQuantity). (view Inline f).inline + tracked Inline (length l)) (quantities_seen cx e f)
+    ∙ ap (λ (n : ℕ). n + tracked Inline (length (quantities_added cx.units cx.flags e f))) (view_inline f))
+after_seen cx Old e f = old_count _ _ _ _ (old_next cx.flags e f)
 
 count_apart : (p : Part) (f : Follow) → view p (with_inline (tracked p f.inline) f) ≡ view p f
 unfolding view with_inline tracked
@@ -225,28 +225,28 @@ count_by Timers r f s m n q z c = omega (arith, z, c)
 count_by Inline r f s m n q z c = ap (λ (x : Follow). x.inline) q
 count_by Old r f s m n q z c = omega (arith, z, c)
 
-module _ (text : List ℕ) (units : List NamedUnit) (flags : ℕ) (p : Part) (e : Event) {st : State} {f : Follow} (g : Seen p st f) where
-  pub added_follows : added text units flags p e f ≡ added text units flags p e (follow_of st)
-  added_follows = sym (added_seen text units flags p e f) ∙ (ap (added text units flags p e) g.is ∙ added_seen text units flags p e (follow_of st))
+module _ (cx : Context) (p : Part) (e : Event) {st : State} {f : Follow} (g : Seen p st f) where
+  pub added_follows : added cx.text cx.units cx.flags p e f ≡ added cx.text cx.units cx.flags p e (follow_of st)
+  added_follows = sym (added_seen cx p e f) ∙ (ap (added cx.text cx.units cx.flags p e) g.is ∙ added_seen cx p e (follow_of st))
 
-  module _ (st' : State) (q : on_event text units flags e st ≡ next st') where
+  module _ (st' : State) (q : on_event cx e st ≡ next st') where
     abbrev exact : Follow
     exact = with_inline (tracked p (follow_of st).inline) (follow_of st)
 
-    then : view p (after units flags p e f) ≡ view p (follow_of st')
+    then : view p (after cx p e f) ≡ view p (follow_of st')
     then =
-        sym (after_seen units flags p e f)
-        ∙ (ap (λ (x : Follow). view p (after units flags p e x)) (g.is ∙ sym (count_apart p (follow_of st)))
-        ∙ (after_seen units flags p e exact
-        ∙ (ap (view p) (follows_for_next text units flags p e st' {f = exact} q (record { is = refl }) {r = after units flags p e exact} refl).is
+        sym (after_seen cx p e f)
+        ∙ (ap (λ (x : Follow). view p (after cx p e x)) (g.is ∙ sym (count_apart p (follow_of st)))
+        ∙ (after_seen cx p e exact
+        ∙ (ap (view p) (follows_for_next cx p e st' {f = exact} q (record { is = refl }) {r = after cx p e exact} refl).is
         ∙ count_apart p (follow_of st'))))
 
-    pub seen_next : {r : Follow} → view p r ≡ view p (after units flags p e f) → r.inline ≡ f.inline + tracked p (length (quantities_added units flags e f)) → Seen p st' r
+    pub seen_next : {r : Follow} → view p r ≡ view p (after cx p e f) → r.inline ≡ f.inline + tracked p (length (quantities_added cx.units cx.flags e f)) → Seen p st' r
     seen_next {r} w z =
         let k = w ∙ then in
-        record { is = k; count = count_by p r f (follow_of st') (follow_of st).inline (length (quantities_added units flags e f)) k z g.count }
+        record { is = k; count = count_by p r f (follow_of st') (follow_of st).inline (length (quantities_added cx.units cx.flags e f)) k z g.count }
 
     -- how many are counted then
-    pub count_then : f.inline + tracked p (length (quantities_added units flags e f)) ≡ tracked p (follow_of st').inline
+    pub count_then : f.inline + tracked p (length (quantities_added cx.units cx.flags e f)) ≡ tracked p (follow_of st').inline
     unfolding with_inline
-    count_then = (seen_next {r = after units flags p e f} refl refl).count
+    count_then = (seen_next {r = after cx p e f} refl refl).count

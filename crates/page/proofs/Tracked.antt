@@ -5,9 +5,9 @@ use mathlib.Core.List.{List}
 use mathlib.Core.Bool.{Bool}
 use native.Mathlib.Omega.{arith}
 use lib.ListN.{length}
+use Rattle.rules.specs.Input.{Context}
 use Rattle.rules.specs.Event as rules
 use Rattle.rules.specs.Event.{Event, meta_event, section_event, start_event, end_event, text_event, component_event, ComponentEvent, ingredient_event, cookware_event, timer_event, between, inside, parser_event}
-use Rattle.rules.specs.Units.{NamedUnit}
 use Rattle.rules.specs.Model.{InlineQuantity}
 use Rattle.rules.specs.State.{State, next}
 use Rattle.rules.specs.Pass.{on_event}
@@ -54,15 +54,15 @@ inline_is x f = refl
 
 -- ---- what does not depend on the count
 
-module _ (units : List NamedUnit) (flags : ℕ) where
-  text_free : (x : ℕ) (t : rules.Text) (b : Open) (f : Follow) → quantities_in units flags t b (with_inline x f) ≡ quantities_in units flags t b f
+module _ (cx : Context) where
+  text_free : (x : ℕ) (t : rules.Text) (b : Open) (f : Follow) → quantities_in cx.units cx.flags t b (with_inline x f) ≡ quantities_in cx.units cx.flags t b f
   unfolding quantities_in with_inline
   text_free x t block.Nothing f = refl
   text_free x t block.Step f = refl
   text_free x t block.Text f = refl
   text_free x t block.TextMode f = refl
 
-  pub quantities_free : (x : ℕ) (e : Event) (f : Follow) → quantities_added units flags e (with_inline x f) ≡ quantities_added units flags e f
+  pub quantities_free : (x : ℕ) (e : Event) (f : Follow) → quantities_added cx.units cx.flags e (with_inline x f) ≡ quantities_added cx.units cx.flags e f
   unfolding quantities_added with_inline
   quantities_free x (between b) f = refl
   quantities_free x (inside (end_event k)) f = refl
@@ -145,30 +145,30 @@ follows_for Timers {f} g z = record { is = sym (inline_same f) ∙ (ap (λ (n : 
 follows_for Inline g z = record { is = sym (inline_same _) ∙ ap (λ (x : Follow). with_inline x.inline x) g.is }
 follows_for Old {f} g z = record { is = sym (inline_same f) ∙ (ap (λ (n : ℕ). with_inline n f) z ∙ ap (with_inline 0) g.is) }
 
-module _ (text : List ℕ) (units : List NamedUnit) (flags : ℕ) (p : Part) where
-  module _ (e : Event) {st : State} (st' : State) {f : Follow} (q : on_event text units flags e st ≡ next st') (g : FollowsFor p st f) where
-    same_quantities : quantities_added units flags e f ≡ quantities_added units flags e (follow_of st)
-    same_quantities = ap (quantities_added units flags e) g.is ∙ quantities_free units flags _ e (follow_of st)
+module _ (cx : Context) (p : Part) where
+  module _ (e : Event) {st : State} (st' : State) {f : Follow} (q : on_event cx e st ≡ next st') (g : FollowsFor p st f) where
+    same_quantities : quantities_added cx.units cx.flags e f ≡ quantities_added cx.units cx.flags e (follow_of st)
+    same_quantities = ap (quantities_added cx.units cx.flags e) g.is ∙ quantities_free cx _ e (follow_of st)
 
     count_is : f.inline ≡ tracked p (follow_of st).inline
     count_is = ap (λ (x : Follow). x.inline) g.is ∙ inline_is _ (follow_of st)
 
     -- how many are counted then
-    pub count_next : f.inline + tracked p (length (quantities_added units flags e f)) ≡ tracked p (follow_of st').inline
+    pub count_next : f.inline + tracked p (length (quantities_added cx.units cx.flags e f)) ≡ tracked p (follow_of st').inline
     count_next =
-        ap (λ (x : ℕ). x + tracked p (length (quantities_added units flags e f))) count_is
+        ap (λ (x : ℕ). x + tracked p (length (quantities_added cx.units cx.flags e f))) count_is
         ∙ (ap (λ (l : List InlineQuantity). tracked p (follow_of st).inline + tracked p (length l)) same_quantities
-        ∙ (tracked_sum p (follow_of st).inline (length (quantities_added units flags e (follow_of st)))
-        ∙ ap (tracked p) (sym (inline_of st' ∙ inline_next text units flags e st' q (record { is = refl })))))
+        ∙ (tracked_sum p (follow_of st).inline (length (quantities_added cx.units cx.flags e (follow_of st)))
+        ∙ ap (tracked p) (sym (inline_of st' ∙ inline_next cx e st' q (record { is = refl })))))
 
-    pub follows_for_next : {r : Follow} → r ≡ with_inline (f.inline + tracked p (length (quantities_added units flags e f))) (next_follow flags e f) → FollowsFor p st' r
+    pub follows_for_next : {r : Follow} → r ≡ with_inline (f.inline + tracked p (length (quantities_added cx.units cx.flags e f))) (next_follow cx.flags e f) → FollowsFor p st' r
     follows_for_next {r} w =
         record {
           is =
-              w ∙ (ap (λ (n : ℕ). with_inline n (next_follow flags e f)) count_next
-              ∙ (ap (λ (x : Follow). with_inline (tracked p (follow_of st').inline) (next_follow flags e x)) g.is
-              ∙ (ap (with_inline (tracked p (follow_of st').inline)) (next_free flags _ e (follow_of st))
-              ∙ (inline_again _ _ (next_follow flags e (follow_of st))
-              ∙ (sym (inline_again _ _ (next_follow flags e (follow_of st)))
-              ∙ sym (ap (with_inline (tracked p (follow_of st').inline)) (line_grows text units flags e st st' q).follow))))));
+              w ∙ (ap (λ (n : ℕ). with_inline n (next_follow cx.flags e f)) count_next
+              ∙ (ap (λ (x : Follow). with_inline (tracked p (follow_of st').inline) (next_follow cx.flags e x)) g.is
+              ∙ (ap (with_inline (tracked p (follow_of st').inline)) (next_free cx.flags _ e (follow_of st))
+              ∙ (inline_again _ _ (next_follow cx.flags e (follow_of st))
+              ∙ (sym (inline_again _ _ (next_follow cx.flags e (follow_of st)))
+              ∙ sym (ap (with_inline (tracked p (follow_of st').inline)) (line_grows cx e st st' q).follow))))));
         }

@@ -3,11 +3,12 @@ use Rattle.std.specs.Prelude.{ℕ, suc, ◌+◌, ◌≤◌, ◌<◌, ◌^◌, �
 use Rattle.rules.specs.Basic.{lf, pick, all, is_some}
 use Rattle.rules.specs.Utf8.{is_utf8}
 use Rattle.rules.specs.Event as rules
-use Rattle.rules.specs.Units.{NamedUnit, read_units}
+use Rattle.rules.specs.Units.{NamedUnit}
+use Rattle.rules.specs.Input.{Context, TextAgrees}
 use Rattle.rules.specs.Read.{parse_line}
 use Rattle.rules.specs.State.{State, first_state, going}
 use Rattle.rules.specs.Pass.{walk}
-use Rattle.rules.specs.Answer.{events_or, units_or, is_good_span, read_sheet}
+use Rattle.rules.specs.Answer.{events_or, is_good_span, read_sheet}
 use Rattle.rules.proofs.Fields.{Without}
 use Rattle.output.specs.Put.{Put}
 use Rattle.following.specs.Drawn.{quantities_added, added, drawn}
@@ -70,13 +71,16 @@ pub record TurnTaken (text : List ℕ) (units : List NamedUnit) (flags : ℕ) (p
 
 -- ---- the whole part
 
--- inputs that are good, and a pass over them that goes to the end
+-- a sheet that is short, a text that is UTF-8, and a pass over them that goes to the end, in some context that agrees
 pub record PassInputs (sheet text units : List ℕ) (flags : ℕ) : Type 0 where
   pub text_utf8 : is_utf8 text ≡ true
   pub sheet_short : length sheet ≤ 65536
+  pub context : Context
+  pub agrees : TextAgrees text units flags context
   pub final : State
-  pub goes : walk text (units_or (read_units units)) flags 1 (going first_state) (events_or (read_sheet text sheet)) ≡ going final
+  pub goes : walk context 1 (going first_state) (events_or (read_sheet text sheet)) ≡ going final
 
--- what of the page the state at the end has drawn, written at a position
+-- what of the page the state at the end has drawn, written at a position; in every context that agrees
 pub record PartDrawn (sheet text units : List ℕ) (flags : ℕ) (p : Part) (o₀ : List ℕ) (at : ℕ) (o : List ℕ) (r : ℕ) : Type 0 where
-  pub put : (final : State) → walk text (units_or (read_units units)) flags 1 (going first_state) (events_or (read_sheet text sheet)) ≡ going final → Put (drawn p final) o₀ at o r
+  pub put : (cx : Context) → TextAgrees text units flags cx → (final : State)
+      → walk cx 1 (going first_state) (events_or (read_sheet text sheet)) ≡ going final → Put (drawn p final) o₀ at o r

@@ -7,7 +7,7 @@ mod walk;
 ghost use Rattle.output.specs.Put.{Put};
 ghost use Rattle.finding_lines.specs.Lines.{old_open, old_close};
 ghost use Rattle.page.specs.Walk.{PassInputs};
-ghost use Rattle.page.specs.Pages.{RecipeGiven, RecipePut, FailedPut};
+ghost use Rattle.page.specs.Pages.{PageGiven, RecipePut, FailedPut};
 ghost use Rattle.page.specs.Parts.{head_line, PartPut, tables_of, findings_of, DrawnPut, OldPut};
 
 use following::Part;
@@ -56,8 +56,8 @@ fn put_tables(
     out: &mut [u8],
     at: usize,
 ) -> usize
-    requires { RecipeGiven sheet.now.bytes.now sheet.now.text.now units.now.lines.now flags stored.now.words.now stored.now.held }
-    ensures { PartPut tables_of sheet.now.bytes.now sheet.now.text.now units.now.lines.now flags out.old at out.new result }
+    requires { PageGiven sheet.now.bytes.now sheet.now.text.now units.now.lines.now flags stored.now.words.now stored.now.held }
+    ensures { PartPut tables_of sheet.now.bytes.now sheet.now.text.now units.now.lines.now flags stored.now.words.now stored.now.held out.old at out.new result }
 {
     let n = stored.held.counts.timers;
     let m = stored.held.counts.inline;
@@ -110,8 +110,8 @@ fn put_findings(
     out: &mut [u8],
     at: usize,
 ) -> usize
-    requires { RecipeGiven sheet.now.bytes.now sheet.now.text.now units.now.lines.now flags stored.now.words.now stored.now.held }
-    ensures { PartPut findings_of sheet.now.bytes.now sheet.now.text.now units.now.lines.now flags out.old at out.new result }
+    requires { PageGiven sheet.now.bytes.now sheet.now.text.now units.now.lines.now flags stored.now.words.now stored.now.held }
+    ensures { PartPut findings_of sheet.now.bytes.now sheet.now.text.now units.now.lines.now flags stored.now.words.now stored.now.held out.old at out.new result }
 {
     let old = stored.held.counts.old;
     let a = finding_lines::finding_lines(stored, out, at);
@@ -129,8 +129,8 @@ pub fn recipe_page(
     h: Held,
     out: &mut [u8],
 ) -> usize
-    requires { RecipeGiven sheet.now.bytes.now sheet.now.text.now units.now.lines.now flags words.old h }
-    ensures { RecipePut sheet.now.bytes.now sheet.now.text.now units.now.lines.now flags out.old out.new result }
+    requires { PageGiven sheet.now.bytes.now sheet.now.text.now units.now.lines.now flags words.old h }
+    ensures { RecipePut sheet.now.bytes.now sheet.now.text.now units.now.lines.now flags words.old h out.old out.new result }
 {
     let n = meta_map::index_metadata(flags, sheet, words);
     let a = head_line(out, true);

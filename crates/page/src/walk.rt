@@ -1,7 +1,6 @@
 // The parts of the page that work memory does not hold, drawn by a second walk over an accepted sheet.
 ghost use Rattle.std.specs.Prelude.{◌≡◌, not, eqb};
-ghost use Rattle.rules.specs.Units.{read_units};
-ghost use Rattle.rules.specs.Answer.{units_or};
+ghost use Rattle.rules.specs.Units.{read_units, units_or};
 ghost use Rattle.page.specs.Walk.{LineReady, LineTaken, is_aside, is_idle, TurnTaken, PassInputs, PartDrawn};
 
 use following::{Follow, Part};

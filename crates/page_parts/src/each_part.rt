@@ -2,8 +2,8 @@
 ghost use Rattle.std.specs.Prelude.{◌≡◌, true, ◌+◌, ◌^◌, ◌<◌, length};
 ghost use Rattle.rules.specs.Basic.{all};
 ghost use Rattle.rules.specs.Event.{spans_of};
-ghost use Rattle.rules.specs.Units.{read_units};
-ghost use Rattle.rules.specs.Answer.{units_or, is_good_span};
+ghost use Rattle.rules.specs.Units.{read_units, units_or};
+ghost use Rattle.rules.specs.Answer.{is_good_span};
 ghost use Rattle.parts.specs.Views.{TextWithin};
 ghost use Rattle.events.specs.Views.{event_in, EventWithin};
 ghost use Rattle.known_events.specs.Fields.{TextField, ComponentEventFields, EventFields};

@@ -5,10 +5,10 @@ use mathlib.Core.List.{List, [], ◌∷◌}
 use Rattle.std.specs.Prelude.{Option, None, Some}
 use native.Mathlib.Omega.{arith}
 use lib.ListN.{length, length-replicate}
+use Rattle.rules.specs.Input.{Context}
 use Rattle.rules.specs.Basic.{each, on_some}
 use Rattle.rules.specs.Words.{step_kind, text_kind, define_key, duplicate_key, DefineMode, DuplicateMode}
 use Rattle.rules.specs.Event.{Text, ComponentEvent, ingredient_event, cookware_event, timer_event, Between, meta_event, section_event, start_event, Inside, end_event, text_event, component_event, Event, between, inside, parser_event}
-use Rattle.rules.specs.Units.{NamedUnit}
 use Rattle.rules.specs.Modes.{is_components, Key, config, unknown_config, ordinary}
 use Rattle.rules.specs.Model.{Kind, ingredient, cookware, trimmed_text, Item, Block}
 use Rattle.rules.specs.State.{Place, Open, no_block, step_open, text_open, text_mode_open, State, first_state, set_modes, set_metadata, set_place, set_block, set_kept, set_tables, table_of, set_table, set_timers, set_inline, report, over_limits, Step, next, stop}
@@ -77,25 +77,25 @@ unfolding unless_fault
 fault_counted n None s c = c
 fault_counted n (Some k) s c = tt
 
-module _ (text : List ℕ) (units : List NamedUnit) (flags : ℕ) where
-  made_counted : {n : ℕ} (k : Kind) (m : Made) (is : List Item) (st : State) → Counted n st → CountedStep n (on_made units flags k m is st)
+module _ (cx : Context) where
+  made_counted : {n : ℕ} (k : Kind) (m : Made) (is : List Item) (st : State) → Counted n st → CountedStep n (on_made k m is st)
   unfolding on_made
   made_counted k m is st s = chained_counted m _ (push_counted k m is st s)
 
-  component_counted : {n : ℕ} (c : ComponentEvent) (is : List Item) (st : State) → Counted n st → CountedStep n (on_component units flags c is st)
+  component_counted : {n : ℕ} (c : ComponentEvent) (is : List Item) (st : State) → Counted n st → CountedStep n (on_component cx c is st)
   unfolding on_component push_timer push_items report set_block set_place set_kept set_timers set_tables
   component_counted {n} (ingredient_event c i) is st s = fault_counted n (intermediate_fault c i) _ (made_counted ingredient _ is st s)
   component_counted (cookware_event c) is st s = made_counted cookware _ is st s
   component_counted (timer_event a k q) is st s = s
 
-  in_step_counted : {n : ℕ} (e : Inside) (is : List Item) (st : State) → Counted n st → CountedStep n (in_step_block units flags e is st)
+  in_step_counted : {n : ℕ} (e : Inside) (is : List Item) (st : State) → Counted n st → CountedStep n (in_step_block cx e is st)
   unfolding in_step_block text_in_step push_pieces push_items set_inline report set_block set_place set_kept set_tables
   in_step_counted (end_event step_kind) is st s = step_counted is st s
   in_step_counted (end_event text_kind) is st s = tt
   in_step_counted {n} (text_event t) is st s = pick_either (Counted n) (is_components st.modes.define) _ _ (λ b. s) (λ b. s)
   in_step_counted (component_event c) is st s = component_counted c is st s
 
-  inside_counted : {n : ℕ} (e : Inside) (o : Open) (st : State) → Counted n st → CountedStep n (on_inside text units flags e o st)
+  inside_counted : {n : ℕ} (e : Inside) (o : Open) (st : State) → Counted n st → CountedStep n (on_inside cx e o st)
   unfolding on_inside in_text_block in_text_mode close_text component_in_text report set_block set_place
   inside_counted e no_block st s = tt
   inside_counted e (step_open is) st s = in_step_counted e is st s
@@ -107,13 +107,13 @@ module _ (text : List ℕ) (units : List NamedUnit) (flags : ℕ) where
   inside_counted (text_event t) (text_mode_open ts) st s = s
   inside_counted (component_event c) (text_mode_open ts) st s = s
 
-  between_counted : {n : ℕ} (b : Between) (st : State) → Counted n st → Counted (suc n) (on_between text units flags b st)
+  between_counted : {n : ℕ} (b : Between) (st : State) → Counted n st → Counted (suc n) (on_between cx b st)
   unfolding on_between on_metadata set_block set_place
   between_counted (meta_event k v) st s = key_counted _ k v st s
   between_counted (section_event name) st s = section_counted name st (later st s)
   between_counted (start_event k) st s = later st s
 
-  pub event_counted : {n : ℕ} (e : Event) (st : State) → Counted n st → CountedStep (suc n) (on_event text units flags e st)
+  pub event_counted : {n : ℕ} (e : Event) (st : State) → Counted n st → CountedStep (suc n) (on_event cx e st)
   unfolding on_event report
   event_counted {n} (between b) st s = pick_either (CountedStep (suc n)) (is_open st.place.block) _ _ (λ h. tt) (λ h. between_counted b st s)
   event_counted (inside i) st s = inside_counted i st.place.block st (later st s)

@@ -9,7 +9,8 @@ use lib.ListN.{length}
 use lib.Seq.{slice}
 use Rattle.rules.specs.Basic.{pick}
 use Rattle.rules.specs.Event as rules
-use Rattle.rules.specs.Units.{NamedUnit}
+use Rattle.rules.specs.Units.{read_units, units_or}
+use Rattle.rules.specs.Input.{Context, Agrees}
 use Rattle.rules.specs.Finding.{parsed}
 use Rattle.rules.specs.State as state
 use Rattle.rules.specs.State.{State, set_place, set_block, set_kept, report, Step, next}
@@ -79,27 +80,27 @@ module _ {sheet line w : List ℕ} {at end : ℕ} {h : Held} {c : ComponentEvent
       let y = rw e at z.within in
       (y.2, omega (arith, b.findings), omega (arith, b.timers), omega (arith, b.items))
 
-pub component_done : {us : List NamedUnit} {flags : ℕ} {sheet line part w₀ w : List ℕ} {c d : ComponentEvent} {h₀ : Held} {r : Result Held Reason} → line ≡ part → c ≡ d → ComponentDone us flags sheet part d w₀ h₀ w r → ComponentDone us flags sheet line c w₀ h₀ w r
+pub component_done : {units : List ℕ} {flags : ℕ} {sheet line part w₀ w : List ℕ} {c d : ComponentEvent} {h₀ : Held} {r : Result Held Reason} → line ≡ part → c ≡ d → ComponentDone units flags sheet part d w₀ h₀ w r → ComponentDone units flags sheet line c w₀ h₀ w r
 component_done p e k = rw (p, e) k
 
-pub timer_done : {us : List NamedUnit} {flags : ℕ} {sheet line w₀ w : List ℕ} {c : ComponentEvent} {h₀ k : Held} (s : Span) (n : Option TextView) (q : Option QuantityView) → c ≡ component.Timer s n q → AllFit sheet w₀ h₀ → TimerDone us flags line n q w₀ h₀ w k → ComponentDone us flags sheet line c w₀ h₀ w (Ok k)
+pub timer_done : {units : List ℕ} {flags : ℕ} {sheet line w₀ w : List ℕ} {c : ComponentEvent} {h₀ k : Held} (s : Span) (n : Option TextView) (q : Option QuantityView) → c ≡ component.Timer s n q → AllFit sheet w₀ h₀ → TimerDone (units_or (read_units units)) flags line n q w₀ h₀ w k → ComponentDone units flags sheet line c w₀ h₀ w (Ok k)
 unfolding step_in SoundStep FitStep blank_step on_component component_event_in
-timer_done {sheet = sheet} s n q e a p = rw e record { is = ap next (p.went.is sheet); sound = p.went.sound; fit = p.went.fit sheet a }
+timer_done {sheet = sheet} s n q e a p = rw e record { at = λ cx x. ap next (rw (x.same_units, x.same_flags) (p.went.is sheet)); sound = p.went.sound; fit = p.went.fit sheet a }
 
 -- ---- lines in a step
 
-module _ {us : List NamedUnit} {flags : ℕ} {sheet line w₀ w : List ℕ} {e : Inside} {h₀ : Held} where
-  pub step_end : {r : Result Held Reason} (k : BlockKind) → e ≡ inside.End k → AllFit sheet w₀ h₀ → StepEnded k w₀ h₀ w r → InStep us flags sheet line e w₀ h₀ w r
+module _ {units : List ℕ} {flags : ℕ} {sheet line w₀ w : List ℕ} {e : Inside} {h₀ : Held} where
+  pub step_end : {r : Result Held Reason} (k : BlockKind) → e ≡ inside.End k → AllFit sheet w₀ h₀ → StepEnded k w₀ h₀ w r → InStep units flags sheet line e w₀ h₀ w r
   unfolding inside_in
-  step_end k q a p = rw q record { done = line_done (p.at us flags) a }
+  step_end k q a p = rw q record { at = λ cx x. line_done (p.at cx) a }
 
-  pub step_text : {k : Held} (v : TextView) → e ≡ inside.Text v → AllFit sheet w₀ h₀ → TextDone us flags line v w₀ h₀ w k → InStep us flags sheet line e w₀ h₀ w (Ok k)
+  pub step_text : {k : Held} (v : TextView) → e ≡ inside.Text v → AllFit sheet w₀ h₀ → TextDone (units_or (read_units units)) flags line v w₀ h₀ w k → InStep units flags sheet line e w₀ h₀ w (Ok k)
   unfolding inside_in in_step_block
-  step_text v q a p = rw q record { done = line_done (stepped p.went) a }
+  step_text v q a p = rw q record { at = λ cx x. line_done (rw (x.same_units, x.same_flags) (stepped p.went)) a }
 
-  pub step_component : {r : Result Held Reason} (c : ComponentEvent) → e ≡ inside.Component c → ComponentDone us flags sheet line c w₀ h₀ w r → InStep us flags sheet line e w₀ h₀ w r
+  pub step_component : {r : Result Held Reason} (c : ComponentEvent) → e ≡ inside.Component c → ComponentDone units flags sheet line c w₀ h₀ w r → InStep units flags sheet line e w₀ h₀ w r
   unfolding inside_in in_step_block
-  step_component c q p = rw q record { done = record { is = p.is; sound = p.sound; fit = p.fit } }
+  step_component c q p = rw q record { at = λ cx x. record { is = p.at cx x; sound = p.sound; fit = p.fit } }
 
 pub text_ready : {sheet line w : List ℕ} {at end : ℕ} {h : Held} {e : Inside} (v : TextView) → e ≡ inside.Text v → EventHere sheet line at end (event.Inside e) → Running sheet w h at
     → TextWithin line v × Field (part_of line v.content) × (h.counts.findings < MOST_FINDINGS) × (h.counts.items + length line < 100000) × (h.counts.inline + length line < 100000)
@@ -115,34 +116,34 @@ block_now : (sheet w : List ℕ) (h : Held) → (state_in sheet w h).place.block
 unfolding state_in state_of
 block_now sheet w h = refl
 
-module _ {us : List NamedUnit} {flags : ℕ} {sheet line w₀ w : List ℕ} {e : Inside} {h₀ : Held} where
-  inside_as : {r : Result Held Reason} (o : Open) → h₀.block ≡ o → ((text : List ℕ) → LineDone (λ (st : State). on_inside text us flags (inside_in line e) (open_of o) st) sheet w₀ h₀ w r) → InsideDone us flags sheet line e w₀ h₀ w r
+module _ {units : List ℕ} {flags : ℕ} {sheet line w₀ w : List ℕ} {e : Inside} {h₀ : Held} where
+  inside_as : {r : Result Held Reason} (o : Open) → h₀.block ≡ o → ((cx : Context) → Agrees units flags cx → LineDone (λ (st : State). on_inside cx (inside_in line e) (open_of o) st) sheet w₀ h₀ w r) → InsideDone units flags sheet line e w₀ h₀ w r
   unfolding inside_now
   inside_as o q p =
       record {
-        at = λ text. record {
-          is = (p text).is ∙ sym (ap (λ (x : state.Open). blank_step (on_inside text us flags (inside_in line e) x (state_in sheet w₀ h₀))) (block_now sheet w₀ h₀ ∙ ap open_of q));
-          sound = (p text).sound;
-          fit = (p text).fit;
+        at = λ cx x. record {
+          is = (p cx x).is ∙ sym (ap (λ (b : state.Open). blank_step (on_inside cx (inside_in line e) b (state_in sheet w₀ h₀))) (block_now sheet w₀ h₀ ∙ ap open_of q));
+          sound = (p cx x).sound;
+          fit = (p cx x).fit;
         };
       }
 
-  pub inside_step : {r : Result Held Reason} → h₀.block ≡ StepBlock → InStep us flags sheet line e w₀ h₀ w r → InsideDone us flags sheet line e w₀ h₀ w r
+  pub inside_step : {r : Result Held Reason} → h₀.block ≡ StepBlock → InStep units flags sheet line e w₀ h₀ w r → InsideDone units flags sheet line e w₀ h₀ w r
   unfolding on_inside open_of
-  inside_step q p = inside_as StepBlock q (λ text. p.done)
+  inside_step q p = inside_as StepBlock q p.at
 
-  pub inside_text : {r : Result Held Reason} → h₀.block ≡ TextBlock → AllFit sheet w₀ h₀ → InTextBlock e w₀ h₀ w r → InsideDone us flags sheet line e w₀ h₀ w r
+  pub inside_text : {r : Result Held Reason} → h₀.block ≡ TextBlock → AllFit sheet w₀ h₀ → InTextBlock e w₀ h₀ w r → InsideDone units flags sheet line e w₀ h₀ w r
   unfolding on_inside open_of
-  inside_text q a p = inside_as TextBlock q (λ text. line_done (p.at line) a)
+  inside_text q a p = inside_as TextBlock q (λ cx x. line_done (p.at line) a)
 
-  pub inside_mode : {r : Result Held Reason} → h₀.block ≡ TextMode → AllFit sheet w₀ h₀ → InTextMode e w₀ h₀ w r → InsideDone us flags sheet line e w₀ h₀ w r
+  pub inside_mode : {r : Result Held Reason} → h₀.block ≡ TextMode → AllFit sheet w₀ h₀ → InTextMode e w₀ h₀ w r → InsideDone units flags sheet line e w₀ h₀ w r
   unfolding on_inside open_of
-  inside_mode q a p = inside_as TextMode q (λ text. line_done (p.at text line) a)
+  inside_mode q a p = inside_as TextMode q (λ cx x. line_done (p.at cx.text line) a)
 
   -- 12
-  pub inside_none : h₀.block ≡ Nothing → AllFit sheet w₀ h₀ → InsideDone us flags sheet line e w₀ h₀ w (Err InNoBlock)
+  pub inside_none : h₀.block ≡ Nothing → AllFit sheet w₀ h₀ → InsideDone units flags sheet line e w₀ h₀ w (Err InNoBlock)
   unfolding on_inside open_of
-  inside_none q a = inside_as Nothing q (λ text. line_done (stopped InNoBlock) a)
+  inside_none q a = inside_as Nothing q (λ cx x. line_done (stopped InNoBlock) a)
 
 -- ---- lines between blocks
 
@@ -161,14 +162,14 @@ start_tables k st = refl
 module _ {flags : ℕ} {line : List ℕ} {b : Between} {h₀ h : Held} where
   pub between_meta : {w₀ w : List ℕ} (k v : TextView) → b ≡ between.Meta k v → MetaDone flags line k v w₀ h₀ w h → BetweenDone flags line b w₀ h₀ w h
   unfolding on_between between_in
-  between_meta k v q p = rw q record { at = λ text us. p.went }
+  between_meta k v q p = rw q record { at = λ cx x. rw x p.went }
 
   pub between_section : {w : List ℕ} (n : Option TextView) → b ≡ between.Section n → Sound w h₀ → SectionDone n h₀ h → BetweenDone flags line b w h₀ w h
   unfolding on_between between_in
   between_section {w} n q z p =
       rw q
       record {
-        at = λ text us. went_told (p.at line) z
+        at = λ cx x. went_told (p.at line) z
             (λ sheet a. told_fit (p.at line) (λ st. ap (λ (x : state.Tables). x.ingredients) (section_tables _ st)) (λ st. ap (λ (x : state.Tables). x.cookware) (section_tables _ st)) sheet w a);
       }
 
@@ -177,7 +178,7 @@ module _ {flags : ℕ} {line : List ℕ} {b : Between} {h₀ h : Held} where
   between_start {w} k q z p =
       rw q
       record {
-        at = λ text us. went_told p z
+        at = λ cx x. went_told p z
             (λ sheet a. told_fit p (λ st. ap (λ (x : state.Tables). x.ingredients) (start_tables k st)) (λ st. ap (λ (x : state.Tables). x.cookware) (start_tables k st)) sheet w a);
       }
 
@@ -194,23 +195,23 @@ between_ready b q z r =
     let m = room z r in
     (rw q at z.within, omega (arith, m.findings), omega (arith, m.old), omega (arith, m.sections))
 
-module _ {us : List NamedUnit} {flags : ℕ} {sheet line w₀ w : List ℕ} {v : EventView} {h₀ : Held} where
+module _ {units : List ℕ} {flags : ℕ} {sheet line w₀ w : List ℕ} {v : EventView} {h₀ : Held} where
   -- 11
-  pub event_open : {o : Bool} (b : Between) → v ≡ event.Between b → OpenNow h₀ o → o ≡ true → EventDone us flags sheet line v w₀ h₀ w (Err InOpenBlock)
+  pub event_open : {o : Bool} (b : Between) → v ≡ event.Between b → OpenNow h₀ o → o ≡ true → EventDone units flags sheet line v w₀ h₀ w (Err InOpenBlock)
   unfolding on_event event_in step_in blank_step SoundStep FitStep
-  event_open b q p t = rw q record { at = λ text. record { is = rw (sym (p.is sheet w₀) ∙ t); sound = tt; fit = tt } }
+  event_open b q p t = rw q record { at = λ cx x. record { is = rw (sym (p.is sheet w₀) ∙ t); sound = tt; fit = tt } }
 
-  pub event_between : {o : Bool} {k : Held} (b : Between) → v ≡ event.Between b → OpenNow h₀ o → o ≡ false → AllFit sheet w₀ h₀ → BetweenDone flags line b w₀ h₀ w k → EventDone us flags sheet line v w₀ h₀ w (Ok k)
+  pub event_between : {o : Bool} {k : Held} (b : Between) → v ≡ event.Between b → OpenNow h₀ o → o ≡ false → AllFit sheet w₀ h₀ → BetweenDone flags line b w₀ h₀ w k → EventDone units flags sheet line v w₀ h₀ w (Ok k)
   unfolding on_event event_in step_in blank_step SoundStep FitStep
-  event_between b q p t a d = rw q record { at = λ text. record { is = rw (sym (p.is sheet w₀) ∙ t) (ap next ((d.at text us).is sheet)); sound = (d.at text us).sound; fit = (d.at text us).fit sheet a } }
+  event_between b q p t a d = rw q record { at = λ cx x. let g = d.at cx x.same_flags in record { is = rw (sym (p.is sheet w₀) ∙ t) (ap next (g.is sheet)); sound = g.sound; fit = g.fit sheet a } }
 
-  pub event_inside : {r : Result Held Reason} (e : Inside) → v ≡ event.Inside e → InsideDone us flags sheet line e w₀ h₀ w r → EventDone us flags sheet line v w₀ h₀ w r
+  pub event_inside : {r : Result Held Reason} (e : Inside) → v ≡ event.Inside e → InsideDone units flags sheet line e w₀ h₀ w r → EventDone units flags sheet line v w₀ h₀ w r
   unfolding on_event event_in inside_now
-  event_inside e q p = rw q record { at = λ text. record { is = (p.at text).is; sound = (p.at text).sound; fit = (p.at text).fit } }
+  event_inside e q p = rw q record { at = λ cx x. let g = p.at cx x in record { is = g.is; sound = g.sound; fit = g.fit } }
 
-  pub event_finding : {k : Held} (s : Severity) (n : ℕ) → v ≡ event.Finding s n → AllFit sheet w₀ h₀ → Went (report (parsed (severity_in s) n ∷ [])) w₀ h₀ w k → EventDone us flags sheet line v w₀ h₀ w (Ok k)
+  pub event_finding : {k : Held} (s : Severity) (n : ℕ) → v ≡ event.Finding s n → AllFit sheet w₀ h₀ → Went (report (parsed (severity_in s) n ∷ [])) w₀ h₀ w k → EventDone units flags sheet line v w₀ h₀ w (Ok k)
   unfolding on_event event_in
-  event_finding s n q a p = rw q record { at = λ text. line_done (stepped p) a }
+  event_finding s n q a p = rw q record { at = λ cx x. line_done (stepped p) a }
 
 -- ---- errors
 

@@ -12,7 +12,7 @@ use Rattle.rules.specs.Basic.{is_some, lf}
 use Rattle.rules.specs.Sheet.{more, lines}
 use Rattle.rules.specs.Event.{Event}
 use Rattle.rules.specs.Read.{parse_line}
-use Rattle.rules.specs.Units.{NamedUnit}
+use Rattle.rules.specs.Input.{input_of, Context, context_of, Agrees, TextAgrees}
 use Rattle.rules.specs.Finding.{Finding, only_parsed}
 use Rattle.rules.specs.Answer.{events, events_or, read_from, read_sheet}
 use Rattle.rules.specs.State.{State, first_state, over_limits, Walk, going, failed, refused}
@@ -36,24 +36,24 @@ use Rattle.memory.proofs.Smalls.{first_state_lem}
 use Rattle.memory.proofs.Bounds.{first_fit}
 use Rattle.lookup.proofs.Names.{part_slice}
 use Rattle.component_lines.specs.Lines.{Kept}
-use Rattle.pass.specs.Walks.{EventHere, Counted, Running, WentOn, WalkedAs, StepDone, EndedAs, Finished, RanBy, RanAs}
+use Rattle.pass.specs.Walks.{EventHere, Counted, Running, WentOn, WalkedAs, StepDone, EndedAs, Finished, RanBy, Ran, RanAs}
 use Rattle.pass.proofs.Counts.{first_counted, counted_blank, counted_more}
 use Rattle.pass.proofs.Rooms.{bounded}
 use Rattle.pass.proofs.Steps.{sound_blank}
 
 -- ---- the rules' walk where it has failed or was refused
 
-module _ (text : List ℕ) (us : List NamedUnit) (flags : ℕ) where
+module _ (cx : Context) where
   pub record Fails (w : Walk) : Type 0 where
     pub findings : List Finding
     pub is : w ≡ failed findings
 
-  walk_failed : (es : List Event) (line : ℕ) (fs : List Finding) → Fails (walk text us flags line (failed fs) es)
+  walk_failed : (es : List Event) (line : ℕ) (fs : List Finding) → Fails (walk cx line (failed fs) es)
   unfolding walk step
   walk_failed [] line fs = record { findings = fs; is = refl }
   walk_failed (e ∷ es) line fs = walk_failed es (suc line) (parser_findings e ++ fs)
 
-  walk_refused : (es : List Event) (line n l : ℕ) → walk text us flags line (refused n l) es ≡ refused n l
+  walk_refused : (es : List Event) (line n l : ℕ) → walk cx line (refused n l) es ≡ refused n l
   unfolding walk step
   walk_refused [] line n l = refl
   walk_refused (e ∷ es) line n l = walk_refused es (suc line) n l
@@ -88,18 +88,22 @@ is_refused (going st) n l e = not_refused (sym e)
 is_refused (failed fs) n l e = failed_refused e
 is_refused (refused m k) n l e = e
 
--- ---- the loop: from `at` on, where the line `number` starts, `left` are the events, and `state` is what the walk has come to
+-- ---- the loop: from `at` on, where the line `number` starts, `left` are the events
 
-pub record Passing (us : List NamedUnit) (flags : ℕ) (sheet text w : List ℕ) (h : Held) (at number : ℕ) : Type 0 where
+-- what the walk has come to in a context
+pub record Come (cx : Context) (sheet : List ℕ) (es : List Event) (w : List ℕ) (h : Held) (number : ℕ) (left : List Event) : Type 0 where
+  pub state : State
+  pub walked : walk cx 1 (going first_state) es ≡ walk cx number (going state) left
+  pub memory : state_in sheet w h ≡ blank state
+
+pub record Passing (units : List ℕ) (flags : ℕ) (sheet text w : List ℕ) (h : Held) (at number : ℕ) : Type 0 where
   pub from : at ≤ length sheet
   pub begins : get_or (lf ∷ sheet) at 0 ≡ lf
   pub short : length sheet ≤ 65536
   pub few : number ≤ at + 1
   pub left : List Event
   pub rest : Rest text sheet at number left
-  pub state : State
-  pub walked : walk text us flags 1 (going first_state) (events_or (read_sheet text sheet)) ≡ walk text us flags number (going state) left
-  pub memory : state_in sheet w h ≡ blank state
+  pub come : (cx : Context) → TextAgrees text units flags cx → Come cx sheet (events_or (read_sheet text sheet)) w h number left
   pub running : Running sheet w h at
 
 first_limits : over_limits first_state ≡ false
@@ -108,7 +112,7 @@ first_limits = refl
 
 first_kept : (sheet w : List ℕ) → Sound w first_held → Kept sheet w first_held
 first_kept sheet w l =
-    let s = subst chained.SoundState (sym (first_state_lem sheet w)) (sound_blank first_state (chained.first_sound [] [] 0)) in
+    let s = subst chained.SoundState (sym (first_state_lem sheet w)) (sound_blank first_state (chained.first_sound (context_of (input_of [] [] [] 0)))) in
     record {
       sound = l;
       fit = first_fit sheet w;
@@ -116,7 +120,7 @@ first_kept sheet w l =
       limits = ap over_limits (first_state_lem sheet w) ∙ over_blank first_state ∙ first_limits;
     }
 
-pub passing_starts : {us : List NamedUnit} {flags : ℕ} {sheet text w : List ℕ} {h : Held} → h ≡ first_held → length sheet ≤ 65536 → Sound w h → read_sheet text sheet ≡ events (events_or (read_sheet text sheet)) → Passing us flags sheet text w h 0 1
+pub passing_starts : {units : List ℕ} {flags : ℕ} {sheet text w : List ℕ} {h : Held} → h ≡ first_held → length sheet ≤ 65536 → Sound w h → read_sheet text sheet ≡ events (events_or (read_sheet text sheet)) → Passing units flags sheet text w h 0 1
 unfolding read_sheet
 passing_starts {sheet = sheet} {text = text} {w = w} e s l q =
     rw e
@@ -127,9 +131,7 @@ passing_starts {sheet = sheet} {text = text} {w = w} e s l q =
       few = omega arith;
       left = events_or (read_sheet text sheet);
       rest = record { is = q };
-      state = first_state;
-      walked = refl;
-      memory = first_state_lem sheet w;
+      come = λ cx x. record { state = first_state; walked = refl; memory = first_state_lem sheet w };
       running = record { kept = first_kept sheet w (rw e at l); counted = subst (Counted 0) (sym (first_state_lem sheet w)) (counted_blank first_state (first_counted 0)) };
     }
 
@@ -151,7 +153,7 @@ module _ {sheet : List ℕ} {at end : ℕ} {text : List ℕ} {number : ℕ} {es 
       let e : at + (end - at) ≡ end = omega (arith, i.0) in
       ap (λ (k : ℕ). get_or sheet k 0) (sym e) ∙ d
 
-module _ {us : List NamedUnit} {flags : ℕ} {sheet text w : List ℕ} {h : Held} {at number : ℕ} (p : Passing us flags sheet text w h at number) where
+module _ {units : List ℕ} {flags : ℕ} {sheet text w : List ℕ} {h : Held} {at number : ℕ} (p : Passing units flags sheet text w h at number) where
   pub passing_room : (h.counts.sections ≤ 128) × (h.counts.findings ≤ 1024)
   passing_room = let b = bounded p.running (omega (arith, p.from, p.short)) in (b.sections, b.findings)
 
@@ -189,58 +191,79 @@ module _ {us : List NamedUnit} {flags : ℕ} {sheet text w : List ℕ} {h : Held
         first : First (event_in (take (end - at) (drop at sheet)) v) (read_from text (length text) (number + 1) (lines (drop (end + 1) sheet))) p.left
         first = rest_parsed p.rest l q k.is
 
-        abbrev stepped : State → Walk
-        stepped st = step text us flags number (event_in (take (end - at) (drop at sheet)) v) (going st)
+        module _ (cx : Context) (x : TextAgrees text units flags cx) where
+          here : Come cx sheet (events_or (read_sheet text sheet)) w h number p.left
+          here = p.come cx x
 
-        whole : walk text us flags 1 (going first_state) (events_or (read_sheet text sheet)) ≡ walk text us flags (number + 1) (stepped p.state) first.others
-        unfolding walk
-        whole =
-            p.walked ∙ ap (λ (es : List Event). walk text us flags number (going p.state) es) first.is
-            ∙ ap (λ (n : ℕ). walk text us flags n (stepped p.state) first.others) (sym (add-one number))
+          abbrev stepped : State → Walk
+          stepped st = step cx number (event_in (take (end - at) (drop at sheet)) v) (going st)
 
-        -- memory stands for the state
-        like : blank_walk (stepped p.state) ≡ blank_walk (stepped (state_in sheet w h))
-        unfolding blank_walk
-        like =
-            blank_step_lem text us flags number (event_in (take (end - at) (drop at sheet)) v) (going p.state)
-            ∙ ap (λ (x : State). blank_walk (stepped x)) (sym p.memory)
+          whole : walk cx 1 (going first_state) (events_or (read_sheet text sheet)) ≡ walk cx (number + 1) (stepped here.state) first.others
+          unfolding walk
+          whole =
+              here.walked ∙ ap (λ (es : List Event). walk cx number (going here.state) es) first.is
+              ∙ ap (λ (n : ℕ). walk cx n (stepped here.state) first.others) (sym (add-one number))
 
-        module _ {w₁ : List ℕ} {s : Result (Option Held) Reason} (d : StepDone us flags sheet (take (end - at) (drop at sheet)) end v w h w₁ s) where
+          -- memory stands for the state
+          like : blank_walk (stepped here.state) ≡ blank_walk (stepped (state_in sheet w h))
+          unfolding blank_walk
+          like =
+              blank_step_lem cx number (event_in (take (end - at) (drop at sheet)) v) (going here.state)
+              ∙ ap (λ (y : State). blank_walk (stepped y)) (sym here.memory)
+
+        module _ {w₁ : List ℕ} {s : Result (Option Held) Reason} (d : StepDone units flags sheet (take (end - at) (drop at sheet)) end v w h w₁ s) where
           failed_at : s ≡ Ok None → is_error_event (event_in (take (end - at) (drop at sheet)) v) ≡ true
           unfolding WalkedAs
           failed_at e = rw e at d.is
 
-          step_fails : s ≡ Ok None → stepped p.state ≡ failed (parser_findings (event_in (take (end - at) (drop at sheet)) v) ++ only_parsed p.state.findings)
+          step_fails : s ≡ Ok None → (cx : Context) (st : State) → step cx number (event_in (take (end - at) (drop at sheet)) v) (going st) ≡ failed (parser_findings (event_in (take (end - at) (drop at sheet)) v) ++ only_parsed st.findings)
           unfolding step
-          step_fails e = rw (failed_at e)
+          step_fails e cx st = rw (failed_at e)
 
-          pub passing_failed : s ≡ Ok None → RanBy text us flags sheet (events_or (read_sheet text sheet)) w₁ (Ok None)
-          unfolding RanBy parse_events finish
-          passing_failed e =
-              let f = walk_failed text us flags first.others (number + 1) _ in
-              record {
-                findings = f.findings;
-                is = ap finish (whole ∙ ap (λ (x : Walk). walk text us flags (number + 1) x first.others) (step_fails e) ∙ f.is);
-              }
+          pub passing_failed : s ≡ Ok None → Ran text units flags sheet (events_or (read_sheet text sheet)) w₁ (Ok None)
+          passing_failed e = record { at = by }
+            where
+              by : (cx : Context) → TextAgrees text units flags cx → RanBy cx sheet (events_or (read_sheet text sheet)) w₁ (Ok None)
+              by cx x =
+                  unfold RanBy parse_events finish in
+                  (let f = walk_failed cx first.others (number + 1) _ in
+                  record {
+                    findings = f.findings;
+                    is = ap finish (whole cx x ∙ ap (λ (y : Walk). walk cx (number + 1) y first.others) (step_fails e cx (here cx x).state) ∙ f.is);
+                  })
 
-          refused_at : (m : Reason) → s ≡ Err m → blank_walk (stepped (state_in sheet w h)) ≡ refused (number_of m) number
+          refused_at : (m : Reason) → s ≡ Err m → (cx : Context) → Agrees units flags cx
+              → blank_walk (step cx number (event_in (take (end - at) (drop at sheet)) v) (going (state_in sheet w h))) ≡ refused (number_of m) number
           unfolding WalkedAs
-          refused_at m e = (rw e at d.is) text number
+          refused_at m e cx a = (rw e at d.is) cx a number
 
-          pub passing_refused : (m : Reason) → s ≡ Err m → RanBy text us flags sheet (events_or (read_sheet text sheet)) w₁ (Err (record { reason = m; line = number }))
-          unfolding RanBy parse_events finish
-          passing_refused m e =
-              ap finish (whole ∙ ap (λ (x : Walk). walk text us flags (number + 1) x first.others) (is_refused _ (number_of m) number (like ∙ refused_at m e)) ∙ walk_refused text us flags first.others (number + 1) (number_of m) number)
+          pub passing_refused : (m : Reason) → s ≡ Err m → Ran text units flags sheet (events_or (read_sheet text sheet)) w₁ (Err (record { reason = m; line = number }))
+          passing_refused m e = record { at = by }
+            where
+              by : (cx : Context) → TextAgrees text units flags cx → RanBy cx sheet (events_or (read_sheet text sheet)) w₁ (Err (record { reason = m; line = number }))
+              by cx x =
+                  unfold RanBy parse_events finish in
+                  ap finish
+                  (whole cx x
+                  ∙ ap (λ (y : Walk). walk cx (number + 1) y first.others) (is_refused _ (number_of m) number (like cx x ∙ refused_at m e cx x.rest))
+                  ∙ walk_refused cx first.others (number + 1) (number_of m) number)
 
-          went_on : (m : Held) → s ≡ Ok (Some m) → WentOn us flags sheet (take (end - at) (drop at sheet)) end v w h w₁ m
+          went_on : (m : Held) → s ≡ Ok (Some m) → WentOn units flags sheet (take (end - at) (drop at sheet)) end v w h w₁ m
           unfolding WalkedAs
           went_on m e = rw e at d.is
 
-          pub passing_on : (m : Held) → s ≡ Ok (Some m) → Passing us flags sheet text w₁ m (end + 1) (number + 1)
+          come_on : (m : Held) → s ≡ Ok (Some m) → (cx : Context) → TextAgrees text units flags cx → Come cx sheet (events_or (read_sheet text sheet)) w₁ m (number + 1) first.others
+          come_on m e cx x =
+              let o = goes_on (stepped cx x (here cx x).state) (state_in sheet w₁ m) (like cx x ∙ (went_on m e).is cx x.rest number) in
+              record {
+                state = o.state;
+                walked = whole cx x ∙ ap (λ (y : Walk). walk cx (number + 1) y first.others) o.is;
+                memory = o.blanks;
+              }
+
+          pub passing_on : (m : Held) → s ≡ Ok (Some m) → Passing units flags sheet text w₁ m (end + 1) (number + 1)
           passing_on m e =
-              let g = went_on m e in
               let i = l.inside end q in
-              let o = goes_on (stepped p.state) (state_in sheet w₁ m) (like ∙ g.is text number) in
               record {
                 from = omega (arith, i.1);
                 begins = rw (add-one end) (lf_after p.rest l q);
@@ -248,42 +271,45 @@ module _ {us : List NamedUnit} {flags : ℕ} {sheet text w : List ℕ} {h : Held
                 few = omega (arith, i.0, p.few);
                 left = first.others;
                 rest = record { is = first.next };
-                state = o.state;
-                walked = whole ∙ ap (λ (x : Walk). walk text us flags (number + 1) x first.others) o.is;
-                memory = o.blanks;
-                running = g.running;
+                come = come_on m e;
+                running = (went_on m e).running;
               }
 
   -- ---- the end
 
   module _ (t : length sheet ≤ at) where
-    walked_all : walk text us flags 1 (going first_state) (events_or (read_sheet text sheet)) ≡ going p.state
-    unfolding walk
-    walked_all = p.walked ∙ ap (λ (es : List Event). walk text us flags number (going p.state) es) (rest_ends p.rest t)
+    module _ (cx : Context) (x : TextAgrees text units flags cx) where
+      last : Come cx sheet (events_or (read_sheet text sheet)) w h number p.left
+      last = p.come cx x
 
-    finished : parse_events text us flags (events_or (read_sheet text sheet)) ≡ finish (going p.state)
-    unfolding parse_events
-    finished = ap finish walked_all
+      walked_all : walk cx 1 (going first_state) (events_or (read_sheet text sheet)) ≡ going last.state
+      unfolding walk
+      walked_all = last.walked ∙ ap (λ (es : List Event). walk cx number (going last.state) es) (rest_ends p.rest t)
 
-    ran_by : (s : Result (Option Held) Refusal) → EndedAs h s → RanBy text us flags sheet (events_or (read_sheet text sheet)) w s
-    unfolding EndedAs RanBy
-    ran_by (Ok (Some m)) d =
-        rw d.0
-        record {
-          state = p.state;
-          walked = walked_all;
-          is = finished ∙ d.1 sheet w p.state p.memory;
-          memory = p.memory;
-          kept = p.running.kept;
-          counted = counted_more (state_in sheet w h) p.from p.running.counted;
-        }
-    ran_by (Ok None) d = absurd d
-    ran_by (Err f) d = finished ∙ d sheet w p.state p.memory
+      finished : parse_events cx (events_or (read_sheet text sheet)) ≡ finish (going last.state)
+      unfolding parse_events
+      finished = ap finish walked_all
 
-    pub passing_done : {s : Result (Option Held) Refusal} → Finished h s → RanBy text us flags sheet (events_or (read_sheet text sheet)) w s
-    passing_done {s} d = ran_by s d.is
+      ran_by : (s : Result (Option Held) Refusal) → EndedAs h s → RanBy cx sheet (events_or (read_sheet text sheet)) w s
+      unfolding EndedAs RanBy
+      ran_by (Ok (Some m)) d =
+          rw d.0
+          record {
+            state = last.state;
+            walked = walked_all;
+            is = finished ∙ d.1 sheet w last.state last.memory;
+            memory = last.memory;
+            kept = p.running.kept;
+            counted = counted_more (state_in sheet w h) p.from p.running.counted;
+          }
+      ran_by (Ok None) d = absurd d
+      ran_by (Err f) d = finished ∙ d sheet w last.state last.memory
+
+    pub passing_done : {s : Result (Option Held) Refusal} → Finished h s → Ran text units flags sheet (events_or (read_sheet text sheet)) w s
+    passing_done {s} d = record { at = λ cx x. ran_by cx x s d.is }
 
 -- ---- what was lent is what the pass has written
 
-pub ran_as : {us : List NamedUnit} {flags : ℕ} {sheet text w₀ w₁ w : List ℕ} {es : List Event} {s : Result (Option Held) Refusal} → length w ≡ length w₀ → w ≡ w₁ → RanBy text us flags sheet es w₁ s → RanAs us flags sheet text es w₀ w s
-ran_as {us} {flags} {sheet} {text} {es = es} {s = s} n e b = record { is = subst (λ (x : List ℕ). RanBy text us flags sheet es x s) (sym e) b; long = n }
+pub ran_as : {text units : List ℕ} {flags : ℕ} {sheet w₀ w₁ w : List ℕ} {es : List Event} {s : Result (Option Held) Refusal} → length w ≡ length w₀ → w ≡ w₁
+    → Ran text units flags sheet es w₁ s → RanAs text units flags sheet es w₀ w s
+ran_as {text} {units} {flags} {sheet} {es = es} {s = s} n e b = record { is = subst (λ (x : List ℕ). Ran text units flags sheet es x s) (sym e) b; long = n }

@@ -6,9 +6,10 @@ use mathlib.Core.Bool.{Bool, true, false}
 use Rattle.std.specs.Prelude.{None, Some, Result, Ok, Err}
 use native.Mathlib.Omega.{arith}
 use Rattle.rules.specs.Basic.{pick}
-use Rattle.rules.specs.Units.{NamedUnit}
+use Rattle.rules.specs.Input.{input_of, Context, context_of, Agrees}
 use Rattle.rules.specs.State.{State, over_limits, Step, next, stop, going, refused}
 use Rattle.rules.specs.Pass.{settle, on_event, step}
+use Rattle.rules.proofs.Agreed.{own_context}
 use Rattle.rules.proofs.Chained as chained
 use Rattle.refusals.specs.Told.{number_of}
 use Rattle.refusals.specs.declared.Reason.{Reason}
@@ -68,34 +69,34 @@ unfolding blank_step
 after_counted n (stop m) x e p = no_step e
 after_counted n (next st) x e p = subst (Counted n) (sym (next_inj e)) (counted_blank st p)
 
-module _ {us : List NamedUnit} {flags : ℕ} {sheet line w₀ w : List ℕ} {v : EventView} {h₀ : Held} where
-  pub step_failed : {end : ℕ} {o : Bool} → ErrorView v o → o ≡ true → StepDone us flags sheet line end v w₀ h₀ w (Ok None)
+module _ {units : List ℕ} {flags : ℕ} {sheet line w₀ w : List ℕ} {v : EventView} {h₀ : Held} where
+  pub step_failed : {end : ℕ} {o : Bool} → ErrorView v o → o ≡ true → StepDone units flags sheet line end v w₀ h₀ w (Ok None)
   unfolding WalkedAs
   step_failed p t = record { is = sym (p.is line) ∙ t }
 
-  module _ {o : Bool} (p : ErrorView v o) (f : o ≡ false) {r : Result Held Reason} (d : EventDone us flags sheet line v w₀ h₀ w r) where
-    settled : (text : List ℕ) (number : ℕ) → blank_walk (step text us flags number (event_in line v) (going (state_in sheet w₀ h₀))) ≡ blank_walk (settle number (on_event text us flags (event_in line v) (state_in sheet w₀ h₀)))
+  module _ {o : Bool} (p : ErrorView v o) (f : o ≡ false) {r : Result Held Reason} (d : EventDone units flags sheet line v w₀ h₀ w r) where
+    settled : (cx : Context) (number : ℕ) → blank_walk (step cx number (event_in line v) (going (state_in sheet w₀ h₀))) ≡ blank_walk (settle number (on_event cx (event_in line v) (state_in sheet w₀ h₀)))
     unfolding step
-    settled text number = rw (sym (p.is line) ∙ f)
+    settled cx number = rw (sym (p.is line) ∙ f)
 
-    pub step_stopped : {end : ℕ} (m : Reason) → r ≡ Err m → StepDone us flags sheet line end v w₀ h₀ w (Err m)
+    pub step_stopped : {end : ℕ} (m : Reason) → r ≡ Err m → StepDone units flags sheet line end v w₀ h₀ w (Err m)
     unfolding WalkedAs step_in
-    step_stopped m e = record { is = λ text number. settled text number ∙ settle_stop number _ (number_of m) (rw e at (d.at text).is) }
+    step_stopped m e = record { is = λ cx x number. settled cx number ∙ settle_stop number _ (number_of m) (rw e at (d.at cx x).is) }
 
     module _ (k : Held) (e : r ≡ Ok k) {a : Result (Unit {0}) Reason} (l : LimitsChecked k a) where
-      after : (text : List ℕ) → next (state_in sheet w k) ≡ blank_step (on_event text us flags (event_in line v) (state_in sheet w₀ h₀))
+      after : (cx : Context) → Agrees units flags cx → next (state_in sheet w k) ≡ blank_step (on_event cx (event_in line v) (state_in sheet w₀ h₀))
       unfolding step_in
-      after text = rw e at (d.at text).is
+      after cx x = rw e at (d.at cx x).is
 
-      settled_as : (b : Bool) → over_limits (state_in sheet w k) ≡ b → (text : List ℕ) (number : ℕ) → blank_walk (step text us flags number (event_in line v) (going (state_in sheet w₀ h₀))) ≡ pick b (refused 17 number) (going (state_in sheet w k))
-      settled_as b o text number = settled text number ∙ settle_next number _ (state_in sheet w k) (after text) b (sym o)
+      settled_as : (b : Bool) → over_limits (state_in sheet w k) ≡ b → (cx : Context) → Agrees units flags cx → (number : ℕ) → blank_walk (step cx number (event_in line v) (going (state_in sheet w₀ h₀))) ≡ pick b (refused 17 number) (going (state_in sheet w k))
+      settled_as b o cx x number = settled cx number ∙ settle_next number _ (state_in sheet w k) (after cx x) b (sym o)
 
       -- 17
-      pub step_over : {end : ℕ} (m : Reason) → a ≡ Err m → StepDone us flags sheet line end v w₀ h₀ w (Err m)
+      pub step_over : {end : ℕ} (m : Reason) → a ≡ Err m → StepDone units flags sheet line end v w₀ h₀ w (Err m)
       unfolding WalkedAs
       step_over m t =
           let o = limits_over l t sheet w in
-          record { is = λ text number. settled_as true o.0 text number ∙ ap (λ (x : Reason). refused (number_of x) number) (sym o.1) }
+          record { is = λ cx x number. settled_as true o.0 cx x number ∙ ap (λ (y : Reason). refused (number_of y) number) (sym o.1) }
 
       sound_after : SoundStep w r → Sound w k
       unfolding SoundStep
@@ -107,14 +108,16 @@ module _ {us : List NamedUnit} {flags : ℕ} {sheet line w₀ w : List ℕ} {v :
 
       running_after : {at end : ℕ} → over_limits (state_in sheet w k) ≡ false → EventHere sheet line at end v → Running sheet w₀ h₀ at → Running sheet w k (end + 1)
       running_after {at} t z g =
-          let s = after_sound _ (state_in sheet w k) (after []) (chained.event_sound [] us flags (event_in line v) (state_in sheet w₀ h₀) (chained.state_sound _ g.kept.definitions)) in
-          let c = after_counted (suc at) _ (state_in sheet w k) (after []) (event_counted [] us flags (event_in line v) (state_in sheet w₀ h₀) g.counted) in
+          let cx = context_of (input_of [] [] units flags) in
+          let x = (own_context (input_of [] [] units flags)).rest in
+          let s = after_sound _ (state_in sheet w k) (after cx x) (chained.event_sound cx (event_in line v) (state_in sheet w₀ h₀) (chained.state_sound _ g.kept.definitions)) in
+          let c = after_counted (suc at) _ (state_in sheet w k) (after cx x) (event_counted cx (event_in line v) (state_in sheet w₀ h₀) g.counted) in
           record {
-            kept = record { sound = sound_after (d.at []).sound; fit = fit_after (d.at []).fit; definitions = λ x. chained.table_sound x (state_in sheet w k) s; limits = t };
+            kept = record { sound = sound_after (d.at cx x).sound; fit = fit_after (d.at cx x).fit; definitions = λ j. chained.table_sound j (state_in sheet w k) s; limits = t };
             counted = counted_more (state_in sheet w k) (omega (arith, z.here.whole.order)) c;
           }
 
-      pub step_going : {at end : ℕ} {u : Unit {0}} → a ≡ Ok u → EventHere sheet line at end v → Running sheet w₀ h₀ at → StepDone us flags sheet line end v w₀ h₀ w (Ok (Some k))
+      pub step_going : {at end : ℕ} {u : Unit {0}} → a ≡ Ok u → EventHere sheet line at end v → Running sheet w₀ h₀ at → StepDone units flags sheet line end v w₀ h₀ w (Ok (Some k))
       unfolding WalkedAs
       step_going t z g =
           let o = limits_kept l t sheet w in

@@ -1,7 +1,7 @@
 -- What the lines of the sheet, one after the other, and the end of the pass leave in work memory.
 use Rattle.std.specs.Prelude.{ℕ, ◌+◌, ◌≤◌, ◌≡◌, Bool, true, false, List, [], length, Option, None, Some, Result, Ok, Err}
 use Rattle.std.proofs.Math.Seq.{slice}
-use Rattle.rules.specs.Units.{NamedUnit}
+use Rattle.rules.specs.Input.{Context, Agrees, TextAgrees}
 use Rattle.rules.specs.Event.{Event}
 use Rattle.rules.specs.Finding.{Finding}
 use Rattle.rules.specs.State.{State, first_state, Step, going, refused, recipe, no_recipe, refusal}
@@ -50,22 +50,22 @@ pub record LineDone (f : State → Step) (sheet w₀ : List ℕ) (h₀ : Held) (
   pub sound : SoundStep w r
   pub fit : FitStep sheet w r
 
--- a line in a step, a line in any block, a line between blocks, any line; what the recipe's text is does not matter,
--- nor the units between blocks
-pub record InStep (us : List NamedUnit) (flags : ℕ) (sheet line : List ℕ) (e : Inside) (w₀ : List ℕ) (h₀ : Held) (w : List ℕ) (r : Result Held Reason) : Type 0 where
-  pub done : LineDone (rules.in_step_block us flags (inside_in line e) []) sheet w₀ h₀ w r
+-- a line in a step, a line in any block, a line between blocks, any line; in every context that agrees with what is lent: what
+-- its text is does not matter, nor its units between blocks
+pub record InStep (units : List ℕ) (flags : ℕ) (sheet line : List ℕ) (e : Inside) (w₀ : List ℕ) (h₀ : Held) (w : List ℕ) (r : Result Held Reason) : Type 0 where
+  pub at : (cx : Context) → Agrees units flags cx → LineDone (rules.in_step_block cx (inside_in line e) []) sheet w₀ h₀ w r
 
-unfoldable pub inside_now : List ℕ → List NamedUnit → ℕ → List ℕ → Inside → State → Step
-inside_now text us flags line e st = rules.on_inside text us flags (inside_in line e) st.place.block st
+unfoldable pub inside_now : Context → List ℕ → Inside → State → Step
+inside_now cx line e st = rules.on_inside cx (inside_in line e) st.place.block st
 
-pub record InsideDone (us : List NamedUnit) (flags : ℕ) (sheet line : List ℕ) (e : Inside) (w₀ : List ℕ) (h₀ : Held) (w : List ℕ) (r : Result Held Reason) : Type 0 where
-  pub at : (text : List ℕ) → LineDone (inside_now text us flags line e) sheet w₀ h₀ w r
+pub record InsideDone (units : List ℕ) (flags : ℕ) (sheet line : List ℕ) (e : Inside) (w₀ : List ℕ) (h₀ : Held) (w : List ℕ) (r : Result Held Reason) : Type 0 where
+  pub at : (cx : Context) → Agrees units flags cx → LineDone (inside_now cx line e) sheet w₀ h₀ w r
 
 pub record BetweenDone (flags : ℕ) (line : List ℕ) (b : Between) (w₀ : List ℕ) (h₀ : Held) (w : List ℕ) (h : Held) : Type 0 where
-  pub at : (text : List ℕ) (us : List NamedUnit) → Went (rules.on_between text us flags (between_in line b)) w₀ h₀ w h
+  pub at : (cx : Context) → cx.flags ≡ flags → Went (rules.on_between cx (between_in line b)) w₀ h₀ w h
 
-pub record EventDone (us : List NamedUnit) (flags : ℕ) (sheet line : List ℕ) (v : EventView) (w₀ : List ℕ) (h₀ : Held) (w : List ℕ) (r : Result Held Reason) : Type 0 where
-  pub at : (text : List ℕ) → LineDone (rules.on_event text us flags (event_in line v)) sheet w₀ h₀ w r
+pub record EventDone (units : List ℕ) (flags : ℕ) (sheet line : List ℕ) (v : EventView) (w₀ : List ℕ) (h₀ : Held) (w : List ℕ) (r : Result Held Reason) : Type 0 where
+  pub at : (cx : Context) → Agrees units flags cx → LineDone (rules.on_event cx (event_in line v)) sheet w₀ h₀ w r
 
 -- whether a view is of an `error` line
 pub record ErrorView (v : EventView) (r : Bool) : Type 0 where
@@ -79,19 +79,19 @@ left_if h (Ok true) = Ok (Some h)
 left_if h (Ok false) = Ok None
 left_if h (Err r) = Err r
 
-module _ (us : List NamedUnit) (flags : ℕ) (sheet line : List ℕ) (end : ℕ) (v : EventView) (w₀ : List ℕ) (h₀ : Held) (w : List ℕ) where
+module _ (units : List ℕ) (flags : ℕ) (sheet line : List ℕ) (end : ℕ) (v : EventView) (w₀ : List ℕ) (h₀ : Held) (w : List ℕ) where
   -- the pass goes on
   pub record WentOn (h : Held) : Type 0 where
-    pub is : (text : List ℕ) (number : ℕ) → blank_walk (rules.step text us flags number (event_in line v) (going (state_in sheet w₀ h₀))) ≡ going (state_in sheet w h)
+    pub is : (cx : Context) → Agrees units flags cx → (number : ℕ) → blank_walk (rules.step cx number (event_in line v) (going (state_in sheet w₀ h₀))) ≡ going (state_in sheet w h)
     pub running : Running sheet w h (end + 1)
 
   unfoldable pub WalkedAs : Result (Option Held) Reason → Type 0
   WalkedAs (Ok (Some h)) = WentOn h
   WalkedAs (Ok None) = is_error_event (event_in line v) ≡ true
-  WalkedAs (Err r) = (text : List ℕ) (number : ℕ) → blank_walk (rules.step text us flags number (event_in line v) (going (state_in sheet w₀ h₀))) ≡ refused (number_of r) number
+  WalkedAs (Err r) = (cx : Context) → Agrees units flags cx → (number : ℕ) → blank_walk (rules.step cx number (event_in line v) (going (state_in sheet w₀ h₀))) ≡ refused (number_of r) number
 
-pub record StepDone (us : List NamedUnit) (flags : ℕ) (sheet line : List ℕ) (end : ℕ) (v : EventView) (w₀ : List ℕ) (h₀ : Held) (w : List ℕ) (r : Result (Option Held) Reason) : Type 0 where
-  pub is : WalkedAs us flags sheet line end v w₀ h₀ w r
+pub record StepDone (units : List ℕ) (flags : ℕ) (sheet line : List ℕ) (end : ℕ) (v : EventView) (w₀ : List ℕ) (h₀ : Held) (w : List ℕ) (r : Result (Option Held) Reason) : Type 0 where
+  pub is : WalkedAs units flags sheet line end v w₀ h₀ w r
 
 -- ---- the end
 
@@ -106,24 +106,28 @@ pub record Finished (h : Held) (r : Result (Option Held) Refusal) : Type 0 where
 -- ---- the whole pass
 
 -- a recipe: the rules' state before the end, of which work memory holds what it keeps
-pub record RanRecipe (text : List ℕ) (us : List NamedUnit) (flags : ℕ) (sheet : List ℕ) (es : List Event) (w : List ℕ) (h : Held) : Type 0 where
+pub record RanRecipe (cx : Context) (sheet : List ℕ) (es : List Event) (w : List ℕ) (h : Held) : Type 0 where
   pub state : State
-  pub walked : walk text us flags 1 (going first_state) es ≡ going state
-  pub is : parse_events text us flags es ≡ recipe (ended state)
+  pub walked : walk cx 1 (going first_state) es ≡ going state
+  pub is : parse_events cx es ≡ recipe (ended state)
   pub memory : state_in sheet w h ≡ blank state
   pub kept : Kept sheet w h
   pub counted : Counted (length sheet) (state_in sheet w h)
 
 -- no recipe: an `error` line
-pub record RanFailed (text : List ℕ) (us : List NamedUnit) (flags : ℕ) (es : List Event) : Type 0 where
+pub record RanFailed (cx : Context) (es : List Event) : Type 0 where
   pub findings : List Finding
-  pub is : parse_events text us flags es ≡ no_recipe findings
+  pub is : parse_events cx es ≡ no_recipe findings
 
-unfoldable pub RanBy : List ℕ → List NamedUnit → ℕ → List ℕ → List Event → List ℕ → Result (Option Held) Refusal → Type 0
-RanBy text us flags sheet es w (Ok (Some h)) = RanRecipe text us flags sheet es w h
-RanBy text us flags sheet es w (Ok None) = RanFailed text us flags es
-RanBy text us flags sheet es w (Err f) = parse_events text us flags es ≡ refusal (number_of f.reason) f.line
+unfoldable pub RanBy : Context → List ℕ → List Event → List ℕ → Result (Option Held) Refusal → Type 0
+RanBy cx sheet es w (Ok (Some h)) = RanRecipe cx sheet es w h
+RanBy cx sheet es w (Ok None) = RanFailed cx es
+RanBy cx sheet es w (Err f) = parse_events cx es ≡ refusal (number_of f.reason) f.line
 
-pub record RanAs (us : List NamedUnit) (flags : ℕ) (sheet text : List ℕ) (es : List Event) (w₀ w : List ℕ) (r : Result (Option Held) Refusal) : Type 0 where
-  pub is : RanBy text us flags sheet es w r
+-- in every context that agrees with what is lent
+pub record Ran (text units : List ℕ) (flags : ℕ) (sheet : List ℕ) (es : List Event) (w : List ℕ) (r : Result (Option Held) Refusal) : Type 0 where
+  pub at : (cx : Context) → TextAgrees text units flags cx → RanBy cx sheet es w r
+
+pub record RanAs (text units : List ℕ) (flags : ℕ) (sheet : List ℕ) (es : List Event) (w₀ w : List ℕ) (r : Result (Option Held) Refusal) : Type 0 where
+  pub is : Ran text units flags sheet es w r
   pub long : length w ≡ length w₀

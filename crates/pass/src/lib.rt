@@ -2,8 +2,7 @@
 #![tactic(auto)]
 
 ghost use Rattle.std.specs.Prelude.{◌≡◌, ◌≤◌, ◌<◌, length};
-ghost use Rattle.rules.specs.Units.{read_units};
-ghost use Rattle.rules.specs.Answer.{units_or, events_or, read_sheet};
+ghost use Rattle.rules.specs.Answer.{events_or, read_sheet};
 ghost use Rattle.events.specs.Views.{BetweenWithin};
 ghost use Rattle.events.specs.declared.EventView.TheVariants as event;
 ghost use Rattle.events.specs.declared.Inside.TheVariants as inside;
@@ -11,7 +10,7 @@ ghost use Rattle.model.specs.Memory.{first_held};
 ghost use Rattle.unit_checks.specs.Codes.{CodesKept};
 ghost use Rattle.blocks.specs.Lined.{left};
 ghost use Rattle.component_lines.specs.Lines.{ComponentDone};
-ghost use Rattle.pass.specs.Walks.{EventHere, Running, InStep, InsideDone, BetweenDone, EventDone, ErrorView, left_if, StepDone, Finished, RanBy, RanAs};
+ghost use Rattle.pass.specs.Walks.{EventHere, Running, InStep, InsideDone, BetweenDone, EventDone, ErrorView, left_if, StepDone, Finished, Ran, RanAs};
 ghost use Rattle.model.specs.declared.layout.TheConstants.{MOST_FINDINGS, STATE_WORDS};
 
 use events::{Between, ComponentEvent, EventView, Inside, Severity};
@@ -34,7 +33,7 @@ fn on_component(
     memory: &mut Memory,
 ) -> Result<(), Reason>
     requires { EventHere sheet.now line.now at end (event.Inside (inside.Component c)) × Running sheet.now memory.old.words.now memory.old.held at × CodesKept units.now.lines.now sheet.now codes.old }
-    ensures done { ComponentDone (units_or (read_units units.now.lines.now)) flags sheet.now line.now c memory.old.words.now memory.old.held memory.new.words.now (left memory.new.held result) }
+    ensures done { ComponentDone units.now.lines.now flags sheet.now line.now c memory.old.words.now memory.old.held memory.new.words.now (left memory.new.held result) }
     ensures codes { CodesKept units.now.lines.now sheet.now codes.new }
     ensures lent { memory.new.words.ghost_name ≡ memory.old.words.ghost_name }
 {
@@ -65,7 +64,7 @@ fn in_step_block(
     memory: &mut Memory,
 ) -> Result<(), Reason>
     requires { EventHere sheet.now line.now at end (event.Inside e) × Running sheet.now memory.old.words.now memory.old.held at × CodesKept units.now.lines.now sheet.now codes.old }
-    ensures done { InStep (units_or (read_units units.now.lines.now)) flags sheet.now line.now e memory.old.words.now memory.old.held memory.new.words.now (left memory.new.held result) }
+    ensures done { InStep units.now.lines.now flags sheet.now line.now e memory.old.words.now memory.old.held memory.new.words.now (left memory.new.held result) }
     ensures codes { CodesKept units.now.lines.now sheet.now codes.new }
     ensures lent { memory.new.words.ghost_name ≡ memory.old.words.ghost_name }
 {
@@ -92,7 +91,7 @@ fn on_inside(
     memory: &mut Memory,
 ) -> Result<(), Reason>
     requires { EventHere sheet.now line.now at end (event.Inside e) × Running sheet.now memory.old.words.now memory.old.held at × CodesKept units.now.lines.now sheet.now codes.old }
-    ensures done { InsideDone (units_or (read_units units.now.lines.now)) flags sheet.now line.now e memory.old.words.now memory.old.held memory.new.words.now (left memory.new.held result) }
+    ensures done { InsideDone units.now.lines.now flags sheet.now line.now e memory.old.words.now memory.old.held memory.new.words.now (left memory.new.held result) }
     ensures codes { CodesKept units.now.lines.now sheet.now codes.new }
     ensures lent { memory.new.words.ghost_name ≡ memory.old.words.ghost_name }
 {
@@ -130,7 +129,7 @@ fn on_event(
     memory: &mut Memory,
 ) -> Result<(), Reason>
     requires { EventHere sheet.now line.now at end v × Running sheet.now memory.old.words.now memory.old.held at × CodesKept units.now.lines.now sheet.now codes.old }
-    ensures done { EventDone (units_or (read_units units.now.lines.now)) flags sheet.now line.now v memory.old.words.now memory.old.held memory.new.words.now (left memory.new.held result) }
+    ensures done { EventDone units.now.lines.now flags sheet.now line.now v memory.old.words.now memory.old.held memory.new.words.now (left memory.new.held result) }
     ensures codes { CodesKept units.now.lines.now sheet.now codes.new }
     ensures lent { memory.new.words.ghost_name ≡ memory.old.words.ghost_name }
 {
@@ -170,7 +169,7 @@ fn step(
     memory: &mut Memory,
 ) -> Result<bool, Reason>
     requires { EventHere sheet.now line.now at end v × Running sheet.now memory.old.words.now memory.old.held at × CodesKept units.now.lines.now sheet.now codes.old }
-    ensures done { StepDone (units_or (read_units units.now.lines.now)) flags sheet.now line.now end v memory.old.words.now memory.old.held memory.new.words.now (left_if memory.new.held result) }
+    ensures done { StepDone units.now.lines.now flags sheet.now line.now end v memory.old.words.now memory.old.held memory.new.words.now (left_if memory.new.held result) }
     ensures codes { CodesKept units.now.lines.now sheet.now codes.new }
     ensures lent { memory.new.words.ghost_name ≡ memory.old.words.ghost_name }
 {
@@ -202,7 +201,7 @@ fn parse_events(
     memory: &mut Memory,
 ) -> Result<Option<Held>, Refusal>
     requires { (length sheet.now.bytes.now ≤ 65536) × (memory.old.held ≡ first_held) }
-    ensures done { RanBy sheet.now.text.now (units_or (read_units units.now.lines.now)) flags sheet.now.bytes.now (events_or (read_sheet sheet.now.text.now sheet.now.bytes.now)) memory.new.words.now result }
+    ensures done { Ran sheet.now.text.now units.now.lines.now flags sheet.now.bytes.now (events_or (read_sheet sheet.now.text.now sheet.now.bytes.now)) memory.new.words.now result }
     ensures lent { memory.new.words.ghost_name ≡ memory.old.words.ghost_name }
 {
     // `codes` keeps what an earlier line's unit is, so that each is looked up once.
@@ -252,7 +251,7 @@ pub fn run(
     words: &mut [u32],
 ) -> Result<Option<Held>, Refusal>
     requires { (length sheet.now.bytes.now ≤ 65536) × (STATE_WORDS ≤ length words.old) }
-    ensures { RanAs (units_or (read_units units.now.lines.now)) flags sheet.now.bytes.now sheet.now.text.now (events_or (read_sheet sheet.now.text.now sheet.now.bytes.now)) words.old words.new result }
+    ensures { RanAs sheet.now.text.now units.now.lines.now flags sheet.now.bytes.now (events_or (read_sheet sheet.now.text.now sheet.now.bytes.now)) words.old words.new result }
 {
     let mut memory = Memory {
         words,

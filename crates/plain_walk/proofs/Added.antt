@@ -6,9 +6,9 @@ use mathlib.Core.Bool.{Bool, true, false}
 use Rattle.std.specs.Prelude.{Option, None, Some}
 use native.Mathlib.Omega.{arith}
 use lib.ListN.{length}
+use Rattle.rules.specs.Input.{Context}
 use Rattle.rules.specs.Basic.{pick, each}
 use Rattle.rules.specs.Event.{Component, Intermediate, ingredient_event, cookware_event}
-use Rattle.rules.specs.Units.{NamedUnit}
 use Rattle.rules.specs.Model.{Kind, ingredient, cookware, Entry, Item}
 use Rattle.rules.specs.State.{State, set_place, set_block, set_kept, set_tables, table_of, set_table, report, over_limits, next, stop}
 use Rattle.rules.specs.Components.{Made, made_by_name, make_ingredient, make_cookware, intermediate_fault, pushed, refers_to_reference}
@@ -30,8 +30,8 @@ unfolding push_component push_items set_table set_tables table_of report set_blo
 push_table ingredient m items st = refl
 push_table cookware m items st = refl
 
-module _ (units : List NamedUnit) (flags : ℕ) where
-  made_pushed : (k : Kind) (m : Made) (items : List Item) (st after : State) → on_made units flags k m items st ≡ next after → table_of k after ≡ pushed m (table_of k st)
+module _ (cx : Context) where
+  made_pushed : (k : Kind) (m : Made) (items : List Item) (st after : State) → on_made k m items st ≡ next after → table_of k after ≡ pushed m (table_of k st)
   unfolding on_made unless_chained
   made_pushed k m items st after = go (refers_to_reference m.refers_to) (over_limits (push_component k m items st))
     where
@@ -41,32 +41,32 @@ module _ (units : List NamedUnit) (flags : ℕ) where
       go false c q = ap (table_of k) (sym (next_inj q)) ∙ push_table k m items st
 
   -- a line without REF has no intermediate reference (15)
-  pub ingredient_pushed : (c : Component) (i : Option Intermediate) (items : List Item) (st after : State) → on_component units flags (ingredient_event c i) items st ≡ next after
-      → c.modifiers.ref ≡ false → table_of ingredient after ≡ pushed (made_by_name units flags ingredient c st) (table_of ingredient st)
+  pub ingredient_pushed : (c : Component) (i : Option Intermediate) (items : List Item) (st after : State) → on_component cx (ingredient_event c i) items st ≡ next after
+      → c.modifiers.ref ≡ false → table_of ingredient after ≡ pushed (made_by_name cx.units cx.flags ingredient c st) (table_of ingredient st)
   unfolding on_component unless_fault intermediate_fault make_ingredient
-  ingredient_pushed c None items st after q r = made_pushed ingredient (made_by_name units flags ingredient c st) items st after q
+  ingredient_pushed c None items st after q r = made_pushed ingredient (made_by_name cx.units cx.flags ingredient c st) items st after q
   ingredient_pushed c (Some i) items st after q r = no_step (rw r at q)
 
-  pub ingredient_refused : {P : Type 0} (c : Component) (i : Intermediate) (items : List Item) (st after : State) → on_component units flags (ingredient_event c (Some i)) items st ≡ next after
+  pub ingredient_refused : {P : Type 0} (c : Component) (i : Intermediate) (items : List Item) (st after : State) → on_component cx (ingredient_event c (Some i)) items st ≡ next after
       → c.modifiers.ref ≡ false → P
   unfolding on_component unless_fault intermediate_fault
   ingredient_refused c i items st after q r = no_step (rw r at q)
 
   -- with REF or without
-  pub ingredient_made : (c : Component) (i : Option Intermediate) (items : List Item) (st after : State) → on_component units flags (ingredient_event c i) items st ≡ next after
-      → table_of ingredient after ≡ pushed (make_ingredient units flags c i st) (table_of ingredient st)
+  pub ingredient_made : (c : Component) (i : Option Intermediate) (items : List Item) (st after : State) → on_component cx (ingredient_event c i) items st ≡ next after
+      → table_of ingredient after ≡ pushed (make_ingredient cx c i st) (table_of ingredient st)
   unfolding on_component unless_fault
   ingredient_made c i items st after = go (intermediate_fault c i)
     where
-      go : (o : Option ℕ) → unless_fault o (on_made units flags ingredient (make_ingredient units flags c i st) items st) ≡ next after
-          → table_of ingredient after ≡ pushed (make_ingredient units flags c i st) (table_of ingredient st)
-      go None q = made_pushed ingredient (make_ingredient units flags c i st) items st after q
+      go : (o : Option ℕ) → unless_fault o (on_made ingredient (make_ingredient cx c i st) items st) ≡ next after
+          → table_of ingredient after ≡ pushed (make_ingredient cx c i st) (table_of ingredient st)
+      go None q = made_pushed ingredient (make_ingredient cx c i st) items st after q
       go (Some n) q = no_step q
 
-  pub cookware_pushed : (c : Component) (items : List Item) (st after : State) → on_component units flags (cookware_event c) items st ≡ next after
-      → table_of cookware after ≡ pushed (made_by_name units flags cookware c st) (table_of cookware st)
+  pub cookware_pushed : (c : Component) (items : List Item) (st after : State) → on_component cx (cookware_event c) items st ≡ next after
+      → table_of cookware after ≡ pushed (made_by_name cx.units cx.flags cookware c st) (table_of cookware st)
   unfolding on_component make_cookware
-  cookware_pushed c items st after q = made_pushed cookware (made_by_name units flags cookware c st) items st after q
+  cookware_pushed c items st after q = made_pushed cookware (made_by_name cx.units cx.flags cookware c st) items st after q
 
 -- ---- the rows at the end
 

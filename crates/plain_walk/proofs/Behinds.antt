@@ -4,8 +4,8 @@ use mathlib.Core.Path.{◌≡◌, refl, sym, ap, ◌∙◌, subst}
 use mathlib.Core.List.{List}
 use native.Mathlib.Omega.{arith}
 use lib.ListN.{length}
+use Rattle.rules.specs.Input.{Context}
 use Rattle.rules.specs.Event.{Event, meta_event, section_event, start_event, end_event, text_event, component_event, ComponentEvent, ingredient_event, cookware_event, timer_event, between, inside, parser_event}
-use Rattle.rules.specs.Units.{NamedUnit}
 use Rattle.rules.specs.Model.{Kind, ingredient, cookware}
 use Rattle.rules.specs.State.{State, first_state, table_of, next}
 use Rattle.rules.specs.Pass.{on_event}
@@ -68,18 +68,18 @@ next_inline flags (inside (text_event t)) n f = refl
 next_inline flags (inside (component_event c)) n f = component_inline c f.block n f
 next_inline flags (parser_event s x) n f = refl
 
-module _ (text : List ℕ) (us : List NamedUnit) (flags : ℕ) where
-  next_bare : (e : Event) (st after : State) → on_event text us flags e st ≡ next after → with_inline 0 (next_follow flags e (with_inline 0 (follow_of st))) ≡ with_inline 0 (follow_of after)
+module _ (cx : Context) where
+  next_bare : (e : Event) (st after : State) → on_event cx e st ≡ next after → with_inline 0 (next_follow cx.flags e (with_inline 0 (follow_of st))) ≡ with_inline 0 (follow_of after)
   unfolding with_inline
-  next_bare e st after q = ap (with_inline 0) (next_inline flags e 0 (follow_of st)) ∙ sym (ap (with_inline 0) (line_grows text us flags e st after q).follow)
+  next_bare e st after q = ap (with_inline 0) (next_inline cx.flags e 0 (follow_of st)) ∙ sym (ap (with_inline 0) (line_grows cx e st after q).follow)
 
-  pub behind_next : {line : List ℕ} {v : EventView} {st after : State} {f r : Follow} → on_event text us flags (event_in line v) st ≡ next after → Behind st f → Followed flags line v 0 f r → Behind after r
+  pub behind_next : {line : List ℕ} {v : EventView} {st after : State} {f r : Follow} → on_event cx (event_in line v) st ≡ next after → Behind st f → Followed cx.flags line v 0 f r → Behind after r
   unfolding with_inline
   behind_next {line} {v} {st} {after} q b z =
-      record { is = z.is ∙ (ap (λ (x : Follow). with_inline (x.inline + 0) (next_follow flags (event_in line v) x)) b.is ∙ next_bare (event_in line v) st after q) }
+      record { is = z.is ∙ (ap (λ (x : Follow). with_inline (x.inline + 0) (next_follow cx.flags (event_in line v) x)) b.is ∙ next_bare (event_in line v) st after q) }
 
   -- the small state has room for one line more
-  pub behind_room : {number : ℕ} {st final : State} {es : List Event} {f : Follow} → Walking text us flags number st final es → Behind st f → number ≤ 100000 → Room f
+  pub behind_room : {number : ℕ} {st final : State} {es : List Event} {f : Follow} → Walking cx number st final es → Behind st f → number ≤ 100000 → Room f
   unfolding with_inline
   behind_room {number} w b h =
       let c = w.counts in

@@ -6,9 +6,9 @@ use Rattle.std.specs.Prelude.{Option, None, Some}
 use native.Mathlib.Omega.{arith}
 use native.Mathlib.Numerals.{add-one}
 use lib.ListN.{length, take, drop}
+use Rattle.rules.specs.Input.{Context}
 use Rattle.rules.specs.Sheet.{lines}
 use Rattle.rules.specs.Event.{Event}
-use Rattle.rules.specs.Units.{NamedUnit}
 use Rattle.rules.specs.Write.{write_line}
 use Rattle.rules.specs.Model.{Kind}
 use Rattle.rules.specs.State.{State, first_state, table_of, next, going}
@@ -31,7 +31,7 @@ use Rattle.following.proofs.Walking.{Walking, Went, walking_first, walking_next}
 use Rattle.plain_walk.specs.Rows.{fault_in, RowFor}
 use Rattle.plain_walk.specs.Lines.{Behind, plain_in}
 use Rattle.plain_walk.specs.Becomes.{Few}
-use Rattle.plain_walk.specs.Walk.{Final, PassDone}
+use Rattle.plain_walk.specs.Walk.{Final, Left}
 use Rattle.plain_walk.proofs.Grown.{Grown, walk_grown}
 use Rattle.plain_walk.proofs.Same.{plain_same, fault_same, row_there, table_most}
 use Rattle.plain_walk.proofs.Behinds.{behind_first, behind_next, behind_room, behind_few}
@@ -46,16 +46,16 @@ sheet_both (e ∷ es) fs = ap (λ (x : List ℕ). write_line e ++ x) (sheet_both
 next_inj : {a b : State} → next a ≡ next b → a ≡ b
 next_inj q = cc
 
-module _ (text : List ℕ) (us : List NamedUnit) (flags : ℕ) (sheet w : List ℕ) (h : Held) where
+module _ (text : List ℕ) (cx : Context) (sheet w : List ℕ) (h : Held) where
   abbrev trace : ℕ → State → List Event → List Traced
-  trace number st es = trace_from text us flags number (going st) es
+  trace number st es = trace_from cx number (going st) es
 
   abbrev whole : List Traced
   whole = trace 1 first_state (events_or (read_sheet text sheet))
 
   -- the bytes of some lines' form
   abbrev form : List Traced → List ℕ
-  form ts = sheet_of (plain_events text us flags ts)
+  form ts = sheet_of (plain_events cx ts)
 
   -- the lines before `at` have no fault, and their form is written in a buffer that held o₀; f follows the walk
   pub record Forming (o₀ : List ℕ) (at number : ℕ) (f : Follow) (o : List ℕ) (n : ℕ) : Type 0 where
@@ -64,15 +64,15 @@ module _ (text : List ℕ) (us : List NamedUnit) (flags : ℕ) (sheet w : List �
     pub st : State
     pub es : List Event
     pub rest : Rest text sheet at number es
-    pub walking : Walking text us flags number st final es
+    pub walking : Walking cx number st final es
     pub low : number ≤ at + 1
     pub behind : Behind st f
     pub written : List ℕ
     pub put : Put written o₀ 0 o n
     pub is : written ++ form (trace number st es) ≡ form whole
-    pub clear : (a : Answer) → unless_faulty us flags a whole ≡ unless_faulty us flags a (trace number st es)
+    pub clear : (a : Answer) → unless_faulty cx a whole ≡ unless_faulty cx a (trace number st es)
 
-  pub forming_starts : {o₀ : List ℕ} → PassDone text us flags sheet w h → read_sheet text sheet ≡ events (events_or (read_sheet text sheet)) → Put [] o₀ 0 o₀ 0 → Forming o₀ 0 1 first_follow o₀ 0
+  pub forming_starts : {o₀ : List ℕ} → Left cx text sheet w h → read_sheet text sheet ≡ events (events_or (read_sheet text sheet)) → Put [] o₀ 0 o₀ 0 → Forming o₀ 0 1 first_follow o₀ 0
   unfolding read_sheet
   forming_starts c q p =
       record {
@@ -81,7 +81,7 @@ module _ (text : List ℕ) (us : List NamedUnit) (flags : ℕ) (sheet w : List �
         st = first_state;
         es = events_or (read_sheet text sheet);
         rest = record { is = q };
-        walking = walking_first text us flags c.walked;
+        walking = walking_first cx c.walked;
         low = omega arith;
         behind = behind_first;
         written = [];
@@ -92,12 +92,12 @@ module _ (text : List ℕ) (us : List NamedUnit) (flags : ℕ) (sheet w : List �
 
   module _ {o₀ : List ℕ} {at number : ℕ} {f : Follow} {o : List ℕ} {n : ℕ} (d : Forming o₀ at number f o n) where
     pub forming_room : at < 100000 → Room f
-    forming_room m = behind_room text us flags d.walking d.behind (omega (arith, d.low))
+    forming_room m = behind_room cx d.walking d.behind (omega (arith, d.low))
 
     -- there are no more components yet than at the end
     pub forming_few : Few f
     forming_few =
-        behind_few h d.behind (λ k. table_most k d.st d.memory (walk_grown text us flags d.es number d.st d.final d.walking.goes k)) d.memory.ingredients d.memory.cookware
+        behind_few h d.behind (λ k. table_most k d.st d.memory (walk_grown cx d.es number d.st d.final d.walking.goes k)) d.memory.ingredients d.memory.cookware
 
     -- no line is left
     none_left : length sheet ≤ at → trace number d.st d.es ≡ []
@@ -109,9 +109,9 @@ module _ (text : List ℕ) (us : List NamedUnit) (flags : ℕ) (sheet w : List �
     forming_form m =
         text_is (form whole) (sym d.is ∙ (ap (λ (ts : List Traced). d.written ++ form ts) (none_left m) ∙ append-nil d.written)) d.put
 
-    pub forming_clear : length sheet ≤ at → (a : Answer) → unless_faulty us flags a whole ≡ a
+    pub forming_clear : length sheet ≤ at → (a : Answer) → unless_faulty cx a whole ≡ a
     unfolding unless_faulty
-    forming_clear m a = d.clear a ∙ ap (unless_faulty us flags a) (none_left m)
+    forming_clear m a = d.clear a ∙ ap (unless_faulty cx a) (none_left m)
 
     module _ {r : Option ℕ} (l : LineAt sheet at r) where
       -- every line has its LF
@@ -125,41 +125,41 @@ module _ (text : List ℕ) (us : List NamedUnit) (flags : ℕ) (sheet w : List �
         first : First event (read_from text (length text) (number + 1) (lines (drop (end + 1) sheet))) d.es
         first = rest_parsed d.rest l q k.is
 
-        walking : Walking text us flags number d.st d.final (event ∷ first.others)
-        walking = subst (λ (es : List Event). Walking text us flags number d.st d.final es) first.is d.walking
+        walking : Walking cx number d.st d.final (event ∷ first.others)
+        walking = subst (λ (es : List Event). Walking cx number d.st d.final es) first.is d.walking
 
-        went : Went text us flags number event d.st d.final first.others
-        went = walking_next text us flags walking
+        went : Went cx number event d.st d.final first.others
+        went = walking_next cx walking
 
         grown : (x : Kind) → Grown (table_of x went.after) (table_of x d.final)
-        grown x = walk_grown text us flags first.others (number + 1) went.after d.final went.then.goes x
+        grown x = walk_grown cx first.others (number + 1) went.after d.final went.then.goes x
 
         -- the line and the others in the trace
         trace_next : trace number d.st d.es ≡ record { line = number; state = d.st; event = event } ∷ trace (number + 1) went.after first.others
         trace_next =
-            let t : Takes text us flags number event d.st = takes text us flags number event first.others d.st d.final walking.goes in
+            let t : Takes cx number event d.st = takes cx number event first.others d.st d.final walking.goes in
             let e : t.after ≡ went.after = next_inj (sym t.event ∙ went.event) in
             ap (trace number d.st) first.is
-            ∙ (trace_on text us flags number event first.others d.st t
+            ∙ (trace_on cx number event first.others d.st t
             ∙ rw (add-one number) (ap (λ (s : State). record { line = number; state = d.st; event = event } ∷ trace (suc number) s first.others) e))
 
-        fault_is : plain_fault us flags d.st event ≡ fault_in w sheet event f
-        fault_is = fault_same text us flags sheet w h d.st went.after d.final d.memory grown d.behind event went.event
+        fault_is : plain_fault cx d.st event ≡ fault_in w sheet event f
+        fault_is = fault_same cx sheet w h d.st went.after d.final d.memory grown d.behind event went.event
 
         -- the line's component has its row
         pub forming_row : RowFor event f h
-        forming_row = row_there text us flags sheet w h d.st went.after d.final d.memory grown d.behind event went.event
+        forming_row = row_there cx sheet w h d.st went.after d.final d.memory grown d.behind event went.event
 
         -- the first fault
-        pub forming_fault : (m : ℕ) → fault_in w sheet event f ≡ Some m → (a : Answer) → unless_faulty us flags a whole ≡ declined m number
+        pub forming_fault : (m : ℕ) → fault_in w sheet event f ≡ Some m → (a : Answer) → unless_faulty cx a whole ≡ declined m number
         unfolding unless_faulty fault_or
         forming_fault m e a =
-            d.clear a ∙ (ap (unless_faulty us flags a) trace_next
-            ∙ ap (λ (x : Option ℕ). fault_or number x (unless_faulty us flags a (trace (number + 1) went.after first.others))) (fault_is ∙ e))
+            d.clear a ∙ (ap (unless_faulty cx a) trace_next
+            ∙ ap (λ (x : Option ℕ). fault_or number x (unless_faulty cx a (trace (number + 1) went.after first.others))) (fault_is ∙ e))
 
         -- one line on
-        pub forming_next : {g : Follow} {o' : List ℕ} {n' : ℕ} → at ≤ end → fault_in w sheet event f ≡ None → Put (sheet_of (plain_in text w flags event f)) o n o' n'
-            → Followed flags (take (end - at) (drop at sheet)) v 0 f g → Forming o₀ (end + 1) (number + 1) g o' n'
+        pub forming_next : {g : Follow} {o' : List ℕ} {n' : ℕ} → at ≤ end → fault_in w sheet event f ≡ None → Put (sheet_of (plain_in cx.text w cx.flags event f)) o n o' n'
+            → Followed cx.flags (take (end - at) (drop at sheet)) v 0 f g → Forming o₀ (end + 1) (number + 1) g o' n'
         forming_next {g} {o'} {n'} m e p z =
             record {
               final = d.final;
@@ -169,18 +169,18 @@ module _ (text : List ℕ) (us : List NamedUnit) (flags : ℕ) (sheet w : List �
               rest = record { is = first.next };
               walking = went.then;
               low = omega (arith, d.low);
-              behind = behind_next text us flags went.event d.behind z;
-              written = d.written ++ sheet_of (plain_in text w flags event f);
+              behind = behind_next cx went.event d.behind z;
+              written = d.written ++ sheet_of (plain_in cx.text w cx.flags event f);
               put = put_seq d.put p;
               is =
-                  append_assoc d.written (sheet_of (plain_in text w flags event f)) (form (trace (number + 1) went.after first.others))
+                  append_assoc d.written (sheet_of (plain_in cx.text w cx.flags event f)) (form (trace (number + 1) went.after first.others))
                   ∙ (ap (λ (x : List ℕ). d.written ++ x) (sym line_form) ∙ d.is);
-              clear = λ a. d.clear a ∙ (ap (unless_faulty us flags a) trace_next ∙ unfold unless_faulty fault_or in ap (λ (x : Option ℕ). fault_or number x (unless_faulty us flags a (trace (number + 1) went.after first.others))) (fault_is ∙ e));
+              clear = λ a. d.clear a ∙ (ap (unless_faulty cx a) trace_next ∙ unfold unless_faulty fault_or in ap (λ (x : Option ℕ). fault_or number x (unless_faulty cx a (trace (number + 1) went.after first.others))) (fault_is ∙ e));
             }
           where
-            line_form : form (trace number d.st d.es) ≡ sheet_of (plain_in text w flags event f) ++ form (trace (number + 1) went.after first.others)
+            line_form : form (trace number d.st d.es) ≡ sheet_of (plain_in cx.text w cx.flags event f) ++ form (trace (number + 1) went.after first.others)
             line_form =
                 ap form trace_next
-                ∙ unfold plain_events in (sheet_both (plain_event text us flags d.st event) (plain_events text us flags (trace (number + 1) went.after first.others))
+                ∙ unfold plain_events in (sheet_both (plain_event cx d.st event) (plain_events cx (trace (number + 1) went.after first.others))
                 ∙ ap (λ (x : List Event). sheet_of x ++ form (trace (number + 1) went.after first.others))
-                (plain_same text us flags sheet w h d.st went.after d.final d.memory grown d.behind event went.event))
+                (plain_same cx sheet w h d.st went.after d.final d.memory grown d.behind event went.event))

@@ -6,9 +6,9 @@ use mathlib.Core.Bool.{Bool, true, false}
 use Rattle.std.specs.Prelude.{Option, None, Some}
 use lib.Dec.{eqb}
 use lib.ListN.{length}
+use Rattle.rules.specs.Input.{Context}
 use Rattle.rules.specs.Basic.{pick, each, on_some}
 use Rattle.rules.specs.Event.{Event}
-use Rattle.rules.specs.Units.{NamedUnit}
 use Rattle.rules.specs.Model.{Kind, Relation, definition, reference, Entry, set_relation}
 use Rattle.rules.specs.Reference.{Earlier, fits, same_name_in, referred_by, set_referenced_from}
 use Rattle.rules.specs.State.{State, table_of, going}
@@ -72,9 +72,9 @@ pub record Grown (es fs : List Entry) : Type 0 where
   pub is : each bare fs ≡ more ++ each bare es
 
 -- a table grows by nothing, from any time to a later one, and by a component
-grows : (units : List NamedUnit) (flags : ℕ) → Onward units flags (λ k es fs. Grown es fs)
+grows : (cx : Context) → Onward cx (λ k es fs. Grown es fs)
 unfolding pushed each
-grows units flags =
+grows cx =
     record {
       same = λ k es. record { more = []; is = refl };
       further = λ {k} {es} {fs} {gs} f g.
@@ -84,6 +84,6 @@ grows units flags =
     }
 
 -- from any state of a walk that goes on to its end
-pub walk_grown : (text : List ℕ) (units : List NamedUnit) (flags : ℕ) (es : List Event) (line : ℕ) (st final : State) → walk text units flags line (going st) es ≡ going final
+pub walk_grown : (cx : Context) (es : List Event) (line : ℕ) (st final : State) → walk cx line (going st) es ≡ going final
     → (k : Kind) → Grown (table_of k st) (table_of k final)
-walk_grown text units flags es line st final q k = walk_related units flags (λ k es fs. Grown es fs) (grows units flags) text es line st final q k
+walk_grown cx es line st final q k = walk_related cx (λ k es fs. Grown es fs) (grows cx) es line st final q k

@@ -6,10 +6,10 @@ use mathlib.Core.Bool.{Bool, true, false}
 use Rattle.std.specs.Prelude.{Option, None, Some}
 use native.Mathlib.Omega.{arith}
 use lib.ListN.{length}
+use Rattle.rules.specs.Input.{Context}
 use Rattle.rules.specs.Basic.{pick, on_some}
 use Rattle.rules.specs.Unicode.{fold_name}
 use Rattle.rules.specs.Event.{Component}
-use Rattle.rules.specs.Units.{NamedUnit}
 use Rattle.rules.specs.Model.{Kind, ingredient, cookware, target_of, to_ingredient, to_cookware, to_step, to_section, Relation, definition, reference, Entry, entry_with, entry_of, set_relation, set_modifiers}
 use Rattle.rules.specs.Reference.{Earlier, fits, same_name_in, same_name_of, as_referring}
 use Rattle.rules.specs.State.{State, table_of}
@@ -97,9 +97,9 @@ fault_as_lem new table (Some d) = fault_by d (same_name_of true new table)
 
 -- ---- a component with its row
 
-module _ (units : List NamedUnit) (flags : ℕ) (k : Kind) (c : Component) (st : State) (sheet rs : List ℕ) (by : ℕ → List ℕ) (n : ℕ) where
+module _ (cx : Context) (k : Kind) (c : Component) (st : State) (sheet rs : List ℕ) (by : ℕ → List ℕ) (n : ℕ) where
   abbrev made : Made
-  made = made_by_name units flags k c st
+  made = made_by_name cx.units cx.flags k c st
 
   abbrev at : ℕ
   at = length (table_of k st)
@@ -139,11 +139,11 @@ marked_as_lem c (Some d) = refl
 
 -- ---- any component's line: `to` is what it refers to
 
-module _ (units : List NamedUnit) (flags : ℕ) (k : Kind) (c : Component) (st : State) (sheet w : List ℕ) (by : ℕ → List ℕ) (n : ℕ) (to : Option Earlier) where
+module _ (cx : Context) (k : Kind) (c : Component) (st : State) (sheet w : List ℕ) (by : ℕ → List ℕ) (n : ℕ) (to : Option Earlier) where
   -- of a line without REF: its row, and that `to` is found by name
   pub record Named : Type 0 where
-    pub row : MadeRow k sheet (rows_in k w) by n (made_by_name units flags k c st) (table_of k st)
-    pub named : to ≡ (made_by_name units flags k c st).refers_to
+    pub row : MadeRow k sheet (rows_in k w) by n (made_by_name cx.units cx.flags k c st) (table_of k st)
+    pub named : to ≡ (made_by_name cx.units cx.flags k c st).refers_to
 
   module _ (h : c.modifiers.ref ≡ false → Named) where
     pub implicit_row_lem : on_some index_of (implicit_of c to) ≡ implicit_in w k c (length (table_of k st))
@@ -154,7 +154,7 @@ module _ (units : List NamedUnit) (flags : ℕ) (k : Kind) (c : Component) (st :
             → on_some index_of (pick b None to)
             ≡ pick b None (own_target (row_on (rows_in k w) (length (table_of k st))).relation.relation (row_on (rows_in k w) (length (table_of k st))).relation.index)
         go true q = unfold on_some in refl
-        go false q = ap (on_some index_of) (h q).named ∙ sym (refers_row units flags k c st sheet (rows_in k w) by n (h q).row)
+        go false q = ap (on_some index_of) (h q).named ∙ sym (refers_row cx k c st sheet (rows_in k w) by n (h q).row)
 
     pub marked_row : marked_if c (implicit_of c to) ≡ marked_as c (implicit_in w k c (length (table_of k st)))
     marked_row = marked_as_lem c (implicit_of c to) ∙ ap (marked_as c) implicit_row_lem
@@ -173,4 +173,4 @@ module _ (units : List NamedUnit) (flags : ℕ) (k : Kind) (c : Component) (st :
         go true q = unfold implicit_in implicit_row fault_as in rw q
         go false q =
             unfold last_row in
-            ap (fault_as (implicit_in w k c (length (table_of k st)))) (sym (last_row_lem units flags k c st sheet (rows_in k w) by n (h q).row z))
+            ap (fault_as (implicit_in w k c (length (table_of k st)))) (sym (last_row_lem cx k c st sheet (rows_in k w) by n (h q).row z))

@@ -10,7 +10,7 @@ use lib.ListN.{length, take, drop}
 use Rattle.rules.specs.Basic.{pick, is_some, all, lf}
 use Rattle.rules.specs.Sheet.{Lines, lines}
 use Rattle.rules.specs.Event.{Event, spans_of}
-use Rattle.rules.specs.Units.{NamedUnit}
+use Rattle.rules.specs.Input.{Context}
 use Rattle.rules.specs.Read.{parse_line}
 use Rattle.rules.specs.Model.{Kind, ingredient, cookware}
 use Rattle.rules.specs.State.{State}
@@ -45,7 +45,7 @@ use Rattle.plain_walk.specs.Rows.{RowOf, RowIn, RowFor}
 use Rattle.plain_walk.specs.Lines.{plain_in}
 use Rattle.plain_walk.specs.Faults.{RowNamed, ComponentReady, BlockReady, InsideReady, EventReady, LineFault}
 use Rattle.plain_walk.specs.Becomes.{PlainFit, Few, EventTold, PlainWritten}
-use Rattle.plain_walk.specs.Walk.{Final, PassDone, FormedAs, FormWritten}
+use Rattle.plain_walk.specs.Walk.{Final, Left, PassDone, FormedAs, FormWritten}
 use Rattle.plain_walk.specs.declared.Plain.{Plain}
 use Rattle.plain_walk.proofs.Behinds.{behind_none}
 use Rattle.plain_walk.proofs.Forming.{Forming, forming_starts, forming_room, forming_form, forming_clear, forming_cut, forming_row, forming_few, forming_fault, forming_next}
@@ -106,65 +106,80 @@ module _ {text bytes : List ℕ} {at number : ℕ} {es : List Event} (w : Rest t
 
 -- ---- the loop
 
--- what it carries, for the small state that the pass left
-pub record Looping (text : List ℕ) (us : List NamedUnit) (flags : ℕ) (sheet w o₀ : List ℕ) (at number : ℕ) (f : Follow) (o : List ℕ) (n : ℕ) : Type 0 where
-  pub held : Held
-  pub is : Forming text us flags sheet w held o₀ at number f o n
+-- what it carries: in the context that is known, and in every one
+pub record Looping (text : List ℕ) (flags : ℕ) (sheet w : List ℕ) (h : Held) (o₀ : List ℕ) (at number : ℕ) (f : Follow) (o : List ℕ) (n : ℕ) : Type 0 where
+  pub context : Context
+  pub here : Forming text context sheet w h o₀ at number f o n
+  pub by : (cx : Context) → cx.text ≡ text → cx.flags ≡ flags → Left cx text sheet w h → Forming text cx sheet w h o₀ at number f o n
+  pub same_text : context.text ≡ text
+  pub same_flags : context.flags ≡ flags
 
-pub form_starts : {text : List ℕ} {us : List NamedUnit} {flags : ℕ} {sheet w : List ℕ} {h : Held} {o₀ : List ℕ} {f : Follow} → f ≡ first_follow → PassDone text us flags sheet w h
-    → read_sheet text sheet ≡ events (events_or (read_sheet text sheet)) → Looping text us flags sheet w o₀ 0 1 f o₀ 0
-form_starts {text} {us} {flags} {sheet} {w} {h} {o₀} e c q =
-    record { held = h; is = subst (λ (x : Follow). Forming text us flags sheet w h o₀ 0 1 x o₀ 0) (sym e) (forming_starts text us flags sheet w h c q (put_none o₀)) }
+pub form_starts : {text : List ℕ} {flags : ℕ} {sheet w : List ℕ} {h : Held} {o₀ : List ℕ} {f : Follow} → f ≡ first_follow → PassDone text flags sheet w h
+    → read_sheet text sheet ≡ events (events_or (read_sheet text sheet)) → Looping text flags sheet w h o₀ 0 1 f o₀ 0
+form_starts {text} {flags} {sheet} {w} {h} {o₀} {f} e c q =
+    record { context = c.context; here = start c.context c.left; by = λ cx a b x. start cx x; same_text = c.same_text; same_flags = c.same_flags }
+  where
+    start : (cx : Context) → Left cx text sheet w h → Forming text cx sheet w h o₀ 0 1 f o₀ 0
+    start cx x = subst (λ (y : Follow). Forming text cx sheet w h o₀ 0 1 y o₀ 0) (sym e) (forming_starts text cx sheet w h x q (put_none o₀))
 
-module _ {text : List ℕ} {us : List NamedUnit} {flags : ℕ} {sheet w : List ℕ} {o₀ : List ℕ} {at number : ℕ} {f : Follow} {o : List ℕ} {n : ℕ} (d : Looping text us flags sheet w o₀ at number f o n) where
-  pub form_ends : length sheet ≤ at → FormWritten text us flags sheet o₀ o (Ok n)
+module _ {text : List ℕ} {flags : ℕ} {sheet w : List ℕ} {h : Held} {o₀ : List ℕ} {at number : ℕ} {f : Follow} {o : List ℕ} {n : ℕ} (d : Looping text flags sheet w h o₀ at number f o n) where
+  pub form_ends : length sheet ≤ at → FormWritten text flags sheet w h o₀ o (Ok n)
   unfolding FormedAs
-  form_ends m = record { is = (forming_clear text us flags sheet w d.held d.is m, forming_form text us flags sheet w d.held d.is m) }
+  form_ends m = record { is = λ cx a b x. let g = d.by cx a b x in (forming_clear text cx sheet w h g m, forming_form text cx sheet w h g m) }
 
   pub form_kept : length o ≡ length o₀
-  form_kept = keeps d.is.put
+  form_kept = keeps d.here.put
 
   pub form_number : number ≤ at + 1
-  form_number = d.is.low
+  form_number = d.here.low
 
   pub form_room : at < 100000 → Room f
-  form_room m = forming_room text us flags sheet w d.held d.is m
+  form_room m = forming_room text d.context sheet w h d.here m
 
   pub form_inline : f.inline + 0 ≤ 100000
-  form_inline = behind_none d.is.behind
+  form_inline = behind_none d.here.behind
 
   pub form_few : Few f
-  form_few = forming_few text us flags sheet w d.held d.is
+  form_few = forming_few text d.context sheet w h d.here
 
   module _ {r : Option ℕ} (l : LineAt sheet at r) where
     pub form_cut : {P : Type 0} → at < length sheet → r ≡ None → P
-    form_cut t q = forming_cut text us flags sheet w d.held d.is l t q
+    form_cut t q = forming_cut text d.context sheet w h d.here l t q
 
     module _ {end : ℕ} (q : r ≡ Some end) where
       pub form_line : (is_some (parse_line (take (end - at) (drop at sheet))) ≡ true) × Without lf (take (end - at) (drop at sheet))
-      form_line = (rest_some d.is.rest l q, no_lf_lem d.is.rest l q)
+      form_line = (rest_some d.here.rest l q, no_lf_lem d.here.rest l q)
 
       module _ {v : EventView} (k : KnownEvent (take (end - at) (drop at sheet)) v) where
         pub form_ready : EventReady sheet w v f
-        form_ready = ready_event d.is.memory (take (end - at) (drop at sheet)) v f (forming_row text us flags sheet w d.held d.is l q k)
+        form_ready = ready_event d.here.memory (take (end - at) (drop at sheet)) v f (forming_row text d.context sheet w h d.here l q k)
 
         pub form_fit : {p : Plain} → EventTold flags w (take (end - at) (drop at sheet)) v f p → PlainFit text (take (end - at) (drop at sheet)) p
-        form_fit t = t.fit text k.fields (line_spans d.is.rest l q (event_in (take (end - at) (drop at sheet)) v) k.is)
+        form_fit t = t.fit text k.fields (line_spans d.here.rest l q (event_in (take (end - at) (drop at sheet)) v) k.is)
 
         module _ {x : Result (Unit {0}) Reason} (g : LineFault sheet w v f x) where
-          pub form_fault : {m : Reason} → x ≡ Err m → {o' : List ℕ} → FormWritten text us flags sheet o₀ o' (Err (record { reason = m; line = number }))
+          pub form_fault : {m : Reason} → x ≡ Err m → {o' : List ℕ} → FormWritten text flags sheet w h o₀ o' (Err (record { reason = m; line = number }))
           unfolding FormedAs
           form_fault {m} e =
-              record { is = forming_fault text us flags sheet w d.held d.is l q k (number_of m) (sym (g.at (take (end - at) (drop at sheet))) ∙ ap number_told e) }
+              record { is = λ cx a b y. forming_fault text cx sheet w h (d.by cx a b y) l q k (number_of m) (sym (g.at (take (end - at) (drop at sheet))) ∙ ap number_told e) }
 
-          pub form_next : {u : Unit {0}} → x ≡ Ok u → {p : Plain} {y : Follow} {o' : List ℕ} {n' : ℕ} → EventTold flags w (take (end - at) (drop at sheet)) v f p
-              → PlainWritten text (take (end - at) (drop at sheet)) p o n o' n' → Followed flags (take (end - at) (drop at sheet)) v 0 f y → Looping text us flags sheet w o₀ (end + 1) (number + 1) y o' n'
-          form_next m t p z =
-              record {
-                held = d.held;
-                is =
-                    forming_next text us flags sheet w d.held d.is l q k (l.inside end q).0
-                    (sym (g.at (take (end - at) (drop at sheet))) ∙ ap number_told m)
-                    (text_is (sheet_of (plain_in text w flags (event_in (take (end - at) (drop at sheet)) v) f)) (ap sheet_of (sym (t.at text))) (p.put (event_in (take (end - at) (drop at sheet)) v) k.is (no_lf_lem d.is.rest l q)))
-                    z;
-              }
+          module _ {u : Unit {0}} (m : x ≡ Ok u) {p : Plain} {y : Follow} {o' : List ℕ} {n' : ℕ} (t : EventTold flags w (take (end - at) (drop at sheet)) v f p)
+              (p' : PlainWritten text (take (end - at) (drop at sheet)) p o n o' n') (z : Followed flags (take (end - at) (drop at sheet)) v 0 f y) where
+            -- in a context of the text and the flags
+            next_in : (cx : Context) → cx.text ≡ text → cx.flags ≡ flags → Forming text cx sheet w h o₀ at number f o n → Forming text cx sheet w h o₀ (end + 1) (number + 1) y o' n'
+            next_in cx a b g' =
+                forming_next text cx sheet w h g' l q k (l.inside end q).0
+                (sym (g.at (take (end - at) (drop at sheet))) ∙ ap number_told m)
+                (rw (a, b)
+                (text_is (sheet_of (plain_in text w flags (event_in (take (end - at) (drop at sheet)) v) f)) (ap sheet_of (sym (t.at text))) (p'.put (event_in (take (end - at) (drop at sheet)) v) k.is (no_lf_lem d.here.rest l q))))
+                (rw b z)
+
+            pub form_next : Looping text flags sheet w h o₀ (end + 1) (number + 1) y o' n'
+            form_next =
+                record {
+                  context = d.context;
+                  here = next_in d.context d.same_text d.same_flags d.here;
+                  by = λ cx a b y. next_in cx a b (d.by cx a b y);
+                  same_text = d.same_text;
+                  same_flags = d.same_flags;
+                }

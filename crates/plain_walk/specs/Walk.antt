@@ -1,6 +1,6 @@
 -- What is known of work memory when the plain form is written, and what is written.
 use Rattle.std.specs.Prelude.{ℕ, ◌≤◌, ◌≡◌, List, Result, Ok, Err}
-use Rattle.rules.specs.Units.{NamedUnit}
+use Rattle.rules.specs.Input.{Context}
 use Rattle.rules.specs.State.{State, first_state, going}
 use Rattle.rules.specs.Pass.{walk}
 use Rattle.rules.specs.Plain.{Traced, trace_from, plain_events, sheet_of}
@@ -21,25 +21,33 @@ pub record Final (sheet w : List ℕ) (h : Held) (final : State) : Type 0 where
   pub ingredients : h.counts.ingredients ≤ 512
   pub cookware : h.counts.cookware ≤ 256
 
--- the pass accepted the sheet, and work memory is as it left it
-pub record PassDone (text : List ℕ) (us : List NamedUnit) (flags : ℕ) (sheet w : List ℕ) (h : Held) : Type 0 where
+-- in a context the pass accepted the sheet, and work memory is as it left it
+pub record Left (cx : Context) (text sheet w : List ℕ) (h : Held) : Type 0 where
   pub final : State
-  pub walked : walk text us flags 1 (going first_state) (events_or (read_sheet text sheet)) ≡ going final
+  pub walked : walk cx 1 (going first_state) (events_or (read_sheet text sheet)) ≡ going final
   pub memory : Final sheet w h final
+
+-- in some context of the text and the flags that are lent
+pub record PassDone (text : List ℕ) (flags : ℕ) (sheet w : List ℕ) (h : Held) : Type 0 where
+  pub context : Context
+  pub same_text : context.text ≡ text
+  pub same_flags : context.flags ≡ flags
+  pub left : Left context text sheet w h
 
 -- ---- the form
 
 -- the lines of the sheet, each with the state before it
-abbrev pub trace_of : List ℕ → List NamedUnit → ℕ → List ℕ → List Traced
-trace_of text us flags sheet = trace_from text us flags 1 (going first_state) (events_or (read_sheet text sheet))
+abbrev pub trace_of : Context → List ℕ → List ℕ → List Traced
+trace_of cx text sheet = trace_from cx 1 (going first_state) (events_or (read_sheet text sheet))
 
 -- the first fault: its number and line, and what the buffer then holds is the program's choice; or no fault, and the form's bytes
 -- at the front of a buffer that held o₀, or they do not fit
-unfoldable pub FormedAs : List ℕ → List NamedUnit → ℕ → List ℕ → List ℕ → List ℕ → Result ℕ Refusal → Type 0
-FormedAs text us flags sheet o₀ o (Err f) = (a : Answer) → unless_faulty us flags a (trace_of text us flags sheet) ≡ declined (number_of f.reason) f.line
-FormedAs text us flags sheet o₀ o (Ok r) =
-    ((a : Answer) → unless_faulty us flags a (trace_of text us flags sheet) ≡ a)
-    × Put (sheet_of (plain_events text us flags (trace_of text us flags sheet))) o₀ 0 o r
+unfoldable pub FormedAs : Context → List ℕ → List ℕ → List ℕ → List ℕ → Result ℕ Refusal → Type 0
+FormedAs cx text sheet o₀ o (Err f) = (a : Answer) → unless_faulty cx a (trace_of cx text sheet) ≡ declined (number_of f.reason) f.line
+FormedAs cx text sheet o₀ o (Ok r) =
+    ((a : Answer) → unless_faulty cx a (trace_of cx text sheet) ≡ a)
+    × Put (sheet_of (plain_events cx (trace_of cx text sheet))) o₀ 0 o r
 
-pub record FormWritten (text : List ℕ) (us : List NamedUnit) (flags : ℕ) (sheet o₀ o : List ℕ) (r : Result ℕ Refusal) : Type 0 where
-  pub is : FormedAs text us flags sheet o₀ o r
+-- in every context of the text and the flags that are lent whose pass has left w and h; its units do not matter
+pub record FormWritten (text : List ℕ) (flags : ℕ) (sheet w : List ℕ) (h : Held) (o₀ o : List ℕ) (r : Result ℕ Refusal) : Type 0 where
+  pub is : (cx : Context) → cx.text ≡ text → cx.flags ≡ flags → Left cx text sheet w h → FormedAs cx text sheet o₀ o r

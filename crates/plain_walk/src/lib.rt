@@ -3,8 +3,6 @@
 
 ghost use Rattle.std.specs.Prelude.{◌≡◌, true, ◌&&◌, ◌≤◌, ◌<◌, length, Some};
 ghost use Rattle.rules.specs.Utf8.{is_utf8};
-ghost use Rattle.rules.specs.Units.{read_units};
-ghost use Rattle.rules.specs.Answer.{units_or};
 ghost use Rattle.rules.specs.Modes.{has_modes, key_of, key_text};
 ghost use Rattle.rules.specs.Plain.{is_mode_key};
 ghost use Rattle.parts.specs.Views.{text_in, TextWithin};
@@ -297,13 +295,12 @@ fn put_plain(out: &mut [u8], at: usize, text: &Utf8, line: &[u8], p: Plain) -> u
 // The plain form of a sheet that the pass accepted, written in `out`.
 pub fn plain_form_lines(
     sheet: &ReadSheet,
-    units: &[u8],
     flags: u32,
     stored: &Stored,
     out: &mut [u8],
 ) -> Result<usize, Refusal>
-    requires { (length sheet.now.bytes.now ≤ 65536) × (is_utf8 sheet.now.text.now ≡ true) × PassDone sheet.now.text.now (units_or (read_units units.now)) flags sheet.now.bytes.now stored.now.words.now stored.now.held }
-    ensures { FormWritten sheet.now.text.now (units_or (read_units units.now)) flags sheet.now.bytes.now out.old out.new result }
+    requires { (length sheet.now.bytes.now ≤ 65536) × (is_utf8 sheet.now.text.now ≡ true) × PassDone sheet.now.text.now flags sheet.now.bytes.now stored.now.words.now stored.now.held }
+    ensures { FormWritten sheet.now.text.now flags sheet.now.bytes.now stored.now.words.now stored.now.held out.old out.new result }
 {
     let text = Utf8 { bytes: sheet.text };
     let mut f = following::first_follow();

@@ -8,6 +8,7 @@ ghost use Rattle.std.specs.Prelude.{◌≤◌, ◌≡◌, length};
 ghost use Rattle.std.specs.Io.{ReadsAtMost};
 ghost use Rattle.recipe.specs.Answers.{lent_of};
 ghost use Rattle.program.specs.Prints.{AnswerPrinted};
+ghost use Rattle.rules.specs.Input.{input_of};
 ghost use Rattle.inputs.specs.declared.TheConstants.{WORDS};
 
 use std::rt::Files;
@@ -25,7 +26,7 @@ fn answer(
     out: &mut [u8],
 ) -> usize
     requires { 30 ≤ length out.old }
-    ensures { AnswerPrinted plain sheet.now text.now units.now flags (lent_of words.old bytes.old out.old) out.new result }
+    ensures { AnswerPrinted plain (input_of sheet.now text.now units.now flags) (lent_of words.old bytes.old out.old) out.new result }
 {
     if plain {
         let f = recipe::plain_form(sheet, text, units, flags, words, bytes, out);

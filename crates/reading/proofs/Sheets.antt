@@ -14,7 +14,7 @@ use Rattle.rules.specs.Basic.{pick, on_some, is_empty, all}
 use Rattle.rules.specs.Sheet.{Lines, last, lines}
 use Rattle.rules.specs.Event.{Event, spans_of}
 use Rattle.rules.specs.Read.{parse_line}
-use Rattle.rules.specs.Answer.{Reading, events, unread, with_event, is_good_span, read_line, read_from, read_sheet}
+use Rattle.rules.specs.Answer.{Reading, events, unread, with_event, is_good_span, read_line, read_from, read_sheet, fault_of}
 use Rattle.rules.proofs.Basics.{no_some}
 use Rattle.sheet.specs.Lines.{lines_from, LineAt}
 use Rattle.events.specs.declared.EventView.{EventView}
@@ -22,7 +22,7 @@ use Rattle.events.specs.Views.{event_in}
 use Rattle.spans.specs.Goods.{Goods}
 use Rattle.refusals.specs.declared.Reason.{Reason}
 use Rattle.refusals.specs.declared.Reason.TheVariants.{IllLine, ManyLines, BadSpan}
-use Rattle.reading.specs.Answers.{LineOf, fault_of, LineChecked, SheetChecked}
+use Rattle.reading.specs.Answers.{LineOf, LineChecked, SheetChecked}
 use Rattle.reading.proofs.Lines.{line_none, line_event}
 
 -- ---- one line

@@ -10,7 +10,7 @@ use Rattle.sheet.specs.Words.{event_word_in}
 use Rattle.sheet.specs.declared.EventWord.{EventWord}
 use Rattle.parts.specs.Got.{Among}
 use Rattle.events.specs.Views.{event_in, EventWithin, raw_event}
-use Rattle.rules.specs.Answer.{Reading, events, unread, read_line, read_sheet}
+use Rattle.rules.specs.Answer.{events, read_line, read_sheet, fault_of}
 use Rattle.refusals.specs.declared.Reason.{Reason}
 use Rattle.refusals.specs.declared.Refusal.{Refusal}
 use Rattle.refusals.specs.Told.{number_told, told}
@@ -57,11 +57,6 @@ pub record LineOf (line : List ℕ) (r : Option EventView) : Type 0 where
   pub is : event_as line r ≡ parse_line line
   pub within : IfEvent line r
   pub whole : IfWhole line r
-
--- the refusal of a reading and its line
-unfoldable pub fault_of : Reading → Option (ℕ × ℕ)
-fault_of (events es) = None
-fault_of (unread n l) = Some (n, l)
 
 -- the refusal of a line, with nothing after it
 pub record LineChecked (text : List ℕ) (number : ℕ) (line : List ℕ) (r : Result (Unit {0}) Reason) : Type 0 where

@@ -8,6 +8,7 @@ use borrow.Author.Tests.{le-leb, leb-true}
 use lib.Dec.{leb}
 use lib.ListN.{length}
 use Rattle.rules.specs.Basic.{pick}
+use Rattle.rules.specs.Input.{Input, with_sheet}
 use Rattle.rules.specs.State.{recipe}
 use Rattle.rules.specs.Answer as rules
 use Rattle.rules.specs.Answer.{answered, declined, Lent, is_short, hand_out, written, collection, collect_answer, plain_answer}
@@ -39,48 +40,48 @@ unfolding hand_out
 gives s room x form h = rw (h.0, h.2, le-leb (length form) room h.1)
 
 -- ---- the theorem
-module _ (sheet text units : List ℕ) (flags : ℕ) (m : Lent) (w b o : List ℕ) (r : Result ℕ Refusal) (p : PlainFormed sheet text units flags m w b o r) where
-  rule : PlainForm sheet text units flags
-  rule = rules-proofs.plain_form_holds sheet text units flags
+module _ (i : Input) (m : Lent) (w b o : List ℕ) (r : Result ℕ Refusal) (p : PlainFormed i m w b o r) where
+  rule : PlainForm i
+  rule = rules-proofs.plain_form_holds i
 
-  answers : answer_of r o ≡ lent_to m (plain_form sheet text units flags)
-  answers = p.is ∙ plain_lent sheet text units flags m
+  answers : answer_of r o ≡ lent_to m (plain_form i)
+  answers = p.is ∙ plain_lent i m
 
-  handed : (form : List ℕ) → answer_of r o ≡ answered form → Lends (is_short m) m.room (plain_form sheet text units flags) form
-  handed form q = lends (is_short m) m.room (plain_form sheet text units flags) form (sym answers ∙ q)
+  handed : (form : List ℕ) → answer_of r o ≡ answered form → Lends (is_short m) m.room (plain_form i) form
+  handed form q = lends (is_short m) m.room (plain_form i) form (sym answers ∙ q)
 
-  forth : (form : List ℕ) → answer_of r o ≡ answered form → Demanded sheet text units flags form × (is_short m ≡ false) × (length form ≤ m.room)
+  forth : (form : List ℕ) → answer_of r o ≡ answered form → Demanded i form × (is_short m ≡ false) × (length form ≤ m.room)
   forth form q = let h = handed form q in ((rule.exactly form).forth h.2, h.0, h.1)
 
-  back : (form : List ℕ) → Demanded sheet text units flags form × (is_short m ≡ false) × (length form ≤ m.room) → answer_of r o ≡ answered form
-  back form d = answers ∙ gives (is_short m) m.room (plain_form sheet text units flags) form (d.1, d.2, (rule.exactly form).back d.0)
+  back : (form : List ℕ) → Demanded i form × (is_short m ≡ false) × (length form ≤ m.room) → answer_of r o ≡ answered form
+  back form d = answers ∙ gives (is_short m) m.room (plain_form i) form (d.1, d.2, (rule.exactly form).back d.0)
 
-  declines : (n l : ℕ) → is_short m ≡ false → Declined sheet text units flags n l → answer_of r o ≡ declined n l
+  declines : (n l : ℕ) → is_short m ≡ false → Declined i n l → answer_of r o ≡ declined n l
   declines n l s d = answers ∙ rw (s, (rule.otherwise n l).back d)
 
-  own_form : (form : List ℕ) → answer_of r o ≡ answered form → plain_answer form text units flags m ≡ answered form
+  own_form : (form : List ℕ) → answer_of r o ≡ answered form → plain_answer (with_sheet form i) m ≡ answered form
   own_form form q =
       let h = handed form q in
-      plain_lent form text units flags m ∙ gives (is_short m) m.room (plain_form form text units flags) form (h.0, h.1, rule.own form h.2)
+      plain_lent (with_sheet form i) m ∙ gives (is_short m) m.room (plain_form (with_sheet form i)) form (h.0, h.1, rule.own form h.2)
 
   -- a page that `collect` answers
-  page_of : (bytes : List ℕ) (m' : Lent) → is_short m' ≡ false → {st : _} → collection bytes text units flags ≡ recipe st
-      → collect_answer bytes text units flags m' ≡ hand_out m'.room (recipe_page st)
+  page_of : (j : Input) (m' : Lent) → is_short m' ≡ false → {st : _} → collection j ≡ recipe st
+      → collect_answer j m' ≡ hand_out m'.room (recipe_page st)
   unfolding collect_answer written
-  page_of bytes m' s q = rw (s, q)
+  page_of j m' s q = rw (s, q)
 
-  same_page : (form : List ℕ) → answer_of r o ≡ answered form → (m' : Lent) → is_short m' ≡ false → SameCollected form sheet text units flags m'
+  same_page : (form : List ℕ) → answer_of r o ≡ answered form → (m' : Lent) → is_short m' ≡ false → SameCollected form i m'
   same_page form q m' s =
-      let x : SamePage (collection form text units flags) (collection sheet text units flags) = rule.same form (handed form q).2 in
+      let x : SamePage (collection (with_sheet form i)) (collection i) = rule.same form (handed form q).2 in
       record {
         state = x.state;
         other_state = x.other_state;
-        form_page = page_of form m' s x.yields;
-        sheet_page = page_of sheet m' s x.other_yields;
+        form_page = page_of (with_sheet form i) m' s x.yields;
+        sheet_page = page_of i m' s x.other_yields;
         above = x.above;
       }
 
-  pub demand_3 : Demand3 sheet text units flags m o r
+  pub demand_3 : Demand3 i m o r
   demand_3 =
       record {
         exactly = λ form. record { forth = forth form; back = back form };

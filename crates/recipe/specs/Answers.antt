@@ -1,5 +1,6 @@
 -- What `collect` and `plain_form` leave in lent memory.
 use Rattle.std.specs.Prelude.{ℕ, ◌≤◌, ◌<◌, ◌≡◌, List, length, Result}
+use Rattle.rules.specs.Input.{Input}
 use Rattle.rules.specs.Answer as rules
 use Rattle.rules.specs.Answer.{answered, Lent, collect_answer, plain_answer, out_after, work_after}
 use Rattle.refusals.specs.declared.Refusal.{Refusal}
@@ -50,9 +51,9 @@ pub record Coded (a : rules.Answer) (m : Lent) (w b o : List ℕ) (r : ℕ) : Ty
   pub bytes : b ≡ work_after m.bytes
 
 -- what `collect` leaves
-abbrev pub Collected : List ℕ → List ℕ → List ℕ → ℕ → Lent → List ℕ → List ℕ → List ℕ → Result ℕ Refusal → Type 0
-Collected sheet text units flags m w b o r = AnswerLeft (collect_answer sheet text units flags m) m w b o r
+abbrev pub Collected : Input → Lent → List ℕ → List ℕ → List ℕ → Result ℕ Refusal → Type 0
+Collected i m w b o r = AnswerLeft (collect_answer i m) m w b o r
 
 -- what `plain_form` leaves
-abbrev pub PlainFormed : List ℕ → List ℕ → List ℕ → ℕ → Lent → List ℕ → List ℕ → List ℕ → Result ℕ Refusal → Type 0
-PlainFormed sheet text units flags m w b o r = AnswerLeft (plain_answer sheet text units flags m) m w b o r
+abbrev pub PlainFormed : Input → Lent → List ℕ → List ℕ → List ℕ → Result ℕ Refusal → Type 0
+PlainFormed i m w b o r = AnswerLeft (plain_answer i m) m w b o r

@@ -3,11 +3,11 @@
 #![tactic(auto)]
 
 ghost use Rattle.std.specs.Prelude.{◌≡◌, ◌≤◌, length};
+ghost use Rattle.rules.specs.Input.{input_of};
 ghost use Rattle.rules.specs.Answer.{words_needed, bytes_needed, events_or, read_sheet, collect_answer, error_line, form_answer, plain_answer};
-ghost use Rattle.page.specs.Pages.{RecipeGiven};
 ghost use Rattle.inputs.specs.Inputs.{GoodInputs};
 ghost use Rattle.recipe.specs.Answers.{usable_lent, lengths, lent_of, Answered, Collected, PlainFormed, Coded};
-ghost use Rattle.recipe.specs.Forms.{form_given};
+ghost use Rattle.recipe.specs.Forms.{RecipeGiven, form_given};
 
 use answers::Answer;
 use memory::Stored;
@@ -25,8 +25,8 @@ fn pass_and_write(
     bytes: usize,
     out: &mut [u8],
 ) -> Answer
-    requires { GoodInputs sheet.now.bytes.now sheet.now.text.now units.now.lines.now flags (length words.old) bytes }
-    ensures { Answered (collect_answer sheet.now.bytes.now sheet.now.text.now units.now.lines.now flags (lengths words.old bytes out.old)) (length out.old) out.new result }
+    requires { GoodInputs (input_of sheet.now.bytes.now sheet.now.text.now units.now.lines.now flags) (length words.old) bytes }
+    ensures { Answered (collect_answer (input_of sheet.now.bytes.now sheet.now.text.now units.now.lines.now flags) (lengths words.old bytes out.old)) (length out.old) out.new result }
 {
     match pass::run(sheet, units, flags, words)? {
         Some(h) => {
@@ -51,7 +51,7 @@ fn collected(
     bytes: usize,
     out: &mut [u8],
 ) -> Answer
-    ensures { Answered (collect_answer sheet.now text.now units.now flags (lengths words.old bytes out.old)) (length out.old) out.new result }
+    ensures { Answered (collect_answer (input_of sheet.now text.now units.now flags) (lengths words.old bytes out.old)) (length out.old) out.new result }
 {
     inputs::check_inputs(sheet, text, units, index, flags, words.len(), bytes)?;
     let read = ReadSheet { bytes: sheet, text };
@@ -72,7 +72,7 @@ pub fn collect(
     bytes: &mut [u8],
     out: &mut [u8],
 ) -> Answer
-    ensures { Collected sheet.now text.now units.now flags (lent_of words.old bytes.old out.old) words.new bytes.new out.new result }
+    ensures { Collected (input_of sheet.now text.now units.now flags) (lent_of words.old bytes.old out.old) words.new bytes.new out.new result }
 {
     let mut index = [0u32; 2305];
     let r = collected(
@@ -123,8 +123,8 @@ fn give_form(
     words: &mut [u32],
     out: &mut [u8],
 ) -> Answer
-    requires { GoodInputs form.now text.now units.now.lines.now flags (length words.old) bytes_needed }
-    ensures { Answered (form_answer text.now units.now.lines.now flags (length out.old) form.now) (length out.old) out.new result }
+    requires { GoodInputs (input_of form.now text.now units.now.lines.now flags) (length words.old) bytes_needed }
+    ensures { Answered (form_answer (input_of form.now text.now units.now.lines.now flags) (length out.old) form.now) (length out.old) out.new result }
 {
     let read = ReadSheet { bytes: form, text };
     answers::form_checked(pass::run(&read, units, flags, words))?;
@@ -142,11 +142,11 @@ fn write_form(
     bytes: &mut [u8],
     out: &mut [u8],
 ) -> Answer
-    requires { RecipeGiven sheet.now.bytes.now sheet.now.text.now units.now.lines.now flags words.old h × (65536 ≤ length bytes.old) }
-    ensures { Answered (form_given sheet.now.bytes.now sheet.now.text.now units.now.lines.now flags (length out.old)) (length out.old) out.new result }
+    requires { RecipeGiven (input_of sheet.now.bytes.now sheet.now.text.now units.now.lines.now flags) words.old h × (65536 ≤ length bytes.old) }
+    ensures { Answered (form_given (input_of sheet.now.bytes.now sheet.now.text.now units.now.lines.now flags) (length out.old)) (length out.old) out.new result }
 {
     let stored = Stored { words, held: h };
-    let n = plain_walk::plain_form_lines(sheet, units.lines, flags, &stored, &mut bytes[0..65536])?;
+    let n = plain_walk::plain_form_lines(sheet, flags, &stored, &mut bytes[0..65536])?;
     if 65536 < n {
         let reason = Reason::LongForm;
         return Err(Refusal { reason, line: 0 });
@@ -163,8 +163,8 @@ fn pass_and_form(
     bytes: &mut [u8],
     out: &mut [u8],
 ) -> Answer
-    requires { GoodInputs sheet.now.bytes.now sheet.now.text.now units.now.lines.now flags (length words.old) (length bytes.old) }
-    ensures { Answered (plain_answer sheet.now.bytes.now sheet.now.text.now units.now.lines.now flags (lent_of words.old bytes.old out.old)) (length out.old) out.new result }
+    requires { GoodInputs (input_of sheet.now.bytes.now sheet.now.text.now units.now.lines.now flags) (length words.old) (length bytes.old) }
+    ensures { Answered (plain_answer (input_of sheet.now.bytes.now sheet.now.text.now units.now.lines.now flags) (lent_of words.old bytes.old out.old)) (length out.old) out.new result }
 {
     match pass::run(sheet, units, flags, words)? {
         Some(h) => write_form(sheet, units, flags, words, h, bytes, out),
@@ -186,7 +186,7 @@ fn formed(
     bytes: &mut [u8],
     out: &mut [u8],
 ) -> Answer
-    ensures { Answered (plain_answer sheet.now text.now units.now flags (lent_of words.old bytes.old out.old)) (length out.old) out.new result }
+    ensures { Answered (plain_answer (input_of sheet.now text.now units.now flags) (lent_of words.old bytes.old out.old)) (length out.old) out.new result }
 {
     inputs::check_inputs(sheet, text, units, index, flags, words.len(), bytes.len())?;
     let read = ReadSheet { bytes: sheet, text };
@@ -207,7 +207,7 @@ pub fn plain_form(
     bytes: &mut [u8],
     out: &mut [u8],
 ) -> Answer
-    ensures { PlainFormed sheet.now text.now units.now flags (lent_of words.old bytes.old out.old) words.new bytes.new out.new result }
+    ensures { PlainFormed (input_of sheet.now text.now units.now flags) (lent_of words.old bytes.old out.old) words.new bytes.new out.new result }
 {
     let mut index = [0u32; 2305];
     let f = formed(sheet, text, units, &mut index, flags, words, bytes, out);
@@ -240,7 +240,7 @@ pub fn recipe_collect(
     bytes: &mut [u8],
     out: &mut [u8],
 ) -> u64
-    ensures { Coded (collect_answer sheet.now text.now units.now flags (usable_lent (lent_of words.old bytes.old out.old))) (lent_of words.old bytes.old out.old) words.new bytes.new out.new result }
+    ensures { Coded (collect_answer (input_of sheet.now text.now units.now flags) (usable_lent (lent_of words.old bytes.old out.old))) (lent_of words.old bytes.old out.old) words.new bytes.new out.new result }
 {
     let room = answers::usable(out.len());
     let r = collect(sheet, text, units, flags, words, bytes, &mut out[0..room]);
@@ -257,7 +257,7 @@ pub fn recipe_plain_form(
     bytes: &mut [u8],
     out: &mut [u8],
 ) -> u64
-    ensures { Coded (plain_answer sheet.now text.now units.now flags (usable_lent (lent_of words.old bytes.old out.old))) (lent_of words.old bytes.old out.old) words.new bytes.new out.new result }
+    ensures { Coded (plain_answer (input_of sheet.now text.now units.now flags) (usable_lent (lent_of words.old bytes.old out.old))) (lent_of words.old bytes.old out.old) words.new bytes.new out.new result }
 {
     let room = answers::usable(out.len());
     let r = plain_form(sheet, text, units, flags, words, bytes, &mut out[0..room]);

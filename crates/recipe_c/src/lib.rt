@@ -2,6 +2,7 @@
 #![tactic(auto)]
 
 ghost use Rattle.std.specs.Prelude.{◌≡◌};
+ghost use Rattle.rules.specs.Input.{input_of};
 ghost use Rattle.rules.specs.Answer.{words_needed, bytes_needed, collect_answer, plain_answer};
 ghost use Rattle.recipe.specs.Answers.{Coded, usable_lent, lent_of};
 
@@ -29,7 +30,7 @@ pub extern "C" fn recipe_collect(
     bytes: &mut [u8],
     out: &mut [u8],
 ) -> u64
-    ensures { Coded (collect_answer sheet.now text.now units.now flags (usable_lent (lent_of words.old bytes.old out.old))) (lent_of words.old bytes.old out.old) words.new bytes.new out.new result }
+    ensures { Coded (collect_answer (input_of sheet.now text.now units.now flags) (usable_lent (lent_of words.old bytes.old out.old))) (lent_of words.old bytes.old out.old) words.new bytes.new out.new result }
 {
     recipe::recipe_collect(sheet, text, units, flags, words, bytes, out)
 }
@@ -44,7 +45,7 @@ pub extern "C" fn recipe_plain_form(
     bytes: &mut [u8],
     out: &mut [u8],
 ) -> u64
-    ensures { Coded (plain_answer sheet.now text.now units.now flags (usable_lent (lent_of words.old bytes.old out.old))) (lent_of words.old bytes.old out.old) words.new bytes.new out.new result }
+    ensures { Coded (plain_answer (input_of sheet.now text.now units.now flags) (usable_lent (lent_of words.old bytes.old out.old))) (lent_of words.old bytes.old out.old) words.new bytes.new out.new result }
 {
     recipe::recipe_plain_form(sheet, text, units, flags, words, bytes, out)
 }

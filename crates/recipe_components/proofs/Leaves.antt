@@ -4,6 +4,7 @@ use mathlib.Core.Path.{◌≡◌, sym, ap, ◌∙◌}
 use mathlib.Core.List.{List}
 use Rattle.std.specs.Prelude.{Option, Result}
 use lib.ListN.{length, replicate}
+use Rattle.rules.specs.Input.{Input}
 use Rattle.rules.specs.Model.{Kind, Entry}
 use Rattle.rules.specs.Answer.{work_after}
 use Rattle.refusals.specs.declared.Refusal.{Refusal}
@@ -20,14 +21,14 @@ table_lent_lem : {k : Kind} {sheet w : List ℕ} {es : List Entry} {from n : ℕ
 table_lent_lem {w = w} {from = from} {n = n} x l =
     record { records = records_in w from n; are = x.records; all = rw (sym x.count) l.all; pairs = rw (sym x.pairs) l.pairs }
 
-pub all_left : {sheet text units : List ℕ} {flags : ℕ} {m : Room} {w w' : List ℕ} {is : List Component} {ips : List ℕ} {cs : List Component} {cps : List ℕ} {r : Result (Option ComponentCounts) Refusal}
-    → RowsCollected sheet text units flags m w r → Laid w INGREDIENTS (ingredients_of r) m.ingredients is ips → Laid w COOKWARE (cookware_of r) m.cookware cs cps
-    → w' ≡ replicate (length w) 0 → ComponentsLeft sheet text units flags m w' is ips cs cps r
+pub all_left : {i : Input} {m : Room} {w w' : List ℕ} {is : List Component} {ips : List ℕ} {cs : List Component} {cps : List ℕ} {r : Result (Option ComponentCounts) Refusal}
+    → RowsCollected i m w r → Laid w INGREDIENTS (ingredients_of r) m.ingredients is ips → Laid w COOKWARE (cookware_of r) m.cookware cs cps
+    → w' ≡ replicate (length w) 0 → ComponentsLeft i m w' is ips cs cps r
 unfolding work_after
-all_left x i c e =
+all_left x t c e =
     record {
       answer = x.answer;
-      ingredients = table_lent_lem x.ingredients i;
+      ingredients = table_lent_lem x.ingredients t;
       cookware = table_lent_lem x.cookware c;
       words = e ∙ ap (λ (n : ℕ). replicate n 0) x.long;
     }

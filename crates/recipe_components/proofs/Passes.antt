@@ -8,14 +8,14 @@ use Rattle.std.specs.Prelude.{Option, None, Some, Result, Ok, Err}
 use lib.Dec.{leb, ltb}
 use lib.ListN.{length, take, drop}
 use borrow.Author.Tests.{leb-true, le-ltb}
-use Rattle.rules.specs.Units.{NamedUnit, read_units}
+use Rattle.rules.specs.Input.{Input, Context, context_of}
 use Rattle.rules.specs.Event.{Event}
 use Rattle.rules.specs.Finding.{Finding}
 use Rattle.rules.specs.Model.{Kind, ingredient, cookware, Entry}
 use Rattle.rules.specs.Reference.{entry_at}
 use Rattle.rules.specs.State.{Tables, State, set_kept, table_of, report, Outcome, recipe, no_recipe, refusal}
 use Rattle.rules.specs.Pass.{is_empty_section, close_section, ended, parse_events}
-use Rattle.rules.specs.Answer.{words_needed, bytes_needed, is_short, events_or, read_sheet, units_or}
+use Rattle.rules.specs.Answer.{words_needed, bytes_needed, is_short, events_of}
 use Rattle.rules.proofs.Basics.{pick_either, no_some, and_left, and_right}
 use Rattle.rules.proofs.Referrers.{Linked, walk_linked}
 use Rattle.rules.proofs.LinkedRecipe.{own_references}
@@ -23,11 +23,12 @@ use Rattle.refusals.specs.Told.{number_of}
 use Rattle.refusals.specs.declared.Reason.TheVariants.{NoRoom}
 use Rattle.refusals.specs.declared.Refusal.{Refusal}
 use Rattle.inputs.specs.Inputs.{InputsChecked, GoodInputs}
-use Rattle.inputs.proofs.Answers.{told_refused, refused_outcome}
+use Rattle.rules.proofs.Agreed.{own_context}
+use Rattle.inputs.proofs.Answers.{refused_outcome, good_words, good_collects}
 use Rattle.model.specs.Blank.{blank, blank_tables}
 use Rattle.model.specs.Kinds.{room_of, rows_from}
 use Rattle.model.specs.Rows.{entries_in}
-use Rattle.model.specs.Memory.{count_of, referrers_of, Sound}
+use Rattle.model.specs.Memory.{count_of, referrers_of}
 use Rattle.model.specs.Fits.{Fits, EachRow}
 use Rattle.model.specs.declared.Held.{Held}
 use Rattle.model.proofs.Tables.{entries_length}
@@ -58,27 +59,27 @@ no_ready w from m =
       linkable = record { back = λ i h q. absurd (omega arith); fits = omega arith };
     }
 
-module _ (sheet text units : List ℕ) (flags : ℕ) (m : Room) {w : List ℕ} (long : length w ≡ m.words) where
-  empty : (r : Result (Option ComponentCounts) Refusal) → ingredients_of r ≡ 0 → cookware_of r ≡ 0 → told_answer r ≡ answer_of m (outcome_of sheet text units flags m) → ((k : Kind) → table_lent m k (outcome_of sheet text units flags m) ≡ []) → RowsCollected sheet text units flags m w r
-  empty r i c a t =
+module _ (i : Input) (m : Room) {w : List ℕ} (long : length w ≡ m.words) where
+  empty : (r : Result (Option ComponentCounts) Refusal) → ingredients_of r ≡ 0 → cookware_of r ≡ 0 → told_answer r ≡ answer_of m (outcome_of i m) → ((k : Kind) → table_lent m k (outcome_of i m) ≡ []) → RowsCollected i m w r
+  empty r a c e t =
       record {
-        answer = a;
+        answer = e;
         long = long;
-        ingredients = rw (i, t ingredient) (no_rows ingredient sheet w INGREDIENTS);
-        cookware = rw (c, t cookware) (no_rows cookware sheet w COOKWARE);
-        ingredients_ready = rw i (no_ready w INGREDIENTS m.ingredients);
+        ingredients = rw (a, t ingredient) (no_rows ingredient i.sheet w INGREDIENTS);
+        cookware = rw (c, t cookware) (no_rows cookware i.sheet w COOKWARE);
+        ingredients_ready = rw a (no_ready w INGREDIENTS m.ingredients);
         cookware_ready = rw c (no_ready w COOKWARE m.cookware);
       }
 
-  pub refused_rows : {f : Refusal} → outcome_of sheet text units flags m ≡ refusal (number_of f.reason) f.line → RowsCollected sheet text units flags m w (Err f)
+  pub refused_rows : {f : Refusal} → outcome_of i m ≡ refusal (number_of f.reason) f.line → RowsCollected i m w (Err f)
   unfolding ingredients_of cookware_of answer_of told_answer table_lent
   refused_rows {f} e = empty (Err f) refl refl (rw e) (λ k. rw e)
 
-  pub none_rows : (fs : List Finding) → outcome_of sheet text units flags m ≡ no_recipe fs → RowsCollected sheet text units flags m w (Ok None)
+  pub none_rows : (fs : List Finding) → outcome_of i m ≡ no_recipe fs → RowsCollected i m w (Ok None)
   unfolding ingredients_of cookware_of answer_of told_answer table_lent
   none_rows fs e = empty (Ok None) refl refl (rw e) (λ k. rw e)
 
-  pub full_rows : (st : State) → outcome_of sheet text units flags m ≡ recipe st → both_fit m st ≡ false → RowsCollected sheet text units flags m w (Err (record { reason = NoRoom; line = 0 }))
+  pub full_rows : (st : State) → outcome_of i m ≡ recipe st → both_fit m st ≡ false → RowsCollected i m w (Err (record { reason = NoRoom; line = 0 }))
   unfolding ingredients_of cookware_of answer_of told_answer table_lent
   full_rows st e b = empty (Err (record { reason = NoRoom; line = 0 })) refl refl (rw (e, b)) (λ k. rw (e, b))
 
@@ -134,7 +135,7 @@ module _ (k : Kind) (sheet w : List ℕ) (from size : ℕ) (by : ℕ → List �
         linkable = table_linkable k sheet w from size by n room l;
       }
 
-module _ {text : List ℕ} {us : List NamedUnit} {flags : ℕ} {sheet : List ℕ} {es : List Event} {w : List ℕ} {h : Held} (x : RanRecipe text us flags sheet es w h) where
+module _ {cx : Context} {sheet : List ℕ} {es : List Event} {w : List ℕ} {h : Held} (x : RanRecipe cx sheet es w h) where
   abbrev st : State
   st = x.state
 
@@ -157,12 +158,12 @@ module _ {text : List ℕ} {us : List NamedUnit} {flags : ℕ} {sheet : List ℕ
 
   pub rows_held : (k : Kind) → TableHeld k sheet w (rows_from k) (count_of k h) (table_of k (ended st))
   rows_held k =
-      let l = walk_linked text us flags es st x.walked k in
+      let l = walk_linked cx es st x.walked k in
       rw (tables_end k, rows_table k)
       (window_held k sheet w (rows_from k) (room_of k * ROW) (referrers_of k w h) (count_of k h) (few_rows k).1 (few_rows k).0 (rows_end k w x.kept.sound.long) (rw (← rows_window k w) (x.kept.fit.rows k)) (rw (rows_table k) at l))
 
   -- the counts of the rows are those of the recipe
-  module _ (text' units : List ℕ) (flags' : ℕ) (m : Room) (long : length w ≡ m.words) (o : outcome_of sheet text' units flags' m ≡ recipe (ended st)) where
+  module _ (i : Input) (same : i.sheet ≡ sheet) (m : Room) (long : length w ≡ m.words) (o : outcome_of i m ≡ recipe (ended st)) where
     both_same : both_fit m (ended st) ≡ (is_room_for h.counts.ingredients (own_count (records_in w INGREDIENTS h.counts.ingredients)) m.ingredients && is_room_for h.counts.cookware (own_count (records_in w COOKWARE h.counts.cookware)) m.cookware)
     unfolding both_fit
     both_same = rw (fits_same (rows_held ingredient) m.ingredients, fits_same (rows_held cookware) m.cookware)
@@ -171,24 +172,24 @@ module _ {text : List ℕ} {us : List NamedUnit} {flags : ℕ} {sheet : List ℕ
     unfolding counts_of row_counts
     counts_same = rw ((rows_held ingredient).long, (rows_held cookware).long, (rows_held ingredient).own, (rows_held cookware).own)
 
-    fit_rows : (is_room_for h.counts.ingredients (own_count (records_in w INGREDIENTS h.counts.ingredients)) m.ingredients && is_room_for h.counts.cookware (own_count (records_in w COOKWARE h.counts.cookware)) m.cookware) ≡ true → RowsCollected sheet text' units flags' m w (Ok (Some (row_counts w h)))
+    fit_rows : (is_room_for h.counts.ingredients (own_count (records_in w INGREDIENTS h.counts.ingredients)) m.ingredients && is_room_for h.counts.cookware (own_count (records_in w COOKWARE h.counts.cookware)) m.cookware) ≡ true → RowsCollected i m w (Ok (Some (row_counts w h)))
     unfolding answer_of told_answer row_counts table_lent ingredients_of cookware_of
     fit_rows q =
         let b : both_fit m (ended st) ≡ true = both_same ∙ q in
         record {
           answer = rw (o, b) (ap (λ (x : ComponentCounts). Ok (Some x)) (sym counts_same));
           long = long;
-          ingredients = rw (o, b) (rows_are (rows_held ingredient));
-          cookware = rw (o, b) (rows_are (rows_held cookware));
+          ingredients = rw (o, b, same) (rows_are (rows_held ingredient));
+          cookware = rw (o, b, same) (rows_are (rows_held cookware));
           ingredients_ready = rows_ready (rows_held ingredient) m.ingredients (and_left _ _ q);
           cookware_ready = rows_ready (rows_held cookware) m.cookware (and_right (is_room_for h.counts.ingredients (own_count (records_in w INGREDIENTS h.counts.ingredients)) m.ingredients) _ q);
         }
 
-    pub counted_rows : RowsCollected sheet text' units flags' m w (counts_or20 w h m.ingredients m.cookware)
+    pub counted_rows : RowsCollected i m w (counts_or20 w h m.ingredients m.cookware)
     unfolding counts_or20
     counted_rows =
-        pick_either (RowsCollected sheet text' units flags' m w) (is_room_for h.counts.ingredients (own_count (records_in w INGREDIENTS h.counts.ingredients)) m.ingredients && is_room_for h.counts.cookware (own_count (records_in w COOKWARE h.counts.cookware)) m.cookware) _ _ fit_rows
-        (λ q. full_rows sheet text' units flags' m long (ended st) o (both_same ∙ q))
+        pick_either (RowsCollected i m w) (is_room_for h.counts.ingredients (own_count (records_in w INGREDIENTS h.counts.ingredients)) m.ingredients && is_room_for h.counts.cookware (own_count (records_in w COOKWARE h.counts.cookware)) m.cookware) _ _ fit_rows
+        (λ q. full_rows i m long (ended st) o (both_same ∙ q))
 
 -- ---- before the pass
 
@@ -200,40 +201,38 @@ enough_words n = rw (le-ltb 65536 65536 (omega arith)) (or_false (ltb n words_ne
     or_false true = refl
     or_false false = refl
 
-module _ {sheet text units : List ℕ} {flags : ℕ} (m : Room) {a : Result (Unit {0}) Refusal} (p : InputsChecked sheet text units flags m.words 65536 a) where
-  pub inputs_refused : {f : Refusal} {w : List ℕ} → length w ≡ m.words → a ≡ Err f → RowsCollected sheet text units flags m w (Err f)
+module _ {i : Input} (m : Room) {a : Result (Unit {0}) Refusal} (p : InputsChecked i m.words 65536 a) where
+  pub inputs_refused : {f : Refusal} {w : List ℕ} → length w ≡ m.words → a ≡ Err f → RowsCollected i m w (Err f)
   unfolding outcome_of
   inputs_refused long q =
-      refused_rows sheet text units flags m long
-      (rw (enough_words m.words) at (refused_outcome sheet text units flags (record { words = m.words; bytes = 65536; room = 0 }) (told_refused (rw q at p))))
+      refused_rows i m long
+      (rw (enough_words m.words) at (refused_outcome i (record { words = m.words; bytes = 65536; room = 0 }) (rw q at p)))
 
 -- ---- after the pass
 
-module _ {sheet text units : List ℕ} {flags : ℕ} (m : Room) (g : GoodInputs sheet text units flags m.words 65536) where
-  outcome_is : {x : Outcome} → parse_events text (units_or (read_units units)) flags (events_or (read_sheet text sheet)) ≡ x → outcome_of sheet text units flags m ≡ x
+module _ {i : Input} (m : Room) (g : GoodInputs i m.words 65536) where
+  outcome_is : {x : Outcome} → parse_events (context_of i) (events_of i) ≡ x → outcome_of i m ≡ x
   unfolding outcome_of
-  outcome_is e = rw (le-ltb m.words words_needed g.words_enough) (g.collects ∙ e)
+  outcome_is e = rw (le-ltb m.words words_needed (good_words g)) (good_collects g ∙ e)
 
-  module _ {w₀ w : List ℕ} {a : Result (Option Held) Refusal} (long : length w₀ ≡ m.words) (p : RanAs (units_or (read_units units)) flags sheet text (events_or (read_sheet text sheet)) w₀ w a) where
-    pub recipe_rows : {h : Held} {r : Result (Option ComponentCounts) Refusal} → a ≡ Ok (Some h) → r ≡ counts_or20 w h m.ingredients m.cookware → RowsCollected sheet text units flags m w r
+  module _ {w₀ w : List ℕ} {a : Result (Option Held) Refusal} (long : length w₀ ≡ m.words) (p : RanAs i.text i.units i.flags i.sheet (events_of i) w₀ w a) where
+    ran : RanBy (context_of i) i.sheet (events_of i) w a
+    ran = p.is.at (context_of i) (own_context i)
+
+    pub recipe_rows : {h : Held} {r : Result (Option ComponentCounts) Refusal} → a ≡ Ok (Some h) → r ≡ counts_or20 w h m.ingredients m.cookware → RowsCollected i m w r
     unfolding RanBy
     recipe_rows {h} q e =
-        let x : RanRecipe text (units_or (read_units units)) flags sheet (events_or (read_sheet text sheet)) w h = (rw q at p).is in
-        rw e (counted_rows x text units flags m (p.long ∙ long) (outcome_is x.is))
+        let x : RanRecipe (context_of i) i.sheet (events_of i) w h = rw q at ran in
+        rw e (counted_rows x i refl m (p.long ∙ long) (outcome_is x.is))
 
-    pub failed_rows : a ≡ Ok None → RowsCollected sheet text units flags m w (Ok None)
+    pub failed_rows : a ≡ Ok None → RowsCollected i m w (Ok None)
     unfolding RanBy
     failed_rows q =
-        let x : RanFailed text (units_or (read_units units)) flags (events_or (read_sheet text sheet)) = (rw q at p).is in
-        none_rows sheet text units flags m (p.long ∙ long) x.findings (outcome_is x.is)
+        let x : RanFailed (context_of i) (events_of i) = rw q at ran in
+        none_rows i m (p.long ∙ long) x.findings (outcome_is x.is)
 
-    pub stopped_rows : {f : Refusal} → a ≡ Err f → RowsCollected sheet text units flags m w (Err f)
+    pub stopped_rows : {f : Refusal} → a ≡ Err f → RowsCollected i m w (Err f)
     unfolding RanBy
     stopped_rows {f} q =
-        let x : parse_events text (units_or (read_units units)) flags (events_or (read_sheet text sheet)) ≡ refusal (number_of f.reason) f.line = (rw q at p).is in
-        refused_rows sheet text units flags m (p.long ∙ long) (outcome_is x)
-
--- the words hold what the pass says
-pub recipe_sound : {us : List NamedUnit} {flags : ℕ} {sheet text : List ℕ} {es : List Event} {w₀ w : List ℕ} {a : Result (Option Held) Refusal} {h : Held} → RanAs us flags sheet text es w₀ w a → a ≡ Ok (Some h) → Sound w h
-unfolding RanBy
-recipe_sound {us} {flags} {sheet} {text} {es} {w = w} {h = h} p q = let x : RanRecipe text us flags sheet es w h = (rw q at p).is in x.kept.sound
+        let x : parse_events (context_of i) (events_of i) ≡ refusal (number_of f.reason) f.line = rw q at ran in
+        refused_rows i m (p.long ∙ long) (outcome_is x)

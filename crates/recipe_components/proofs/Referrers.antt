@@ -9,6 +9,7 @@ use native.Mathlib.Omega.{arith}
 use lib.Dec.{eqb, ltb}
 use lib.ListN.{length, get_or, length-append}
 use lib.Seq.{get_or_at, get_or-append-add}
+use Rattle.rules.specs.Input.{Input}
 use Rattle.rules.specs.Basic.{pick}
 use Rattle.rules.specs.Model.{Kind, ingredient, cookware, Relation, definition, reference, Entry}
 use Rattle.rules.specs.Reference.{entry_at, is_definition, referrers}
@@ -113,26 +114,26 @@ module _ (m : Room) (st : State) {n : ComponentCounts} (a : Ok (Some n) ≡ answ
   unfolding counts_of
   pairs_counted = (ap (λ (c : ComponentCounts). c.ingredient_pairs) counts_are, ap (λ (c : ComponentCounts). c.cookware_pairs) counts_are)
 
-module _ {sheet text units : List ℕ} {flags : ℕ} {m : Room} {w : List ℕ} {is : List Component} {ips : List ℕ} {cs : List Component} {cps : List ℕ} {n : ComponentCounts}
-    (x : ComponentsLeft sheet text units flags m w is ips cs cps (Ok (Some n))) (st : State) (o : outcome_of sheet text units flags m ≡ recipe st) where
-  collects : collection sheet text units flags ≡ recipe st
+module _ {i : Input} {m : Room} {w : List ℕ} {is : List Component} {ips : List ℕ} {cs : List Component} {cps : List ℕ} {n : ComponentCounts}
+    (x : ComponentsLeft i m w is ips cs cps (Ok (Some n))) (st : State) (o : outcome_of i m ≡ recipe st) where
+  collects : collection i ≡ recipe st
   unfolding outcome_of
-  collects = pick_either (λ (y : Outcome). y ≡ recipe st → collection sheet text units flags ≡ recipe st) (ltb m.words words_needed) _ _ (λ b q. no_recipe_lem q) (λ b q. q) o
+  collects = pick_either (λ (y : Outcome). y ≡ recipe st → collection i ≡ recipe st) (ltb m.words words_needed) _ _ (λ b q. no_recipe_lem q) (λ b q. q) o
 
   answered : Ok (Some n) ≡ answer_of m (recipe st)
   unfolding told_answer
   answered = x.answer ∙ ap (answer_of m) o
 
-  lent : (k : Kind) → table_lent m k (outcome_of sheet text units flags m) ≡ table_of k st
+  lent : (k : Kind) → table_lent m k (outcome_of i m) ≡ table_of k st
   unfolding table_lent
   lent k = rw (o, all_fits m st answered)
 
   pub ingredient_referrers : (d : ℕ) (e : Entry) → entry_at d (table_of ingredient st) ≡ Some e → is_definition e.relation ≡ true → referrers_from ips d 0 n.ingredient_pairs ≡ referrers e.relation
   ingredient_referrers d e q p =
       rw (x.ingredients.pairs, lent ingredient, (pairs_counted m st answered).0)
-      (pairs_referrers ingredient (table_of ingredient st) _ (collection_linked sheet text units flags st collects ingredient) d e q p)
+      (pairs_referrers ingredient (table_of ingredient st) _ (collection_linked i st collects ingredient) d e q p)
 
   pub cookware_referrers : (d : ℕ) (e : Entry) → entry_at d (table_of cookware st) ≡ Some e → is_definition e.relation ≡ true → referrers_from cps d 0 n.cookware_pairs ≡ referrers e.relation
   cookware_referrers d e q p =
       rw (x.cookware.pairs, lent cookware, (pairs_counted m st answered).1)
-      (pairs_referrers cookware (table_of cookware st) _ (collection_linked sheet text units flags st collects cookware) d e q p)
+      (pairs_referrers cookware (table_of cookware st) _ (collection_linked i st collects cookware) d e q p)

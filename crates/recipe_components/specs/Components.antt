@@ -9,6 +9,7 @@ use Rattle.rules.specs.Read.{content_of, parse_line}
 use Rattle.rules.specs.Model.{Kind, ingredient, cookware, to_ingredient, to_cookware, to_step, to_section, Relation, definition, reference, Entry, entry_of, set_relation, set_modifiers}
 use Rattle.rules.specs.Reference.{entry_at}
 use Rattle.rules.specs.State.{State, table_of, Outcome, recipe, no_recipe, refusal}
+use Rattle.rules.specs.Input.{Input}
 use Rattle.rules.specs.Answer.{words_needed, collection, work_after}
 use Rattle.rules.proofs.Referrers.{is_own}
 use Rattle.rules.proofs.LinkedRecipe.{own_references}
@@ -118,8 +119,8 @@ table_lent m k (no_recipe fs) = []
 table_lent m k (refusal n l) = []
 
 -- of everything that is given: 1 also where work memory is short, as for `collect`
-unfoldable pub outcome_of : List ℕ → List ℕ → List ℕ → ℕ → Room → Outcome
-outcome_of sheet text units flags m = pick (ltb m.words words_needed) (refusal 1 0) (collection sheet text units flags)
+unfoldable pub outcome_of : Input → Room → Outcome
+outcome_of i m = pick (ltb m.words words_needed) (refusal 1 0) (collection i)
 
 -- ---- what `collect_components` leaves
 
@@ -133,8 +134,8 @@ pub record TableLent (k : Kind) (sheet : List ℕ) (es : List Entry) (m : TableR
 -- The answer is that of the rules, and every record and word that was lent is said. Ruled out: a program that lends the
 -- records of a recipe that it refuses by 20 (`ingredients`: there the table lent is empty); one that lends a reference as a
 -- definition, or to another entry (`RecordOf.relation`); one that leaves rows of the recipe in work memory (`words`).
-pub record ComponentsLeft (sheet text units : List ℕ) (flags : ℕ) (m : Room) (w : List ℕ) (is : List Component) (ips : List ℕ) (cs : List Component) (cps : List ℕ) (r : Result (Option ComponentCounts) Refusal) : Type 0 where
-  pub answer : told_answer r ≡ answer_of m (outcome_of sheet text units flags m)
-  pub ingredients : TableLent ingredient sheet (table_lent m ingredient (outcome_of sheet text units flags m)) m.ingredients is ips
-  pub cookware : TableLent cookware sheet (table_lent m cookware (outcome_of sheet text units flags m)) m.cookware cs cps
+pub record ComponentsLeft (i : Input) (m : Room) (w : List ℕ) (is : List Component) (ips : List ℕ) (cs : List Component) (cps : List ℕ) (r : Result (Option ComponentCounts) Refusal) : Type 0 where
+  pub answer : told_answer r ≡ answer_of m (outcome_of i m)
+  pub ingredients : TableLent ingredient i.sheet (table_lent m ingredient (outcome_of i m)) m.ingredients is ips
+  pub cookware : TableLent cookware i.sheet (table_lent m cookware (outcome_of i m)) m.cookware cs cps
   pub words : w ≡ work_after m.words

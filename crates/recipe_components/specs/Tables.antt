@@ -1,5 +1,6 @@
 -- What the rows of a table in work memory are to the records and pairs that are lent.
 use Rattle.std.specs.Prelude.{ℕ, ◌≡◌, List, ◌&&◌, length, Option, None, Some, Result, Ok, Err}
+use Rattle.rules.specs.Input.{Input}
 use Rattle.rules.specs.Basic.{pick}
 use Rattle.rules.specs.Model.{Kind, ingredient, cookware, Entry}
 use Rattle.model.specs.declared.Held.{Held}
@@ -56,10 +57,10 @@ pub record RowsOf (k : Kind) (sheet : List ℕ) (es : List Entry) (w : List ℕ)
   pub records : RecordsOf k sheet es (records_in w from n)
   pub pairs : pairs_of (records_in w from n) ≡ table_pairs k es
 
-pub record RowsCollected (sheet text units : List ℕ) (flags : ℕ) (m : Room) (w : List ℕ) (r : Result (Option ComponentCounts) Refusal) : Type 0 where
-  pub answer : told_answer r ≡ answer_of m (outcome_of sheet text units flags m)
+pub record RowsCollected (i : Input) (m : Room) (w : List ℕ) (r : Result (Option ComponentCounts) Refusal) : Type 0 where
+  pub answer : told_answer r ≡ answer_of m (outcome_of i m)
   pub long : length w ≡ m.words
-  pub ingredients : RowsOf ingredient sheet (table_lent m ingredient (outcome_of sheet text units flags m)) w INGREDIENTS (ingredients_of r)
-  pub cookware : RowsOf cookware sheet (table_lent m cookware (outcome_of sheet text units flags m)) w COOKWARE (cookware_of r)
+  pub ingredients : RowsOf ingredient i.sheet (table_lent m ingredient (outcome_of i m)) w INGREDIENTS (ingredients_of r)
+  pub cookware : RowsOf cookware i.sheet (table_lent m cookware (outcome_of i m)) w COOKWARE (cookware_of r)
   pub ingredients_ready : Ready w INGREDIENTS (ingredients_of r) m.ingredients
   pub cookware_ready : Ready w COOKWARE (cookware_of r) m.cookware

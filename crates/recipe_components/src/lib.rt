@@ -2,6 +2,7 @@
 #![tactic(auto)]
 
 ghost use Rattle.std.specs.Prelude.{◌≡◌, length};
+ghost use Rattle.rules.specs.Input.{input_of};
 ghost use Rattle.inputs.specs.Inputs.{GoodInputs};
 ghost use Rattle.component_records.specs.Tables.{room_for};
 ghost use Rattle.recipe_components.specs.Components.{ComponentsLeft};
@@ -96,8 +97,8 @@ fn pass_rows(
     words: &mut [u32],
     room: Lent,
 ) -> Components
-    requires { GoodInputs sheet.now.bytes.now sheet.now.text.now units.now.lines.now flags (length words.old) 65536 }
-    ensures { RowsCollected sheet.now.bytes.now sheet.now.text.now units.now.lines.now flags (room_of (length words.old) room.ingredients room.ingredient_pairs room.cookware room.cookware_pairs) words.new result }
+    requires { GoodInputs (input_of sheet.now.bytes.now sheet.now.text.now units.now.lines.now flags) (length words.old) 65536 }
+    ensures { RowsCollected (input_of sheet.now.bytes.now sheet.now.text.now units.now.lines.now flags) (room_of (length words.old) room.ingredients room.ingredient_pairs room.cookware room.cookware_pairs) words.new result }
 {
     match pass::run(sheet, units, flags, words)? {
         Some(held) => {
@@ -117,7 +118,7 @@ fn collect_rows(
     words: &mut [u32],
     room: Lent,
 ) -> Components
-    ensures { RowsCollected sheet.now text.now units.now flags (room_of (length words.old) room.ingredients room.ingredient_pairs room.cookware room.cookware_pairs) words.new result }
+    ensures { RowsCollected (input_of sheet.now text.now units.now flags) (room_of (length words.old) room.ingredients room.ingredient_pairs room.cookware room.cookware_pairs) words.new result }
 {
     let mut index = [0u32; 2305];
     inputs::check_inputs(
@@ -153,7 +154,7 @@ pub fn collect_components(
     cookware: &mut [Component],
     cookware_pairs: &mut [u32],
 ) -> Components
-    ensures { ComponentsLeft sheet.now text.now units.now flags
+    ensures { ComponentsLeft (input_of sheet.now text.now units.now flags)
         (room_of (length words.old) (length ingredients.old) (length ingredient_pairs.old) (length cookware.old) (length cookware_pairs.old))
         words.new ingredients.new ingredient_pairs.new cookware.new cookware_pairs.new result }
 {

@@ -4,6 +4,7 @@
 #![tactic(auto)]
 
 ghost use Rattle.std.specs.Prelude.{◌≡◌, ◌<◌, ◌≤◌, length};
+ghost use Rattle.rules.specs.Input.{input_of};
 ghost use Rattle.inputs.specs.Inputs.{GoodInputs};
 ghost use Rattle.inputs.specs.declared.TheConstants.{WORDS};
 ghost use Rattle.model.specs.Kinds.{kind_of};
@@ -98,7 +99,7 @@ fn run(
     flags: u32,
     words: &mut [u32],
 ) -> io::Result<()>
-    requires { GoodInputs sheet.now.bytes.now sheet.now.text.now units.now.lines.now flags (length words.old) 65536 }
+    requires { GoodInputs (input_of sheet.now.bytes.now sheet.now.text.now units.now.lines.now flags) (length words.old) 65536 }
 {
     match pass::run(sheet, units, flags, words) {
         Ok(Some(h)) => {

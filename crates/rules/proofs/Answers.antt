@@ -4,6 +4,7 @@ use Prim.Native.Nat.{ℕ}
 use mathlib.Core.Path.{◌≡◌, refl}
 use mathlib.Core.List.{List, [], ◌∷◌}
 use Rattle.rules.specs.Basic.{codes, concat}
+use Rattle.rules.specs.Input.{input_of}
 use Rattle.rules.specs.Answer.{Lent, collect_answer, plain_answer, printed, flags_of, words_needed, bytes_needed}
 use Rattle.rules.specs.Evaluate.{evaluate}
 
@@ -25,7 +26,7 @@ sheet_10 =
     (codes "start\tstep\n" ∷ codes "ingredient\t0\t1\t0\t1\ta\t-\t-\t-\t&\t0\t0\tn\tstep\t0\t0\t0\n" ∷ codes "end\tstep\n" ∷ [])
 
 pub collect_10 :
-    printed (collect_answer sheet_10 ten four (flags_of (codes "7")) (lent 1048576))
+    printed (collect_answer (input_of sheet_10 ten four (flags_of (codes "7"))) (lent 1048576))
     ≡
     concat
     (codes "recipe\tyes\n" ∷ codes "section\t-\n" ∷ codes "step\t1\n" ∷ codes "item\tingredient\t0\n"
@@ -34,7 +35,7 @@ unfolding evaluate
 collect_10 = refl
 
 pub plain_10 :
-    printed (plain_answer sheet_10 ten four (flags_of (codes "7")) (lent 1048576))
+    printed (plain_answer (input_of sheet_10 ten four (flags_of (codes "7"))) (lent 1048576))
     ≡
     concat
     (codes "start\tstep\n" ∷ codes "ingredient\t0\t1\t0\t1\ta\t-\t-\t-\t&\t0\t0\tn\tstep\t0\t0\t0\n" ∷ codes "end\tstep\n" ∷ [])
@@ -50,7 +51,7 @@ sheet_14 =
     ∷ codes "end\ttext\n" ∷ [])
 
 pub collect_14 :
-    printed (collect_answer sheet_14 ten four (flags_of (codes "7")) (lent 1048576))
+    printed (collect_answer (input_of sheet_14 ten four (flags_of (codes "7"))) (lent 1048576))
     ≡
     concat
     (codes "recipe\tyes\n" ∷ codes "section\t-\n" ∷ codes "text\tabc\n" ∷ codes "diag\tW\t5\t1-3\t-\n" ∷ [])
@@ -58,7 +59,7 @@ unfolding evaluate
 collect_14 = refl
 
 pub plain_14 :
-    printed (plain_answer sheet_14 ten four (flags_of (codes "7")) (lent 1048576))
+    printed (plain_answer (input_of sheet_14 ten four (flags_of (codes "7"))) (lent 1048576))
     ≡
     concat
     (codes "start\ttext\n" ∷ codes "text\t6\t8\ta\n" ∷ codes "text\t1\t3\tbc\n" ∷ codes "end\ttext\n" ∷ [])
@@ -77,7 +78,7 @@ sheet_22 =
     ∷ codes "ingredient\t6\t9\t1\t4\tx\t-\t-\t-\t&\t4\t5\t-\n" ∷ codes "end\tstep\n" ∷ [])
 
 pub collect_22 :
-    printed (collect_answer sheet_22 ten four (flags_of (codes "7")) (lent 1048576))
+    printed (collect_answer (input_of sheet_22 ten four (flags_of (codes "7"))) (lent 1048576))
     ≡
     concat
     (codes "recipe\tyes\n" ∷ codes "section\t-\n" ∷ codes "step\t1\n" ∷ codes "section\t=a\n" ∷ codes "section\t-\n" ∷ codes "step\t1\n"
@@ -88,7 +89,7 @@ unfolding evaluate
 collect_22 = refl
 
 pub plain_22 :
-    printed (plain_answer sheet_22 ten four (flags_of (codes "7")) (lent 1048576))
+    printed (plain_answer (input_of sheet_22 ten four (flags_of (codes "7"))) (lent 1048576))
     ≡
     concat
     (codes "start\tstep\n" ∷ codes "end\tstep\n" ∷ codes "section\t0\t1\ta\n" ∷ codes "section\t-\n" ∷ codes "start\tstep\n"
@@ -108,7 +109,7 @@ sheet_24 =
     ∷ codes "ingredient\t0\t10\t0\t1\ta\t-\t-\t0\t10\tn\t&\t0\t0\t-\n" ∷ codes "end\tstep\n" ∷ [])
 
 pub collect_24 :
-    printed (collect_answer sheet_24 ten four (flags_of (codes "7")) (lent 1048576))
+    printed (collect_answer (input_of sheet_24 ten four (flags_of (codes "7"))) (lent 1048576))
     ≡
     concat
     (codes "recipe\tyes\n" ∷ codes "section\t-\n" ∷ codes "step\t1\n" ∷ codes "item\tingredient\t0\n" ∷ codes "item\tingredient\t1\n"
@@ -118,7 +119,7 @@ unfolding evaluate
 collect_24 = refl
 
 pub plain_24 :
-    printed (plain_answer sheet_24 ten four (flags_of (codes "7")) (lent 1048576))
+    printed (plain_answer (input_of sheet_24 ten four (flags_of (codes "7"))) (lent 1048576))
     ≡
     concat
     (codes "start\tstep\n" ∷ codes "ingredient\t0\t1\t0\t1\ta\t-\t-\t-\t.\t0\t0\t-\n"
@@ -135,7 +136,7 @@ sheet_25 =
     ∷ codes "cookware\t2\t3\t5\t6\tb\t-\t-\t-\t@-?\t0\t2\n" ∷ codes "cookware\t3\t5\t6\t9\tb\t-\t-\t-\t&-\t1\t4\n" ∷ codes "end\tstep\n" ∷ [])
 
 pub collect_25 :
-    printed (collect_answer sheet_25 ten four (flags_of (codes "7")) (lent 1048576))
+    printed (collect_answer (input_of sheet_25 ten four (flags_of (codes "7"))) (lent 1048576))
     ≡
     concat
     (codes "recipe\tyes\n" ∷ codes "section\t-\n" ∷ codes "step\t1\n" ∷ codes "item\tcookware\t0\n" ∷ codes "item\tcookware\t1\n"
@@ -146,7 +147,7 @@ unfolding evaluate
 collect_25 = refl
 
 pub plain_25 :
-    printed (plain_answer sheet_25 ten four (flags_of (codes "7")) (lent 1048576))
+    printed (plain_answer (input_of sheet_25 ten four (flags_of (codes "7"))) (lent 1048576))
     ≡
     concat
     (codes "start\tstep\n" ∷ codes "cookware\t0\t1\t3\t4\ta\t-\t-\t-\t@\t6\t8\n" ∷ codes "cookware\t1\t3\t4\t7\ta\t-\t-\t-\t@&\t7\t10\n"
@@ -162,7 +163,7 @@ sheet_28 =
     (codes "start\tstep\n" ∷ codes "timer\t0\t1\t3\t4\ta\t6\t8\tn\t1\t3\t5\t-\t4\t7\tkg\n" ∷ codes "end\tstep\n" ∷ [])
 
 pub collect_28 :
-    printed (collect_answer sheet_28 ten four (flags_of (codes "4")) (lent 1048576))
+    printed (collect_answer (input_of sheet_28 ten four (flags_of (codes "4"))) (lent 1048576))
     ≡
     concat
     (codes "recipe\tyes\n" ∷ codes "section\t-\n" ∷ codes "step\t1\n" ∷ codes "item\ttimer\t0\n" ∷ codes "timer\t0\t=a\tn\t5\t=kg\tf\n"
@@ -171,7 +172,7 @@ unfolding evaluate
 collect_28 = refl
 
 pub plain_28 :
-    printed (plain_answer sheet_28 ten four (flags_of (codes "4")) (lent 1048576))
+    printed (plain_answer (input_of sheet_28 ten four (flags_of (codes "4"))) (lent 1048576))
     ≡
     concat
     (codes "start\tstep\n" ∷ codes "timer\t0\t1\t3\t4\ta\t6\t8\tn\t1\t3\t5\t-\t4\t7\tkg\n" ∷ codes "end\tstep\n" ∷ [])
@@ -186,7 +187,7 @@ sheet_29 =
     (codes "start\tstep\n" ∷ codes "timer\t0\t1\t3\t4\ta\t6\t8\tt\t1\t3\t5\t-\t4\t7\t\n" ∷ codes "end\tstep\n" ∷ [])
 
 pub collect_29 :
-    printed (collect_answer sheet_29 ten four (flags_of (codes "4")) (lent 1048576))
+    printed (collect_answer (input_of sheet_29 ten four (flags_of (codes "4"))) (lent 1048576))
     ≡
     concat
     (codes "recipe\tyes\n" ∷ codes "section\t-\n" ∷ codes "step\t1\n" ∷ codes "item\ttimer\t0\n" ∷ codes "timer\t0\t=a\tt\t5\t=\tf\n"
@@ -195,7 +196,7 @@ unfolding evaluate
 collect_29 = refl
 
 pub plain_29 :
-    printed (plain_answer sheet_29 ten four (flags_of (codes "4")) (lent 1048576))
+    printed (plain_answer (input_of sheet_29 ten four (flags_of (codes "4"))) (lent 1048576))
     ≡
     concat
     (codes "start\tstep\n" ∷ codes "timer\t0\t1\t3\t4\ta\t6\t8\tt\t1\t3\t5\t-\t4\t7\t\n" ∷ codes "end\tstep\n" ∷ [])
@@ -214,7 +215,7 @@ sheet_31 =
     ∷ codes "cookware\t5\t7\t0\t3\tA\t-\t-\t-\t@\t3\t6\n" ∷ codes "end\tstep\n" ∷ [])
 
 pub collect_31 :
-    printed (collect_answer sheet_31 ten four (flags_of (codes "7")) (lent 1048576))
+    printed (collect_answer (input_of sheet_31 ten four (flags_of (codes "7"))) (lent 1048576))
     ≡
     concat
     (codes "recipe\tyes\n" ∷ codes "section\t-\n" ∷ codes "step\t1\n" ∷ codes "item\tingredient\t0\n" ∷ codes "item\tcookware\t0\n"
@@ -227,7 +228,7 @@ unfolding evaluate
 collect_31 = refl
 
 pub plain_31 :
-    printed (plain_answer sheet_31 ten four (flags_of (codes "7")) (lent 1048576))
+    printed (plain_answer (input_of sheet_31 ten four (flags_of (codes "7"))) (lent 1048576))
     ≡
     concat
     (codes "start\tstep\n" ∷ codes "ingredient\t0\t1\t3\t4\ta\t-\t-\t-\t@\t6\t8\t-\n" ∷ codes "cookware\t1\t3\t4\t7\ta\t-\t-\t-\t@\t7\t10\n"
@@ -245,7 +246,7 @@ sheet_32 =
     ∷ codes "meta\t2\t3\ta\t5\t6\tb\n" ∷ codes "meta\t0\t2\t[define]\t3\t5\t z\n" ∷ [])
 
 pub collect_32 :
-    printed (collect_answer sheet_32 ten four (flags_of (codes "1")) (lent 1048576))
+    printed (collect_answer (input_of sheet_32 ten four (flags_of (codes "1"))) (lent 1048576))
     ≡
     concat
     (codes "recipe\tyes\n" ∷ codes "meta\t[x]\ty\n" ∷ codes "meta\ta\tb\n" ∷ codes "diag\tE\t1\t3-4,0-1\t-\n" ∷ codes "diag\tW\t2\t6-8\t-\n"
@@ -254,7 +255,7 @@ unfolding evaluate
 collect_32 = refl
 
 pub plain_32 :
-    printed (plain_answer sheet_32 ten four (flags_of (codes "1")) (lent 1048576))
+    printed (plain_answer (input_of sheet_32 ten four (flags_of (codes "1"))) (lent 1048576))
     ≡
     concat
     (codes "meta\t6\t8\t[x]\t1\t3\ty\n" ∷ codes "meta\t2\t3\ta\t5\t6\tb\n" ∷ [])

@@ -6,8 +6,8 @@ use mathlib.Core.Bool.{Bool, true, false}
 use Rattle.std.specs.Prelude.{Option, None, Some}
 use lib.Dec.{eqb}
 use lib.ListN.{length}
+use Rattle.rules.specs.Input.{Context}
 use Rattle.rules.specs.Event.{Component, Intermediate, Event}
-use Rattle.rules.specs.Units.{NamedUnit}
 use Rattle.rules.specs.Modes.{Modes}
 use Rattle.rules.specs.Model.{Kind, ingredient, cookware, with_ref, Relation, definition, reference, Entry, entry_with, entry_of, set_relation, set_modifiers}
 use Rattle.rules.specs.Reference.{Earlier, fits, same_name_in, same_name_of, treat_as_reference, refers_to, as_referring, referred_by, set_referenced_from, is_definition}
@@ -107,21 +107,21 @@ unfolding table_of
 table_sound ingredient st s = s.0
 table_sound cookware st s = s.1
 
-module _ (text : List ℕ) (units : List NamedUnit) (flags : ℕ) where
-  pub by_name_sound : (k : Kind) (c : Component) (st : State) → Sound (table_of k st) → SoundMade (made_by_name units flags k c st)
+module _ (cx : Context) where
+  pub by_name_sound : (k : Kind) (c : Component) (st : State) → Sound (table_of k st) → SoundMade (made_by_name cx.units cx.flags k c st)
   unfolding made_by_name made_with
   by_name_sound k c st s =
       record { entry_is = entry_sound k (new_entry k c st) _ (new_definition k c st); to_is = to_sound st.modes (new_entry k c st) (table_of k st) _ s refl }
 
   -- an intermediate reference has REF
-  intermediate_sound : (c : Component) (i : Intermediate) (st : State) → c.modifiers.ref ≡ true → SoundMade (make_ingredient units flags c (Some i) st)
+  intermediate_sound : (c : Component) (i : Intermediate) (st : State) → c.modifiers.ref ≡ true → SoundMade (make_ingredient cx c (Some i) st)
   unfolding make_ingredient made_intermediate set_relation new_entry entry_of entry_with refers_to_reference
   intermediate_sound c i st r = record { entry_is = λ q. no_truth (sym q ∙ r); to_is = refl }
 
-  made_sound : (k : Kind) (m : Made) (st : State) → MadeBy units flags st k m → Sound (table_of k st) → SoundMade m
+  made_sound : (k : Kind) (m : Made) (st : State) → MadeBy cx st k m → Sound (table_of k st) → SoundMade m
   made_sound k m st h s = by st k m h s
     where
-      by : (st : State) (k : Kind) (m : Made) → MadeBy units flags st k m → Sound (table_of k st) → SoundMade m
+      by : (st : State) (k : Kind) (m : Made) → MadeBy cx st k m → Sound (table_of k st) → SoundMade m
       by st k m (by_name x c) s = by_name_sound x c st s
       by st k m (by_place c i r) s = intermediate_sound c i st r
 
@@ -130,7 +130,7 @@ module _ (text : List ℕ) (units : List NamedUnit) (flags : ℕ) where
   abbrev SoundAfter : Kind → List Entry → List Entry → Type 0
   SoundAfter k es fs = Sound es → Sound fs
 
-  sound_onward : Onward units flags SoundAfter
+  sound_onward : Onward cx SoundAfter
   sound_onward =
       record {
         same = λ k es s. s;
@@ -138,11 +138,11 @@ module _ (text : List ℕ) (units : List NamedUnit) (flags : ℕ) where
         more = λ k m st h n s. pushed_sound m (table_of k st) (made_sound k m st h s) s;
       }
 
-  pub event_sound : (e : Event) (st : State) → SoundState st → SoundStep (on_event text units flags e st)
-  event_sound e st s = go (on_event text units flags e st) (event_tables text units flags st e)
+  pub event_sound : (e : Event) (st : State) → SoundState st → SoundStep (on_event cx e st)
+  event_sound e st s = go (on_event cx e st) (event_tables cx st e)
     where
-      go : (a : Step) → TablesAfter units flags st a → SoundStep a
-      go (next after) t = state_sound after (λ k. line_related units flags SoundAfter sound_onward st (next after) t k (table_sound k st s))
+      go : (a : Step) → TablesAfter cx st a → SoundStep a
+      go (next after) t = state_sound after (λ k. line_related cx SoundAfter sound_onward st (next after) t k (table_sound k st s))
       go (stop n) (line_stops h) = h
       go (stop n) (line_chains k m h b) = no_truth (sym (made_sound k m st h (table_sound k st s)).to_is ∙ b)
 
@@ -150,13 +150,13 @@ module _ (text : List ℕ) (units : List NamedUnit) (flags : ℕ) where
   unfolding first_state
   first_sound = (sound_none, sound_none)
 
-  walk_sound : (es : List Event) → OnWalk SoundState NotChained (walk text units flags 1 (going first_state) es)
-  walk_sound es = walk_keeps SoundState NotChained text units flags refl event_sound es 1 (going first_state) first_sound
+  walk_sound : (es : List Event) → OnWalk SoundState NotChained (walk cx 1 (going first_state) es)
+  walk_sound es = walk_keeps SoundState NotChained cx refl event_sound es 1 (going first_state) first_sound
 
   -- in every state that the pass reaches, an entry without REF is a definition
-  pub pass_sound : (es : List Event) (st : State) → walk text units flags 1 (going first_state) es ≡ going st → (k : Kind) → Sound (table_of k st)
+  pub pass_sound : (es : List Event) (st : State) → walk cx 1 (going first_state) es ≡ going st → (k : Kind) → Sound (table_of k st)
   pass_sound es st q k = table_sound k st (subst (OnWalk SoundState NotChained) q (walk_sound es))
 
   -- no walk is refused with 18
-  pub pass_never_18 : (es : List Event) (n l : ℕ) → walk text units flags 1 (going first_state) es ≡ refused n l → eqb n 18 ≡ false
+  pub pass_never_18 : (es : List Event) (n l : ℕ) → walk cx 1 (going first_state) es ≡ refused n l → eqb n 18 ≡ false
   pass_never_18 es n l q = subst (OnWalk SoundState NotChained) q (walk_sound es)

@@ -3,120 +3,63 @@ use Prim.Native.Nat.{ℕ, suc, ◌+◌}
 use mathlib.Core.Path.{◌≡◌, refl, sym, ap, ◌∙◌}
 use mathlib.Core.List.{List, [], ◌∷◌, ◌++◌}
 use mathlib.Core.Bool.{Bool, true, false}
-use Rattle.std.specs.Prelude.{Option, None, Some}
 use native.Mathlib.Omega.{arith}
-use lib.Dec.{ltb}
 use lib.ListN.{length}
+use Rattle.rules.specs.Input.{Context}
 use Rattle.rules.specs.Basic.{pick, any}
-use Rattle.rules.specs.Utf8.{is_utf8}
 use Rattle.rules.specs.Event.{Event}
-use Rattle.rules.specs.Units.{NamedUnit, read_units, name_twice}
 use Rattle.rules.specs.Finding.{Finding}
 use Rattle.rules.specs.State.{State, first_state, over_limits, Step, next, stop, Walk, going, failed, refused, Outcome, recipe, no_recipe}
 use Rattle.rules.specs.Pass.{is_open, is_error_event, on_event, step, walk, ended, unless_over, finish, parse_events}
-use Rattle.rules.specs.Answer.{Reading, events, unread, read_sheet, passed, with_units, collection, error_line, events_or, units_or}
-use Rattle.rules.specs.Demand.{is_accepted, yields_recipe}
-use Rattle.rules.specs.PlainForm.{events_of}
+use Rattle.rules.specs.Answer.{error_line}
+use Rattle.rules.specs.Demand.{yields_recipe}
 use Rattle.rules.proofs.Basics.{pick_either, no_truth}
 use Rattle.rules.proofs.Walks.{stays_refused, step_next, step_stops}
 use Rattle.rules.proofs.SimWalk.{Went, went}
 use Rattle.rules.proofs.FaultWalk.{walk_no_error}
 
--- what stands before the sheet's lines is in order, and does not ask the sheet
-pub record Begins (text units : List ℕ) (flags : ℕ) : Type 0 where
-  pub text_short : ltb 65535 (length text) ≡ false
-  pub units_short : ltb 16384 (length units) ≡ false
-  pub utf8 : is_utf8 text ≡ true
-  pub known : read_units units ≡ Some (units_or (read_units units))
-  pub once : name_twice (units_or (read_units units)) ≡ false
-  pub flags_good : ltb 7 flags ≡ false
-
-pub record Collected (sheet text units : List ℕ) (flags : ℕ) : Type 0 where
-  pub begins : Begins text units flags
-  pub short : ltb 65536 (length sheet) ≡ false
-  pub read : read_sheet text sheet ≡ events (events_of text sheet)
-
--- the collection is then the pass over the sheet's events
-pub collected_is : (sheet text units : List ℕ) (flags : ℕ) → Begins text units flags → ltb 65536 (length sheet) ≡ false → (es : List Event)
-    → read_sheet text sheet ≡ events es
-    → collection sheet text units flags ≡ parse_events text (units_or (read_units units)) flags es
-unfolding collection
-collected_is sheet text units flags b s es r =
-    rw (s, b.text_short, b.units_short, b.utf8) (ap (with_units text flags sheet) b.known ∙ (unfold with_units passed in rw (b.once, b.flags_good, r)))
-
-pub collected : (sheet text units : List ℕ) (flags : ℕ) → is_accepted (collection sheet text units flags) ≡ true → Collected sheet text units flags
-unfolding collection with_units passed units_or events_or is_accepted
-collected sheet text units flags =
-    pick_either P (ltb 65536 (length sheet)) _ _ (λ b q. no_truth q)
-    (λ b1. pick_either P (ltb 65535 (length text)) _ _ (λ b q. no_truth q)
-    (λ b2. pick_either P (ltb 16384 (length units)) _ _ (λ b q. no_truth q)
-    (λ b3. pick_either P (is_utf8 text) _ _ (λ b4. by_units b1 b2 b3 b4 (read_units units) refl) (λ b q. no_truth q))))
-  where
-    P : Outcome → Type 0
-    P o = is_accepted o ≡ true → Collected sheet text units flags
-
-    by_read : ltb 65536 (length sheet) ≡ false → Begins text units flags → (us : List NamedUnit) (r : Reading) → read_sheet text sheet ≡ r
-        → P (passed text flags us r)
-    by_read b1 b us (unread n l) e q = no_truth q
-    by_read b1 b us (events es) e q = record { begins = b; short = b1; read = e ∙ ap (λ (r : Reading). events (events_or r)) (sym e) }
-
-    by_units : ltb 65536 (length sheet) ≡ false → ltb 65535 (length text) ≡ false → ltb 16384 (length units) ≡ false → is_utf8 text ≡ true
-        → (u : Option (List NamedUnit)) → read_units units ≡ u → P (with_units text flags sheet u)
-    by_units b1 b2 b3 b4 None eu q = no_truth q
-    by_units b1 b2 b3 b4 (Some us) eu q0 =
-        pick_either P (name_twice us) _ _ (λ b q. no_truth q)
-        (λ b5. pick_either P (ltb 7 flags) _ _ (λ b q. no_truth q)
-        (λ b6. by_read b1 (record {
-          text_short = b2;
-          units_short = b3;
-          utf8 = b4;
-          known = eu ∙ ap (λ (o : Option (List NamedUnit)). Some (units_or o)) (sym eu);
-          once = ap (λ (o : Option (List NamedUnit)). name_twice (units_or o)) eu ∙ b5;
-          flags_good = b6;
-        }) us (read_sheet text sheet) refl)) q0
-
 -- ---- `error` lines
 
-module _ (text : List ℕ) (units : List NamedUnit) (flags : ℕ) where
+module _ (cx : Context) where
   no_failed : {P : Type 0} {n l : ℕ} {fs : List Finding} → refused n l ≡ failed fs → P
   no_failed q = absurd (let z : ◌≡◌ {A = ℕ} 0 1 = cc in omega arith)
 
-  refused_fails : {P : Type 0} (line n l : ℕ) (es : List Event) (fs : List Finding) → walk text units flags line (refused n l) es ≡ failed fs → P
-  refused_fails line n l es fs q = no_failed (sym (stays_refused text units flags line n l es) ∙ q)
+  refused_fails : {P : Type 0} (line n l : ℕ) (es : List Event) (fs : List Finding) → walk cx line (refused n l) es ≡ failed fs → P
+  refused_fails line n l es fs q = no_failed (sym (stays_refused cx line n l es) ∙ q)
 
   -- a walk that fails has met one
-  failed_error : (es : List Event) (line : ℕ) (st : State) (fs : List Finding) → walk text units flags line (going st) es ≡ failed fs → any is_error_event es ≡ true
+  failed_error : (es : List Event) (line : ℕ) (st : State) (fs : List Finding) → walk cx line (going st) es ≡ failed fs → any is_error_event es ≡ true
   unfolding walk any
   failed_error [] line st fs w = absurd (let z : ◌≡◌ {A = ℕ} 0 1 = cc in omega arith)
-  failed_error (e ∷ es) line st fs w = go (λ x q. failed_error es (suc line) x fs q) (is_error_event e) refl (on_event text units flags e st) refl
+  failed_error (e ∷ es) line st fs w = go (λ x q. failed_error es (suc line) x fs q) (is_error_event e) refl (on_event cx e st) refl
     where
-      go : ((x : State) → walk text units flags (suc line) (going x) es ≡ failed fs → any is_error_event es ≡ true)
-          → (b : Bool) → is_error_event e ≡ b → (s : Step) → on_event text units flags e st ≡ s → any is_error_event (e ∷ es) ≡ true
+      go : ((x : State) → walk cx (suc line) (going x) es ≡ failed fs → any is_error_event es ≡ true)
+          → (b : Bool) → is_error_event e ≡ b → (s : Step) → on_event cx e st ≡ s → any is_error_event (e ∷ es) ≡ true
       go ih true ne s a = rw ne
-      go ih false ne (stop x) a = refused_fails (suc line) x line es fs (rw (step_stops text units flags line x e st ne a) at w)
-      go ih false ne (next now) a = on (over_limits now) (step_next text units flags line e st now ne a)
+      go ih false ne (stop x) a = refused_fails (suc line) x line es fs (rw (step_stops cx line x e st ne a) at w)
+      go ih false ne (next now) a = on (over_limits now) (step_next cx line e st now ne a)
         where
-          on : (b : Bool) → step text units flags line e (going st) ≡ pick b (refused 17 line) (going now) → any is_error_event (e ∷ es) ≡ true
+          on : (b : Bool) → step cx line e (going st) ≡ pick b (refused 17 line) (going now) → any is_error_event (e ∷ es) ≡ true
           on true g = refused_fails (suc line) 17 line es fs (rw g at w)
           on false g = rw (ne, ih now (rw g at w))
 
-  pub recipe_yields : (es : List Event) (st : State) → parse_events text units flags es ≡ recipe st → yields_recipe es ≡ true
+  pub recipe_yields : (es : List Event) (st : State) → parse_events cx es ≡ recipe st → yields_recipe es ≡ true
   unfolding yields_recipe
   recipe_yields es st q =
-      let r : Went text units flags es st = went text units flags es st q in
-      let z : any is_error_event es ≡ false = walk_no_error text units flags es 1 first_state r.last r.there in
+      let r : Went cx es st = went cx es st q in
+      let z : any is_error_event es ≡ false = walk_no_error cx es 1 first_state r.last r.there in
       rw z
 
-  pub failed_yields : (es : List Event) (fs : List Finding) → parse_events text units flags es ≡ no_recipe fs → any is_error_event es ≡ true
+  pub failed_yields : (es : List Event) (fs : List Finding) → parse_events cx es ≡ no_recipe fs → any is_error_event es ≡ true
   unfolding parse_events finish
-  failed_yields es fs q = go (walk text units flags 1 (going first_state) es) refl q
+  failed_yields es fs q = go (walk cx 1 (going first_state) es) refl q
     where
       over : (s : State) → unless_over s ≡ no_recipe fs → any is_error_event es ≡ true
       over s = unfold unless_over in
           pick_either (λ (o : Outcome). o ≡ no_recipe fs → any is_error_event es ≡ true) (over_limits s) _ _
           (λ b p. absurd (let z : ◌≡◌ {A = ℕ} 0 1 = cc in omega arith)) (λ b p. absurd (let z : ◌≡◌ {A = ℕ} 0 1 = cc in omega arith))
 
-      go : (w : Walk) → walk text units flags 1 (going first_state) es ≡ w → finish w ≡ no_recipe fs → any is_error_event es ≡ true
+      go : (w : Walk) → walk cx 1 (going first_state) es ≡ w → finish w ≡ no_recipe fs → any is_error_event es ≡ true
       go (going end) p q =
           pick_either (λ (o : Outcome). o ≡ no_recipe fs → any is_error_event es ≡ true) (is_open end.place.block) _ _
           (λ b r. absurd (let z : ◌≡◌ {A = ℕ} 0 1 = cc in omega arith)) (λ b r. over (ended end) r) q

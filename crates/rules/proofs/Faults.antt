@@ -6,10 +6,10 @@ use mathlib.Core.Bool.{Bool, true, false, not}
 use Rattle.std.specs.Prelude.{Option, None, Some}
 use native.Mathlib.Omega.{arith}
 use borrow.Author.Tests.{eq-eqb, ne_eqb}
+use Rattle.rules.specs.Input.{Context}
 use Rattle.rules.specs.Basic.{pick, on_some}
 use Rattle.rules.specs.Words.{BlockKind, step_kind, text_kind, Severity, DefineMode, mode_all, mode_components, mode_steps, mode_text}
 use Rattle.rules.specs.Event.{Text, Component, Intermediate, ComponentEvent, ingredient_event, cookware_event, timer_event, Between, meta_event, section_event, start_event, Inside, end_event, text_event, component_event, Event, between, inside, parser_event}
-use Rattle.rules.specs.Units.{NamedUnit}
 use Rattle.rules.specs.Modes.{is_components, is_text}
 use Rattle.rules.specs.Model.{Kind, ingredient, cookware, trimmed_text, Entry, Item}
 use Rattle.rules.specs.Reference.{Earlier, same_name_of, refers_to}
@@ -42,11 +42,11 @@ marked_none : (c : Component) (o : Option Earlier) → c.modifiers.ref ≡ true 
 unfolding implicit_of
 marked_none c o r = rw r
 
-module _ (text : List ℕ) (units : List NamedUnit) (flags : ℕ) (earlier : List Event) (st : State) (h : Knows flags earlier st) where
+module _ (cx : Context) (earlier : List Event) (st : State) (h : Knows cx.flags earlier st) where
   -- ---- every line keeps what is known
 
   abbrev N : Event → Step → Type 0
-  N e s = KnowsStep flags (e ∷ earlier) s
+  N e s = KnowsStep cx.flags (e ∷ earlier) s
 
   agrees : (o : Open) → st.place.block ≡ o → Agrees o (is_text st.modes.define)
   agrees o q = subst (λ (x : Open). Agrees x (is_text st.modes.define)) q h.block
@@ -55,8 +55,8 @@ module _ (text : List ℕ) (units : List NamedUnit) (flags : ℕ) (earlier : Lis
   still : (e : Event) → mode_key e ≡ None → entry_of_line e ≡ no_entry → (after : State) → after.modes ≡ st.modes
       → after.tables.ingredients ≡ st.tables.ingredients → after.tables.cookware ≡ st.tables.cookware
       → Agrees after.place.block (is_text st.modes.define)
-      → Knows flags (e ∷ earlier) after
-  still e q x = knows_same flags earlier st h e q (no_entry_lem flags (define_at flags earlier) e x)
+      → Knows cx.flags (e ∷ earlier) after
+  still e q x = knows_same cx.flags earlier st h e q (no_entry_lem cx.flags (define_at cx.flags earlier) e x)
 
   between_still : (b : Between) → entry_of_line (between b) ≡ no_entry
   unfolding entry_of_line
@@ -67,12 +67,12 @@ module _ (text : List ℕ) (units : List NamedUnit) (flags : ℕ) (earlier : Lis
   opened_agrees m step_kind = pick_either (λ (o : Open). Agrees o (is_text m)) (is_text m) _ _ (λ b. b) (λ b. b)
   opened_agrees m text_kind = pick_either (λ (o : Open). Agrees o (is_text m)) (is_text m) _ _ (λ b. b) (λ b. b)
 
-  between_knows : (b : Between) → is_open st.place.block ≡ false → Knows flags (between b ∷ earlier) (on_between text units flags b st)
+  between_knows : (b : Between) → is_open st.place.block ≡ false → Knows cx.flags (between b ∷ earlier) (on_between cx b st)
   unfolding on_between
-  between_knows (meta_event k v) q = meta_knows flags earlier st h q k v
+  between_knows (meta_event k v) q = meta_knows cx.flags earlier st h q k v
   between_knows (section_event n) q =
       unfold on_section close_section set_place set_kept mode_key in
-      pick_either (λ (s : State). Knows flags (between (section_event n) ∷ earlier)
+      pick_either (λ (s : State). Knows cx.flags (between (section_event n) ∷ earlier)
       (set_place (record { section = record { name = on_some trimmed_text n; content = [] }; step_counter = 1; block = no_block }) s))
       (is_empty_section st.place.section) _ _
       (λ b. still (between (section_event n)) refl (between_still (section_event n)) _ refl refl refl tt)
@@ -88,22 +88,22 @@ module _ (text : List ℕ) (units : List NamedUnit) (flags : ℕ) (earlier : Lis
   unfolding entry_of_line
   text_still t = refl
 
-  step_knows : (i : Inside) (is : List Item) → st.place.block ≡ step_open is → N (inside i) (in_step_block units flags i is st)
+  step_knows : (i : Inside) (is : List Item) → st.place.block ≡ step_open is → N (inside i) (in_step_block cx i is st)
   unfolding in_step_block mode_key
   step_knows (end_event step_kind) is q =
       unfold close_step keep_block set_block set_place set_kept in
-      pick_either (Knows flags (inside (end_event step_kind) ∷ earlier)) (is_components st.modes.define) _ _
+      pick_either (Knows cx.flags (inside (end_event step_kind) ∷ earlier)) (is_components st.modes.define) _ _
       (λ b. still (inside (end_event step_kind)) refl (end_still step_kind) _ refl refl refl tt)
       (λ b. still (inside (end_event step_kind)) refl (end_still step_kind) _ refl refl refl tt)
   step_knows (end_event text_kind) is q = tt
   step_knows (text_event t) is q =
       unfold text_in_step push_pieces push_items set_inline set_tables report set_block set_place set_kept in
-      pick_either (Knows flags (inside (text_event t) ∷ earlier)) (is_components st.modes.define) _ _
+      pick_either (Knows cx.flags (inside (text_event t) ∷ earlier)) (is_components st.modes.define) _ _
       (λ b. still (inside (text_event t)) refl (text_still t) _ refl refl refl h.block)
       (λ b. still (inside (text_event t)) refl (text_still t) _ refl refl refl (agrees (step_open is) q))
-  step_knows (component_event c) is q = component_knows text units flags earlier st h c is (agrees (step_open is) q)
+  step_knows (component_event c) is q = component_knows cx earlier st h c is (agrees (step_open is) q)
 
-  inside_knows : (i : Inside) (o : Open) → st.place.block ≡ o → N (inside i) (on_inside text units flags i o st)
+  inside_knows : (i : Inside) (o : Open) → st.place.block ≡ o → N (inside i) (on_inside cx i o st)
   unfolding on_inside in_text_block in_text_mode close_text keep_block component_in_text report set_block set_place set_kept mode_key
   inside_knows i no_block q = tt
   inside_knows i (step_open is) q = step_knows i is q
@@ -114,15 +114,15 @@ module _ (text : List ℕ) (units : List NamedUnit) (flags : ℕ) (earlier : Lis
   inside_knows (end_event k) (text_mode_open ts) q = still (inside (end_event k)) refl (end_still k) _ refl refl refl tt
   inside_knows (text_event t) (text_mode_open ts) q = still (inside (text_event t)) refl (text_still t) _ refl refl refl (agrees (text_mode_open ts) q)
   inside_knows (component_event c) (text_mode_open ts) q =
-      knows_same flags earlier st h (inside (component_event c)) refl
-      (text_entry flags (define_at flags earlier) (inside (component_event c)) (ap is_text (sym h.define) ∙ agrees (text_mode_open ts) q)) _ refl refl refl
+      knows_same cx.flags earlier st h (inside (component_event c)) refl
+      (text_entry cx.flags (define_at cx.flags earlier) (inside (component_event c)) (ap is_text (sym h.define) ∙ agrees (text_mode_open ts) q)) _ refl refl refl
       (agrees (text_mode_open ts) q)
 
   parser_still : (s : Severity) (n : ℕ) → entry_of_line (parser_event s n) ≡ no_entry
   unfolding entry_of_line
   parser_still s n = refl
 
-  pub event_knows : (e : Event) → N e (on_event text units flags e st)
+  pub event_knows : (e : Event) → N e (on_event cx e st)
   unfolding on_event report mode_key
   event_knows (between b) = pick_either (N (between b)) (is_open st.place.block) _ _ (λ q. tt) (λ q. between_knows b q)
   event_knows (inside i) = inside_knows i st.place.block refl
@@ -131,37 +131,37 @@ module _ (text : List ℕ) (units : List NamedUnit) (flags : ℕ) (earlier : Lis
   -- ---- faults
 
   -- a line that is no component
-  no_component_lem : (e : Event) → is_component_line e ≡ false → entry_in (define_at flags earlier) e ≡ no_entry → LineFault flags earlier e None
+  no_component_lem : (e : Event) → is_component_line e ≡ false → entry_in (define_at cx.flags earlier) e ≡ no_entry → LineFault cx.flags earlier e None
   unfolding implicit_at implicit_by
   no_component_lem e q x = clear (record { unlisted = λ c. no_truth (sym q ∙ c); last = λ u p. no_some (rw x at p) })
 
   module _ (e : Event) (unl : is_components st.modes.define ≡ false) where
-    mode_unlisted : is_components (define_at flags earlier) ≡ false
+    mode_unlisted : is_components (define_at cx.flags earlier) ≡ false
     mode_unlisted = ap is_components (sym h.define) ∙ unl
 
     -- a component that is no implicit reference
-    not_implicit : implicit_at flags earlier e ≡ None → LineFault flags earlier e None
+    not_implicit : implicit_at cx.flags earlier e ≡ None → LineFault cx.flags earlier e None
     not_implicit q = clear (record { unlisted = λ c. mode_unlisted; last = λ u p. no_some (sym q ∙ p) })
 
-    no_line : entry_in (define_at flags earlier) e ≡ no_entry → implicit_at flags earlier e ≡ None
+    no_line : entry_in (define_at cx.flags earlier) e ≡ no_entry → implicit_at cx.flags earlier e ≡ None
     unfolding implicit_at implicit_by
     no_line x = rw x
 
-    module _ (j : Kind) (c : Component) (x : entry_in (define_at flags earlier) e ≡ entry_line j c) where
-      implicit_is : implicit_at flags earlier e ≡ implicit_target st.modes.define st.modes.duplicate j c (unmarked flags j earlier)
+    module _ (j : Kind) (c : Component) (x : entry_in (define_at cx.flags earlier) e ≡ entry_line j c) where
+      implicit_is : implicit_at cx.flags earlier e ≡ implicit_target st.modes.define st.modes.duplicate j c (unmarked cx.flags j earlier)
       unfolding implicit_at implicit_by
       implicit_is = rw (x, h.define, h.duplicate)
 
-      last_is : last_of_name flags earlier e ≡ last_named (folded_name j c) (unmarked flags j earlier)
+      last_is : last_of_name cx.flags earlier e ≡ last_named (folded_name j c) (unmarked cx.flags j earlier)
       unfolding last_of_name last_by
       last_is = rw x
 
-      ref_explicit : c.modifiers.ref ≡ true → implicit_at flags earlier e ≡ None
+      ref_explicit : c.modifiers.ref ≡ true → implicit_at cx.flags earlier e ≡ None
       ref_explicit r = implicit_is ∙ (unfold implicit_target in rw r)
 
-      link_fault : {a b : Option Earlier} {u v : Option Unmarked} → Links a b u v → implicit_at flags earlier e ≡ u → last_of_name flags earlier e ≡ v
+      link_fault : {a b : Option Earlier} {u v : Option Unmarked} → Links a b u v → implicit_at cx.flags earlier e ≡ u → last_of_name cx.flags earlier e ≡ v
           → (new : Entry) (table : List Entry) → same_name_of true new table ≡ b
-          → LineFault flags earlier e (implicit_fault new table a)
+          → LineFault cx.flags earlier e (implicit_fault new table a)
       unfolding implicit_fault is_last
       link_fault no_link p q new table s = not_implicit p
       link_fault (last_link {d = d} {u = u}) p q new table s =
@@ -169,21 +169,21 @@ module _ (text : List ℕ) (units : List NamedUnit) (flags : ℕ) (earlier : Lis
       link_fault (other_link {d = d} {l = l} {u = u} {v = v} lt g) p q new table s =
           rw (s, ne_eqb d.index l.index (λ z. omega arith)) (faulty (not_last mode_unlisted u p differs))
         where
-          differs : last_of_name flags earlier e ≡ Some u → ⊥
+          differs : last_of_name cx.flags earlier e ≡ Some u → ⊥
           differs r = let z : v ≡ u = some_inj (sym q ∙ r) in let y : v.place ≡ u.place = ap (λ (w : Unmarked). w.place) z in omega arith
 
-      name_fault : LineFault flags earlier e (implicit_fault (new_entry j c st) (table_of j st) (implicit_of c (made_by_name units flags j c st).refers_to))
+      name_fault : LineFault cx.flags earlier e (implicit_fault (new_entry j c st) (table_of j st) (implicit_of c (made_by_name cx.units cx.flags j c st).refers_to))
       unfolding implicit_of made_by_name made_with
       name_fault = go c.modifiers.ref refl
         where
           go : (b : Bool) → c.modifiers.ref ≡ b
-              → LineFault flags earlier e (implicit_fault (new_entry j c st) (table_of j st)
+              → LineFault cx.flags earlier e (implicit_fault (new_entry j c st) (table_of j st)
               (pick b None (refers_to st.modes (new_entry j c st) (found_same (new_entry j c st) (table_of j st)))))
           go true r = unfold implicit_fault in not_implicit (ref_explicit r)
-          go false r = link_fault (line_links j c st (unmarked flags j earlier) r (h.tables j)) implicit_is last_is (new_entry j c st) (table_of j st) refl
+          go false r = link_fault (line_links j c st (unmarked cx.flags j earlier) r (h.tables j)) implicit_is last_is (new_entry j c st) (table_of j st) refl
 
   entry_here : (j : Kind) (c : Component) (e : Event) → entry_of_line e ≡ entry_line j c → is_text st.modes.define ≡ false
-      → entry_in (define_at flags earlier) e ≡ entry_line j c
+      → entry_in (define_at cx.flags earlier) e ≡ entry_line j c
   unfolding entry_in
   entry_here j c e q t = rw (sym h.define, t, q)
 
@@ -196,7 +196,7 @@ module _ (text : List ℕ) (units : List NamedUnit) (flags : ℕ) (earlier : Lis
       go false q = no_next q
 
   mark_fault_lem : (c : ComponentEvent) (is : List Item) (after : State) → is_text st.modes.define ≡ false → is_components st.modes.define ≡ false
-      → on_component units flags c is st ≡ next after → LineFault flags earlier (inside (component_event c)) (mark_fault units flags st c)
+      → on_component cx c is st ≡ next after → LineFault cx.flags earlier (inside (component_event c)) (mark_fault cx st c)
   unfolding mark_fault implicit_ingredient implicit_cookware make_cookware on_component
   mark_fault_lem (cookware_event c) is after t unl q =
       name_fault (inside (component_event (cookware_event c))) unl cookware c (entry_here cookware c (inside (component_event (cookware_event c))) (entry_cookware c) t)
@@ -212,30 +212,30 @@ module _ (text : List ℕ) (units : List NamedUnit) (flags : ℕ) (earlier : Lis
       r : c.modifiers.ref ≡ true
       r = no_15 c i _ after q
 
-      clean : LineFault flags earlier e None
+      clean : LineFault cx.flags earlier e None
       clean = not_implicit e unl (ref_explicit e unl ingredient c (entry_here ingredient c e (entry_ingredient c (Some i)) t) r)
 
-      by : LineFault flags earlier e (implicit_fault (new_entry ingredient c st) (table_of ingredient st)
-          (implicit_of c (make_ingredient units flags c (Some i) st).refers_to))
+      by : LineFault cx.flags earlier e (implicit_fault (new_entry ingredient c st) (table_of ingredient st)
+          (implicit_of c (make_ingredient cx c (Some i) st).refers_to))
       by =
-          subst (λ (o : Option Earlier). LineFault flags earlier e (implicit_fault (new_entry ingredient c st) (table_of ingredient st) o)) (sym (marked_none c _ r))
+          subst (λ (o : Option Earlier). LineFault cx.flags earlier e (implicit_fault (new_entry ingredient c st) (table_of ingredient st) o)) (sym (marked_none c _ r))
           (unfold implicit_fault in clean)
   mark_fault_lem (timer_event a x y) is after t unl q =
       not_implicit (inside (component_event (timer_event a x y))) unl
       (no_line (inside (component_event (timer_event a x y))) unl
-      (no_entry_lem flags (define_at flags earlier) (inside (component_event (timer_event a x y))) (entry_timer a x y)))
+      (no_entry_lem cx.flags (define_at cx.flags earlier) (inside (component_event (timer_event a x y))) (entry_timer a x y)))
 
-  component_fault_lem : (c : ComponentEvent) (o : Open) (after : State) → st.place.block ≡ o → on_inside text units flags (component_event c) o st ≡ next after
-      → LineFault flags earlier (inside (component_event c)) (component_fault units flags st c o)
+  component_fault_lem : (c : ComponentEvent) (o : Open) (after : State) → st.place.block ≡ o → on_inside cx (component_event c) o st ≡ next after
+      → LineFault cx.flags earlier (inside (component_event c)) (component_fault cx st c o)
   unfolding on_inside in_step_block in_text_block component_fault
   component_fault_lem c no_block after p q = no_next q
   component_fault_lem c (text_open ts) after p q = no_next q
   component_fault_lem c (text_mode_open ts) after p q =
       not_implicit (inside (component_event c)) (text_unlisted st.modes.define (agrees (text_mode_open ts) p))
       (no_line (inside (component_event c)) (text_unlisted st.modes.define (agrees (text_mode_open ts) p))
-      (text_entry flags (define_at flags earlier) (inside (component_event c)) (ap is_text (sym h.define) ∙ agrees (text_mode_open ts) p)))
+      (text_entry cx.flags (define_at cx.flags earlier) (inside (component_event c)) (ap is_text (sym h.define) ∙ agrees (text_mode_open ts) p)))
   component_fault_lem c (step_open is) after p q =
-      pick_either (LineFault flags earlier (inside (component_event c))) (is_components st.modes.define) _ _
+      pick_either (LineFault cx.flags earlier (inside (component_event c))) (is_components st.modes.define) _ _
       (λ b. faulty (listed is_component (ap is_components (sym h.define) ∙ b)))
       (λ b. mark_fault_lem c is after (agrees (step_open is) p) b q)
     where
@@ -243,14 +243,14 @@ module _ (text : List ℕ) (units : List NamedUnit) (flags : ℕ) (earlier : Lis
       is_component = unfold is_component_line is_component_inside in refl
 
   -- what a fault, or none, says of a line that the pass takes
-  pub fault_means : (e : Event) (after : State) → on_event text units flags e st ≡ next after → LineFault flags earlier e (plain_fault units flags st e)
+  pub fault_means : (e : Event) (after : State) → on_event cx e st ≡ next after → LineFault cx.flags earlier e (plain_fault cx st e)
   unfolding plain_fault on_event is_component_line is_component_inside
-  fault_means (between b) after q = no_component_lem (between b) refl (no_entry_lem flags (define_at flags earlier) (between b) (between_still b))
-  fault_means (inside (end_event k)) after q = no_component_lem (inside (end_event k)) refl (no_entry_lem flags (define_at flags earlier) (inside (end_event k)) (end_still k))
+  fault_means (between b) after q = no_component_lem (between b) refl (no_entry_lem cx.flags (define_at cx.flags earlier) (between b) (between_still b))
+  fault_means (inside (end_event k)) after q = no_component_lem (inside (end_event k)) refl (no_entry_lem cx.flags (define_at cx.flags earlier) (inside (end_event k)) (end_still k))
   fault_means (inside (text_event t)) after q = no_component_lem (inside (text_event t)) refl
-      (no_entry_lem flags (define_at flags earlier) (inside (text_event t)) (text_still t))
+      (no_entry_lem cx.flags (define_at cx.flags earlier) (inside (text_event t)) (text_still t))
   fault_means (inside (component_event c)) after q = component_fault_lem c st.place.block after refl q
-  fault_means (parser_event s n) after q = no_component_lem (parser_event s n) refl (no_entry_lem flags (define_at flags earlier) (parser_event s n) (parser_still s n))
+  fault_means (parser_event s n) after q = no_component_lem (parser_event s n) refl (no_entry_lem cx.flags (define_at cx.flags earlier) (parser_event s n) (parser_still s n))
 
 -- ---- a line has one fault or none
 

@@ -4,10 +4,10 @@ use mathlib.Core.Path.{◌≡◌, refl, sym, ap, ◌∙◌, subst}
 use mathlib.Core.List.{List, [], ◌∷◌}
 use mathlib.Core.Bool.{Bool, true, false, ◌&&◌}
 use Rattle.std.specs.Prelude.{Option, None, Some}
+use Rattle.rules.specs.Input.{Context}
 use Rattle.rules.specs.Basic.{pick}
 use Rattle.rules.specs.Words.{step_kind, text_kind, DefineMode, mode_all, duplicate_new}
 use Rattle.rules.specs.Event.{Component, Intermediate, ComponentEvent, ingredient_event, cookware_event, timer_event, Between, meta_event, section_event, start_event, Inside, end_event, text_event, component_event, Event, between, inside, parser_event}
-use Rattle.rules.specs.Units.{NamedUnit}
 use Rattle.rules.specs.Modes.{first_modes, is_components, is_steps, is_text, is_reference, has_modes, key_text, key_of}
 use Rattle.rules.specs.Finding.{Finding}
 use Rattle.rules.specs.Model.{Kind, ingredient, cookware, Entry, Section, entry_with, entry_of}
@@ -41,75 +41,75 @@ form_no_text d (step_open is) = pick_either (λ (x : Open). is_text_mode x ≡ f
 form_no_text d (text_open ts) = refl
 form_no_text d (text_mode_open ts) = refl
 
-module _ (text : List ℕ) (units : List NamedUnit) (flags : ℕ) where
+module _ (cx : Context) where
   module _ (md : Metadata) (s : Section) (n : ℕ) (k : Kept) (t : Tables) (fs : List Finding) where
     abbrev M : Open → State
     M o = made mode_all duplicate_new md s n o k t fs
 
-    no_name : (j : Kind) (o : Open) (c : Component) → implicit_of c (made_by_name units flags j c (M o)).refers_to ≡ None
+    no_name : (j : Kind) (o : Open) (c : Component) → implicit_of c (made_by_name cx.units cx.flags j c (M o)).refers_to ≡ None
     unfolding implicit_of
     no_name j o c = go c.modifiers.ref refl
       where
-        go : (b : Bool) → c.modifiers.ref ≡ b → pick b None (made_by_name units flags j c (M o)).refers_to ≡ None
+        go : (b : Bool) → c.modifiers.ref ≡ b → pick b None (made_by_name cx.units cx.flags j c (M o)).refers_to ≡ None
         go true q = refl
         go false q = unfold made_by_name made_with new_entry entry_of entry_with first_modes in no_reference (new_entry j c (M o))
             (found_same (new_entry j c (M o)) (table_of j (M o))) q
 
-    no_ingredient : (o : Open) (c : Component) (i : Option Intermediate) → implicit_ingredient units flags (M o) c i ≡ None
+    no_ingredient : (o : Open) (c : Component) (i : Option Intermediate) → implicit_ingredient cx (M o) c i ≡ None
     unfolding implicit_ingredient make_ingredient made_intermediate
     no_ingredient o c None = no_name ingredient o c
     no_ingredient o c (Some i) = unfold implicit_of in pick_either (λ (x : Option Earlier). x ≡ None) c.modifiers.ref _ _ (λ b. refl) (λ b. refl)
 
-    no_cookware : (o : Open) (c : Component) → implicit_cookware units flags (M o) c ≡ None
+    no_cookware : (o : Open) (c : Component) → implicit_cookware cx (M o) c ≡ None
     unfolding implicit_cookware make_cookware
     no_cookware o c = no_name cookware o c
 
-    marked_fixed : (o : Open) (c : ComponentEvent) → marked_component units flags (M o) c ≡ c
+    marked_fixed : (o : Open) (c : ComponentEvent) → marked_component cx (M o) c ≡ c
     unfolding marked_component marked_if
     marked_fixed o (ingredient_event c i) = rw (no_ingredient o c i)
     marked_fixed o (cookware_event c) = rw (no_cookware o c)
     marked_fixed o (timer_event a x q) = refl
 
-    step_fixed : (o : Open) (i : Inside) → in_plain_step units flags (M o) i ≡ i
+    step_fixed : (o : Open) (i : Inside) → in_plain_step cx (M o) i ≡ i
     unfolding in_plain_step
     step_fixed o (end_event x) = refl
     step_fixed o (text_event x) = refl
     step_fixed o (component_event c) = ap component_event (marked_fixed o c)
 
-    inside_fixed : (o : Open) (i : Inside) → is_text_mode o ≡ false → plain_inside text units flags (M o) i o ≡ inside i ∷ []
+    inside_fixed : (o : Open) (i : Inside) → is_text_mode o ≡ false → plain_inside cx (M o) i o ≡ inside i ∷ []
     unfolding plain_inside unless_listed is_components
     inside_fixed no_block i q = refl
     inside_fixed (step_open is) i q = rw (step_fixed (step_open is) i)
     inside_fixed (text_open ts) i q = refl
     inside_fixed (text_mode_open ts) i q = no_truth (sym q)
 
-    between_fixed : (o : Open) (b : Between) → is_heeded flags (between b) ≡ false → plain_between flags (M o) b ≡ between b ∷ []
+    between_fixed : (o : Open) (b : Between) → is_heeded cx.flags (between b) ≡ false → plain_between cx.flags (M o) b ≡ between b ∷ []
     unfolding plain_between unless_listed is_components is_text
-    between_fixed o (meta_event a b) h = let q : (has_modes flags && is_mode_key (key_of (key_text a))) ≡ false = sym (meta_heeded flags a b) ∙ h in rw q
+    between_fixed o (meta_event a b) h = let q : (has_modes cx.flags && is_mode_key (key_of (key_text a))) ≡ false = sym (meta_heeded cx.flags a b) ∙ h in rw q
     between_fixed o (section_event x) h = refl
     between_fixed o (start_event step_kind) h = refl
     between_fixed o (start_event text_kind) h = refl
 
-    event_fixed : (o : Open) (e : Event) → is_text_mode o ≡ false → is_heeded flags e ≡ false → plain_event text units flags (M o) e ≡ e ∷ []
+    event_fixed : (o : Open) (e : Event) → is_text_mode o ≡ false → is_heeded cx.flags e ≡ false → plain_event cx (M o) e ≡ e ∷ []
     unfolding plain_event
     event_fixed o (between b) q h = between_fixed o b h
     event_fixed o (inside i) q h = inside_fixed o i q
     event_fixed o (parser_event x y) q h = refl
 
-    mark_faultless : (o : Open) (c : ComponentEvent) → mark_fault units flags (M o) c ≡ None
+    mark_faultless : (o : Open) (c : ComponentEvent) → mark_fault cx (M o) c ≡ None
     unfolding mark_fault implicit_fault
     mark_faultless o (ingredient_event c i) = rw (no_ingredient o c i)
     mark_faultless o (cookware_event c) = rw (no_cookware o c)
     mark_faultless o (timer_event a x q) = refl
 
-    component_faultless : (o p : Open) (c : ComponentEvent) → component_fault units flags (M p) c o ≡ None
+    component_faultless : (o p : Open) (c : ComponentEvent) → component_fault cx (M p) c o ≡ None
     unfolding component_fault is_components
     component_faultless no_block p c = refl
     component_faultless (step_open is) p c = mark_faultless p c
     component_faultless (text_open ts) p c = refl
     component_faultless (text_mode_open ts) p c = refl
 
-    event_faultless : (o : Open) (e : Event) → plain_fault units flags (M o) e ≡ None
+    event_faultless : (o : Open) (e : Event) → plain_fault cx (M o) e ≡ None
     unfolding plain_fault
     event_faultless o (between b) = refl
     event_faultless o (inside (end_event x)) = refl
@@ -134,62 +134,62 @@ module _ (text : List ℕ) (units : List NamedUnit) (flags : ℕ) where
       twice d (text_open ts) = refl
       twice d (text_mode_open ts) = refl
 
-  formed_fixed : (st : State) (e : Event) → Formed st → is_heeded flags e ≡ false → plain_event text units flags st e ≡ e ∷ []
+  formed_fixed : (st : State) (e : Event) → Formed st → is_heeded cx.flags e ≡ false → plain_event cx st e ≡ e ∷ []
   unfolding first_modes
   formed_fixed st e q h =
-      subst (λ (x : State). plain_event text units flags x e ≡ e ∷ []) q
+      subst (λ (x : State). plain_event cx x e ≡ e ∷ []) q
       (event_fixed st.metadata st.place.section st.place.step_counter st.kept st.tables st.findings
       (form_open st.modes.define st.place.block) e (form_no_text st.modes.define st.place.block) h)
 
-  formed_faultless : (st : State) (e : Event) → Formed st → plain_fault units flags st e ≡ None
+  formed_faultless : (st : State) (e : Event) → Formed st → plain_fault cx st e ≡ None
   unfolding first_modes
   formed_faultless st e q =
-      subst (λ (x : State). plain_fault units flags x e ≡ None) q
+      subst (λ (x : State). plain_fault cx x e ≡ None) q
       (event_faultless st.metadata st.place.section st.place.step_counter st.kept st.tables st.findings
       (form_open st.modes.define st.place.block) e)
 
   -- the simulation of a form by itself keeps its states of that shape
-  formed_next : (st after : State) (e : Event) → Formed st → is_error_event e ≡ false → is_heeded flags e ≡ false → on_event text units flags e st ≡ next after
+  formed_next : (st after : State) (e : Event) → Formed st → is_error_event e ≡ false → is_heeded cx.flags e ≡ false → on_event cx e st ≡ next after
       → Formed after
   formed_next st after e q ne h a =
-      by (subst (λ (x : State). Sim text units flags x (next after) (e ∷ [])) q
-      (subst (Sim text units flags (as_form st.findings st) (next after)) (formed_fixed st e q h)
-      (subst (λ (x : Step). Sim text units flags (as_form st.findings st) x (plain_event text units flags st e)) a
-      (event_sim text units flags st st.findings e ne (formed_faultless st e q)))))
+      by (subst (λ (x : State). Sim cx x (next after) (e ∷ [])) q
+      (subst (Sim cx (as_form st.findings st) (next after)) (formed_fixed st e q h)
+      (subst (λ (x : Step). Sim cx (as_form st.findings st) x (plain_event cx st e)) a
+      (event_sim cx st st.findings e ne (formed_faultless st e q)))))
     where
-      by : Sim text units flags st (next after) (e ∷ []) → Formed after
+      by : Sim cx st (next after) (e ∷ []) → Formed after
       by (goes fs ne' b) = let g : as_form fs after ≡ after = cc in subst Formed g (form_formed fs after)
 
   -- ---- the walk over a form
 
   pub record OwnForm (line : ℕ) (st : State) (es : List Event) : Type 0 where
-    pub same : plain_events text units flags (trace_from text units flags line (going st) es) ≡ es
-    pub faultless : NoFaults text units flags (trace_from text units flags line (going st) es)
+    pub same : plain_events cx (trace_from cx line (going st) es) ≡ es
+    pub faultless : NoFaults cx (trace_from cx line (going st) es)
 
-  walk_fixed : {es : List Event} → Quiet flags es → (line : ℕ) (st end : State) → Formed st → walk text units flags line (going st) es ≡ going end
+  walk_fixed : {es : List Event} → Quiet cx.flags es → (line : ℕ) (st end : State) → Formed st → walk cx line (going st) es ≡ going end
       → OwnForm line st es
   unfolding walk trace_from traced plain_events
   walk_fixed quiet_none line st end q w = record { same = refl; faultless = no_line }
-  walk_fixed (quiet_more {e} {es} h g) line st end q w = go (walk_fixed g (suc line)) (is_error_event e) refl (on_event text units flags e st) refl
+  walk_fixed (quiet_more {e} {es} h g) line st end q w = go (walk_fixed g (suc line)) (is_error_event e) refl (on_event cx e st) refl
     where
-      go : ((x y : State) → Formed x → walk text units flags (suc line) (going x) es ≡ going y → OwnForm (suc line) x es)
-          → (b : Bool) → is_error_event e ≡ b → (s : Step) → on_event text units flags e st ≡ s → OwnForm line st (e ∷ es)
-      go ih true ne s a = not_failed text units flags (suc line) _ es end (rw (step_fails text units flags line e st ne) at w)
-      go ih false ne (stop x) a = not_refused text units flags (suc line) x line es end (rw (step_stops text units flags line x e st ne a) at w)
-      go ih false ne (next after) a = on (over_limits after) (step_next text units flags line e st after ne a)
+      go : ((x y : State) → Formed x → walk cx (suc line) (going x) es ≡ going y → OwnForm (suc line) x es)
+          → (b : Bool) → is_error_event e ≡ b → (s : Step) → on_event cx e st ≡ s → OwnForm line st (e ∷ es)
+      go ih true ne s a = not_failed cx (suc line) _ es end (rw (step_fails cx line e st ne) at w)
+      go ih false ne (stop x) a = not_refused cx (suc line) x line es end (rw (step_stops cx line x e st ne a) at w)
+      go ih false ne (next after) a = on (over_limits after) (step_next cx line e st after ne a)
         where
-          on : (b : Bool) → step text units flags line e (going st) ≡ pick b (refused 17 line) (going after) → OwnForm line st (e ∷ es)
-          on true g = not_refused text units flags (suc line) 17 line es end (rw g at w)
+          on : (b : Bool) → step cx line e (going st) ≡ pick b (refused 17 line) (going after) → OwnForm line st (e ∷ es)
+          on true g = not_refused cx (suc line) 17 line es end (rw g at w)
           on false g =
               let r : OwnForm (suc line) after es = ih after end (formed_next st after e q ne h a) (rw g at w) in
-              let f : NoFaults text units flags (trace_from text units flags (suc line) (step text units flags line e (going st)) es) = rw g r.faultless in
+              let f : NoFaults cx (trace_from cx (suc line) (step cx line e (going st)) es) = rw g r.faultless in
               record {
                 same = rw (formed_fixed st e q h, g) (ap (λ (l : List Event). e ∷ l) r.same);
                 faultless = no_fault (formed_faultless st e q) f;
               }
 
   -- a quiet list that yields a recipe is its own form
-  pub form_fixed : (es : List Event) (st : State) → Quiet flags es → parse_events text units flags es ≡ recipe st → OwnForm 1 first_state es
+  pub form_fixed : (es : List Event) (st : State) → Quiet cx.flags es → parse_events cx es ≡ recipe st → OwnForm 1 first_state es
   form_fixed es st h q =
-      let r : Went text units flags es st = went text units flags es st q in
+      let r : Went cx es st = went cx es st q in
       walk_fixed h 1 first_state r.last (unfold first_state first_modes in refl) r.there

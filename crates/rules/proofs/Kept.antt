@@ -8,13 +8,13 @@ use native.Mathlib.Omega.{arith}
 use lib.Dec.{eqb, ltb}
 use lib.ListN.{length}
 use borrow.Author.Tests.{eqb-true, ltb-false, le-ltb}
+use Rattle.rules.specs.Input.{Context}
 use Rattle.rules.specs.Basic.{lf, is_empty, all}
 use Rattle.rules.specs.Sheet.{Lines, last, more, on_line, lines}
 use Rattle.rules.specs.Words.{step_kind, text_kind}
 use Rattle.rules.specs.Event.{Span, Component, Intermediate, ComponentEvent, ingredient_event, cookware_event, timer_event, Between, meta_event, section_event, start_event, Inside, end_event, text_event, component_event, Event, between, inside, parser_event, component_span, named_spans, component_spans, spans_of}
 use Rattle.rules.specs.Read.{parse_line}
 use Rattle.rules.specs.Write.{component_fields, event_fields, write_line}
-use Rattle.rules.specs.Units.{NamedUnit}
 use Rattle.rules.specs.Modes.{is_components, is_text, has_modes, key_text, key_of}
 use Rattle.rules.specs.Reference.{Earlier}
 use Rattle.rules.specs.State.{Open, no_block, step_open, text_open, text_mode_open, State, first_state, Walk, going, failed, refused}
@@ -138,11 +138,11 @@ unfolding marked_if mark_ref component_spans named_spans
 cookware_spans c None = refl
 cookware_spans c (Some d) = refl
 
-marked_spans : (units : List NamedUnit) (flags : ℕ) (st : State) (c : ComponentEvent) → component_spans (marked_component units flags st c) ≡ component_spans c
+marked_spans : (cx : Context) (st : State) (c : ComponentEvent) → component_spans (marked_component cx st c) ≡ component_spans c
 unfolding marked_component
-marked_spans units flags st (ingredient_event c i) = ingredient_spans c _ i
-marked_spans units flags st (cookware_event c) = cookware_spans c _
-marked_spans units flags st (timer_event s n q) = refl
+marked_spans cx st (ingredient_event c i) = ingredient_spans c _ i
+marked_spans cx st (cookware_event c) = cookware_spans c _
+marked_spans cx st (timer_event s n q) = refl
 
 ingredient_readable : (c : Component) (x : Option Earlier) (i : Option Intermediate) → Readable (inside (component_event (ingredient_event c i)))
     → GoodParts (ingredient_event c i) → Good (raw (component_fields (ingredient_event c i)))
@@ -158,13 +158,13 @@ unfolding marked_if
 cookware_readable c None r p g = r
 cookware_readable c (Some d) r p g = cookware_marked c p g
 
-marked_readable : (units : List NamedUnit) (flags : ℕ) (st : State) (c : ComponentEvent) → Readable (inside (component_event c)) → GoodParts c
+marked_readable : (cx : Context) (st : State) (c : ComponentEvent) → Readable (inside (component_event c)) → GoodParts c
     → Good (raw (component_fields c))
-    → Readable (inside (component_event (marked_component units flags st c)))
+    → Readable (inside (component_event (marked_component cx st c)))
 unfolding marked_component
-marked_readable units flags st (ingredient_event c i) r p g = ingredient_readable c _ i r p g
-marked_readable units flags st (cookware_event c) r p g = cookware_readable c _ r p g
-marked_readable units flags st (timer_event s n q) r p g = r
+marked_readable cx st (ingredient_event c i) r p g = ingredient_readable c _ i r p g
+marked_readable cx st (cookware_event c) r p g = cookware_readable c _ r p g
+marked_readable cx st (timer_event s n q) r p g = r
 
 module _ (text : List ℕ) (n : ℕ) where
   first_span : (x : Span) (l : List Span) → all (is_good_span text n) (x ∷ l) ≡ true → all (is_good_span text n) (x ∷ []) ≡ true
@@ -191,14 +191,14 @@ module _ (text : List ℕ) (n : ℕ) where
   piece_count b piece_none = omega arith
   piece_count b (piece_one g s) = omega arith
 
-  module _ (units : List NamedUnit) (flags : ℕ) where
+  module _ (cx : Context) where
     listed_piece : (st : State) (e : Event) → Readable e → all (is_good_span text n) (spans_of e) ≡ true → AtMostOne (unless_listed st e)
     unfolding unless_listed
     listed_piece st e g s = pick_either AtMostOne (is_components st.modes.define) _ _ (λ b. piece_none) (λ b. piece_one g s)
 
-    between_piece : (st : State) (b : Between) → Readable (between b) → all (is_good_span text n) (spans_of (between b)) ≡ true → AtMostOne (plain_between flags st b)
+    between_piece : (st : State) (b : Between) → Readable (between b) → all (is_good_span text n) (spans_of (between b)) ≡ true → AtMostOne (plain_between cx.flags st b)
     unfolding plain_between spans_of all
-    between_piece st (meta_event k v) r s = pick_either AtMostOne (has_modes flags && is_mode_key (key_of (key_text k))) _ _ (λ b. piece_none) (λ b. piece_one r s)
+    between_piece st (meta_event k v) r s = pick_either AtMostOne (has_modes cx.flags && is_mode_key (key_of (key_text k))) _ _ (λ b. piece_none) (λ b. piece_one r s)
     between_piece st (section_event x) r s = piece_one r s
     between_piece st (start_event text_kind) r s = piece_one r s
     between_piece st (start_event step_kind) r s =
@@ -206,29 +206,29 @@ module _ (text : List ℕ) (n : ℕ) where
 
     step_piece : (st : State) (i : Inside) → Readable (inside i) → GoodInside i → Good (raw (event_fields (inside i)))
         → all (is_good_span text n) (spans_of (inside i)) ≡ true
-        → AtMostOne (unless_listed st (inside (in_plain_step units flags st i)))
+        → AtMostOne (unless_listed st (inside (in_plain_step cx st i)))
     unfolding in_plain_step spans_of event_fields
     step_piece st (end_event x) r p g s = listed_piece st (inside (end_event x)) r s
     step_piece st (text_event x) r p g s = listed_piece st (inside (text_event x)) r s
     step_piece st (component_event c) r p g s =
-        listed_piece st (inside (component_event (marked_component units flags st c))) (marked_readable units flags st c r p g)
-        (ap (all (is_good_span text n)) (marked_spans units flags st c) ∙ s)
+        listed_piece st (inside (component_event (marked_component cx st c))) (marked_readable cx st c r p g)
+        (ap (all (is_good_span text n)) (marked_spans cx st c) ∙ s)
 
     text_piece_lem : (i : Inside) → Readable (inside i) → GoodInside i → Good (raw (event_fields (inside i))) → all (is_good_span text n) (spans_of (inside i)) ≡ true
-        → AtMostOne (inside (in_plain_text text i) ∷ [])
+        → AtMostOne (inside (in_plain_text cx.text i) ∷ [])
     unfolding in_plain_text spans_of event_fields
     text_piece_lem (end_event x) r p g s = piece_one end_readable s
     text_piece_lem (text_event x) r p g s = piece_one r s
-    text_piece_lem (component_event c) r p g s = piece_one (source_readable text c p g) (own_span c s)
+    text_piece_lem (component_event c) r p g s = piece_one (source_readable cx.text c p g) (own_span c s)
 
     event_piece : (st : State) (e : Event) → Readable e → GoodEvent e → Good (raw (event_fields e)) → all (is_good_span text n) (spans_of e) ≡ true
-        → AtMostOne (plain_event text units flags st e)
+        → AtMostOne (plain_event cx st e)
     unfolding plain_event
     event_piece st (between b) r p g s = between_piece st b r s
     event_piece st (parser_event x y) r p g s = piece_one r s
     event_piece st (inside i) r p g s = by st.place.block
       where
-        by : (o : Open) → AtMostOne (plain_inside text units flags st i o)
+        by : (o : Open) → AtMostOne (plain_inside cx st i o)
         by no_block = unfold plain_inside in piece_one r s
         by (step_open is) = unfold plain_inside in step_piece st i r p g s
         by (text_open ts) = unfold plain_inside in piece_one r s
@@ -238,34 +238,34 @@ module _ (text : List ℕ) (n : ℕ) where
       pub lines_good : Written text n ps
       pub few : length ps ≤ length es
 
-    trace_good : {es : List Event} → ReadLines text n es → (line : ℕ) (w : Walk) → FormLines es (plain_events text units flags (trace_from text units flags line w es))
+    trace_good : {es : List Event} → ReadLines text n es → (line : ℕ) (w : Walk) → FormLines es (plain_events cx (trace_from cx line w es))
     unfolding trace_from traced plain_events
     trace_good read_none line w = record { lines_good = written_none; few = omega arith }
     trace_good (read_more {e} {es} r p g s h) line (going st) =
-        let t : FormLines es (plain_events text units flags (trace_from text units flags (suc line) (step text units flags line e (going st)) es)) = trace_good h
-        (suc line) (step text units flags line e (going st)) in
-        let q : AtMostOne (plain_event text units flags st e) = event_piece st e r p g s in
+        let t : FormLines es (plain_events cx (trace_from cx (suc line) (step cx line e (going st)) es)) = trace_good h
+        (suc line) (step cx line e (going st)) in
+        let q : AtMostOne (plain_event cx st e) = event_piece st e r p g s in
         record {
           lines_good = piece_lines q t.lines_good;
           few = omega
-              (arith, piece_count (plain_events text units flags (trace_from text units flags (suc line) (step text units flags line e (going st)) es)) q, t.few);
+              (arith, piece_count (plain_events cx (trace_from cx (suc line) (step cx line e (going st)) es)) q, t.few);
         }
     trace_good (read_more {e} {es} r p g s h) line (failed fs) =
-        let t : FormLines es (plain_events text units flags (trace_from text units flags (suc line) (step text units flags line e (failed fs)) es)) = trace_good h
-        (suc line) (step text units flags line e (failed fs)) in
+        let t : FormLines es (plain_events cx (trace_from cx (suc line) (step cx line e (failed fs)) es)) = trace_good h
+        (suc line) (step cx line e (failed fs)) in
         record { lines_good = t.lines_good; few = omega (arith, t.few) }
     trace_good (read_more {e} {es} r p g s h) line (refused a b) =
-        let t : FormLines es (plain_events text units flags (trace_from text units flags (suc line) (step text units flags line e (refused a b)) es)) = trace_good h
-        (suc line) (step text units flags line e (refused a b)) in
+        let t : FormLines es (plain_events cx (trace_from cx (suc line) (step cx line e (refused a b)) es)) = trace_good h
+        (suc line) (step cx line e (refused a b)) in
         record { lines_good = t.lines_good; few = omega (arith, t.few) }
 
 -- the form's bytes read back as the form's events
-pub form_reads : (text sheet : List ℕ) (us : List NamedUnit) (flags : ℕ) (es : List Event) → read_sheet text sheet ≡ events es
-    → read_sheet text (sheet_of (plain_events text us flags (trace_from text us flags 1 (going first_state) es))) ≡ events
-    (plain_events text us flags (trace_from text us flags 1 (going first_state) es))
+pub form_reads : (text sheet : List ℕ) (cx : Context) (es : List Event) → read_sheet text sheet ≡ events es
+    → read_sheet text (sheet_of (plain_events cx (trace_from cx 1 (going first_state) es))) ≡ events
+    (plain_events cx (trace_from cx 1 (going first_state) es))
 unfolding read_sheet
-form_reads text sheet us flags es q =
+form_reads text sheet cx es q =
     let r : ReadAs text (length text) 1 (lines sheet) es = read_good text (length text) 1 (lines sheet) es (omega arith) (lines_without sheet) q in
-    let t : FormLines text (length text) us flags es (plain_events text us flags (trace_from text us flags 1 (going first_state) es)) = trace_good text
-    (length text) us flags r.lines_good 1 (going first_state) in
+    let t : FormLines text (length text) cx es (plain_events cx (trace_from cx 1 (going first_state) es)) = trace_good text
+    (length text) cx r.lines_good 1 (going first_state) in
     written_reads text (length text) 1 t.lines_good (omega (arith, r.few, t.few))

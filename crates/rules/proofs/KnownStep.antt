@@ -6,11 +6,11 @@ use mathlib.Core.Bool.{Bool, true, false, ◌||◌, not}
 use Rattle.std.specs.Prelude.{Option, None, Some}
 use native.Mathlib.Omega.{arith}
 use lib.ListN.{length}
+use Rattle.rules.specs.Input.{Context}
 use Rattle.rules.specs.Basic.{pick, is_some}
 use Rattle.rules.specs.Unicode.{fold_name}
 use Rattle.rules.specs.Words.{DefineMode, DuplicateMode}
 use Rattle.rules.specs.Event.{Span, Text, Quantity, Component, Intermediate, ComponentEvent, ingredient_event, cookware_event, timer_event, component_event, Event, inside}
-use Rattle.rules.specs.Units.{NamedUnit}
 use Rattle.rules.specs.Modes.{is_text}
 use Rattle.rules.specs.Model.{Kind, ingredient, cookware, with_ref, Entry, Item, entry_with, entry_of, set_relation, set_modifiers}
 use Rattle.rules.specs.Reference.{Earlier, refers_to, as_referring}
@@ -72,9 +72,9 @@ unfolding as_referring set_relation set_modifiers with_ref
 referring_ref j None new q = q
 referring_ref j (Some d) new q = refl
 
-module _ (text : List ℕ) (units : List NamedUnit) (flags : ℕ) where
+module _ (cx : Context) where
   by_name_made : (j : Kind) (c : Component) (st : State) (us : List Unmarked) → Listed (table_of j st) us
-      → MadeAs st.modes.define st.modes.duplicate j c us (made_by_name units flags j c st).entry
+      → MadeAs st.modes.define st.modes.duplicate j c us (made_by_name cx.units cx.flags j c st).entry
   unfolding made_by_name made_with
   by_name_made j c st us h = go c.modifiers.ref refl
     where
@@ -100,23 +100,23 @@ module _ (text : List ℕ) (units : List NamedUnit) (flags : ℕ) where
       go false r = by (line_links j c st us r h) r refl
 
   intermediate_made : (c : Component) (i : Intermediate) (st : State) (us : List Unmarked) → c.modifiers.ref ≡ true
-      → MadeAs st.modes.define st.modes.duplicate ingredient c us (make_ingredient units flags c (Some i) st).entry
+      → MadeAs st.modes.define st.modes.duplicate ingredient c us (make_ingredient cx c (Some i) st).entry
   unfolding make_ingredient made_intermediate set_relation new_entry entry_of entry_with
   intermediate_made c i st us r = as_marked (has_ref st.modes.define st.modes.duplicate ingredient c us r) r
 
   -- ---- an entry pushed
 
-  module _ (earlier : List Event) (st : State) (h : Knows flags earlier st) where
+  module _ (earlier : List Event) (st : State) (h : Knows cx.flags earlier st) where
     abbrev Us : Kind → List Unmarked
-    Us k = unmarked flags k earlier
+    Us k = unmarked cx.flags k earlier
 
     abbrev N : Event → Step → Type 0
-    N e s = KnowsStep flags (e ∷ earlier) s
+    N e s = KnowsStep cx.flags (e ∷ earlier) s
 
     tables_pushed : (j k : Kind) (c : Component) (m : Made) (is : List Item)
-        → Listed (pushed m (table_of j st)) (pick (not (is_marked (define_at flags earlier) (duplicate_at flags earlier) j c (Us j)))
+        → Listed (pushed m (table_of j st)) (pick (not (is_marked (define_at cx.flags earlier) (duplicate_at cx.flags earlier) j c (Us j)))
         (record { place = length earlier; folded = folded_name j c; is_opt = c.modifiers.opt } ∷ Us j) (Us j))
-        → Listed (table_of k (push_component j m is st)) (unmarked_by (define_at flags earlier) (duplicate_at flags earlier) k (length earlier) (entry_line j c) (Us k))
+        → Listed (table_of k (push_component j m is st)) (unmarked_by (define_at cx.flags earlier) (duplicate_at cx.flags earlier) k (length earlier) (entry_line j c) (Us k))
     unfolding unmarked_by same_kind push_component push_items set_table set_tables table_of report set_block set_place set_kept
     tables_pushed ingredient ingredient c m is p = p
     tables_pushed ingredient cookware c m is p = h.tables cookware
@@ -124,30 +124,30 @@ module _ (text : List ℕ) (units : List NamedUnit) (flags : ℕ) where
     tables_pushed cookware cookware c m is p = p
 
     places_pushed : (j k : Kind) (c : Component)
-        → Below (suc (length earlier)) (unmarked_by (define_at flags earlier) (duplicate_at flags earlier) k (length earlier) (entry_line j c) (Us k))
+        → Below (suc (length earlier)) (unmarked_by (define_at cx.flags earlier) (duplicate_at cx.flags earlier) k (length earlier) (entry_line j c) (Us k))
     unfolding unmarked_by same_kind
-    places_pushed ingredient ingredient c = push_below (define_at flags earlier) (duplicate_at flags earlier) ingredient c (Us ingredient) (length earlier)
+    places_pushed ingredient ingredient c = push_below (define_at cx.flags earlier) (duplicate_at cx.flags earlier) ingredient c (Us ingredient) (length earlier)
         (h.places ingredient)
     places_pushed ingredient cookware c = below_up (h.places cookware)
     places_pushed cookware ingredient c = below_up (h.places ingredient)
-    places_pushed cookware cookware c = push_below (define_at flags earlier) (duplicate_at flags earlier) cookware c (Us cookware) (length earlier)
+    places_pushed cookware cookware c = push_below (define_at cx.flags earlier) (duplicate_at cx.flags earlier) cookware c (Us cookware) (length earlier)
         (h.places cookware)
 
     unmarked_entry : (j k : Kind) (e : Event) (c : Component) → entry_of_line e ≡ entry_line j c → is_text st.modes.define ≡ false
-        → unmarked flags k (e ∷ earlier) ≡ unmarked_by (define_at flags earlier) (duplicate_at flags earlier) k (length earlier) (entry_line j c) (Us k)
+        → unmarked cx.flags k (e ∷ earlier) ≡ unmarked_by (define_at cx.flags earlier) (duplicate_at cx.flags earlier) k (length earlier) (entry_line j c) (Us k)
     unfolding unmarked
-    unmarked_entry j k e c q t = ap (λ (x : EntryLine). unmarked_by (define_at flags earlier) (duplicate_at flags earlier) k (length earlier) x (Us k)) here
+    unmarked_entry j k e c q t = ap (λ (x : EntryLine). unmarked_by (define_at cx.flags earlier) (duplicate_at cx.flags earlier) k (length earlier) x (Us k)) here
       where
-        here : entry_in (define_at flags earlier) e ≡ entry_line j c
+        here : entry_in (define_at cx.flags earlier) e ≡ entry_line j c
         here = unfold entry_in in rw (sym h.define, t, q)
 
     pushed_knows : (j : Kind) (e : Event) (c : Component) (m : Made) (is : List Item) → mode_key e ≡ None → entry_of_line e ≡ entry_line j c
         → is_text st.modes.define ≡ false
-        → MadeAs st.modes.define st.modes.duplicate j c (Us j) m.entry → Knows flags (e ∷ earlier) (push_component j m is st)
+        → MadeAs st.modes.define st.modes.duplicate j c (Us j) m.entry → Knows cx.flags (e ∷ earlier) (push_component j m is st)
     pushed_knows j e c m is q x t a =
         record {
-          define = modes_define ∙ h.define ∙ sym (define_same flags e earlier q);
-          duplicate = modes_duplicate ∙ h.duplicate ∙ sym (duplicate_same flags e earlier q);
+          define = modes_define ∙ h.define ∙ sym (define_same cx.flags e earlier q);
+          duplicate = modes_duplicate ∙ h.duplicate ∙ sym (duplicate_same cx.flags e earlier q);
           block = subst (λ (y : DefineMode). Agrees (push_component j m is st).place.block (is_text y)) (sym modes_define) opened_step;
           tables = λ k. subst (Listed (table_of k (push_component j m is st))) (sym (unmarked_entry j k e c x t)) (tables_pushed j k c m is made_in);
           places = λ k. subst (Below (suc (length earlier))) (sym (unmarked_entry j k e c x t)) (places_pushed j k c);
@@ -171,30 +171,30 @@ module _ (text : List ℕ) (units : List NamedUnit) (flags : ℕ) where
         opened_step = unfold push_component push_items report set_block set_place set_kept in t
 
         made_in : Listed (pushed m (table_of j st))
-            (pick (not (is_marked (define_at flags earlier) (duplicate_at flags earlier) j c (Us j)))
+            (pick (not (is_marked (define_at cx.flags earlier) (duplicate_at cx.flags earlier) j c (Us j)))
             (record { place = length earlier; folded = folded_name j c; is_opt = c.modifiers.opt } ∷ Us j) (Us j))
         made_in =
-            push_listed (define_at flags earlier) (duplicate_at flags earlier) j c m (table_of j st) (Us j) (length earlier) (h.tables j) (h.places j)
-            (subst (λ (y : DuplicateMode). MadeAs (define_at flags earlier) y j c (Us j) m.entry) h.duplicate
+            push_listed (define_at cx.flags earlier) (duplicate_at cx.flags earlier) j c m (table_of j st) (Us j) (length earlier) (h.tables j) (h.places j)
+            (subst (λ (y : DuplicateMode). MadeAs (define_at cx.flags earlier) y j c (Us j) m.entry) h.duplicate
             (subst (λ (y : DefineMode). MadeAs y st.modes.duplicate j c (Us j) m.entry) h.define a))
 
     -- ---- lines in a step
 
-    chained_knows : (e : Event) (m : Made) (after : State) → Knows flags (e ∷ earlier) after → N e (unless_chained m after)
+    chained_knows : (e : Event) (m : Made) (after : State) → Knows cx.flags (e ∷ earlier) after → N e (unless_chained m after)
     unfolding unless_chained
     chained_knows e m after k =
         pick_either (N e) (refers_to_reference m.refers_to) _ _ (λ b. pick_either (N e) (over_limits after) _ _ (λ c. tt) (λ c. tt)) (λ b. k)
 
     pub component_knows : (c : ComponentEvent) (is : List Item) → is_text st.modes.define ≡ false
-        → N (inside (component_event c)) (on_component units flags c is st)
+        → N (inside (component_event c)) (on_component cx c is st)
     unfolding on_component on_made make_cookware intermediate_fault unless_fault
     component_knows (cookware_event c) is t =
         chained_knows _ _ _ (pushed_knows cookware _ c _ is (mode_none _) (entry_cookware c) t (by_name_made cookware c st _ (h.tables cookware)))
     component_knows (timer_event a x q) is t =
         unfold push_timer push_items set_timers set_tables report set_block set_place set_kept in
-        knows_same flags earlier st h (inside (component_event (timer_event a x q))) (mode_none (timer_event a x q))
-        (no_entry_lem flags (define_at flags earlier) (inside (component_event (timer_event a x q))) (entry_timer a x q))
-        (push_timer units flags x q is st) refl refl refl t
+        knows_same cx.flags earlier st h (inside (component_event (timer_event a x q))) (mode_none (timer_event a x q))
+        (no_entry_lem cx.flags (define_at cx.flags earlier) (inside (component_event (timer_event a x q))) (entry_timer a x q))
+        (push_timer cx.units cx.flags x q is st) refl refl refl t
     component_knows (ingredient_event c None) is t =
         unfold make_ingredient in
         chained_knows _ _ _ (pushed_knows ingredient _ c _ is (mode_none _) (entry_ingredient c None) t (by_name_made ingredient c st _ (h.tables ingredient)))
@@ -204,7 +204,7 @@ module _ (text : List ℕ) (units : List NamedUnit) (flags : ℕ) where
         e = inside (component_event (ingredient_event c (Some i)))
 
         m : Made
-        m = make_ingredient units flags c (Some i) st
+        m = make_ingredient cx c (Some i) st
 
         go : (b : Bool) → c.modifiers.ref ≡ b → (n : Bool)
             → N e (unless_fault (pick {X = Option ℕ} (not b) (Some 15) (pick n (Some 16) None)) (unless_chained m (push_component ingredient m is st)))

@@ -34,6 +34,8 @@ pub mod Known
 pub mod KnownStep
 pub mod Faults
 pub mod FaultWalk
+pub mod Agreed
+pub mod Order
 pub mod Collected
 pub mod Warnings
 pub mod PlainForm

@@ -5,6 +5,7 @@ use mathlib.Core.Path.{◌≡◌, refl}
 use mathlib.Core.List.{List, [], ◌∷◌, ◌++◌}
 use lib.ListN.{replicate}
 use Rattle.rules.specs.Basic.{codes, concat}
+use Rattle.rules.specs.Input.{input_of}
 use Rattle.rules.specs.Answer.{Lent, collect_answer, plain_answer, printed, flags_of, words_needed, bytes_needed}
 use Rattle.rules.specs.Evaluate.{evaluate}
 
@@ -22,49 +23,49 @@ warnings n = concat (replicate n (codes "warning\t1\n"))
 
 -- limits: findings-1024
 pub collect_findings_1024 :
-    printed (collect_answer (warnings 1024) ten kg 7 (lent 1048576))
+    printed (collect_answer (input_of (warnings 1024) ten kg 7) (lent 1048576))
     ≡ codes "recipe\tyes\n" ++ concat (replicate 1024 (codes "parse\tW\t1\n"))
 unfolding evaluate
 collect_findings_1024 = refl
 
 -- limits: findings-1025
 pub collect_findings_1025 :
-    printed (collect_answer (warnings 1025) ten kg 7 (lent 1048576))
+    printed (collect_answer (input_of (warnings 1025) ten kg 7) (lent 1048576))
     ≡ codes "refused\t17\t1025\n"
 unfolding evaluate
 collect_findings_1025 = refl
 
 -- limits: sheet-bytes-65537
 pub collect_sheet_bytes_65537 :
-    printed (collect_answer (codes "section\t0\t1\t" ++ replicate 65524 97 ++ codes "\n") ten kg 7 (lent 1048576))
+    printed (collect_answer (input_of (codes "section\t0\t1\t" ++ replicate 65524 97 ++ codes "\n") ten kg 7) (lent 1048576))
     ≡ codes "refused\t1\t0\n"
 unfolding evaluate
 collect_sheet_bytes_65537 = refl
 
 -- limits: text-bytes-65536
 pub collect_text_bytes_65536 :
-    printed (collect_answer (codes "section\t0\t65535\ta\n") (replicate 65536 97) kg 7 (lent 1048576))
+    printed (collect_answer (input_of (codes "section\t0\t65535\ta\n") (replicate 65536 97) kg 7) (lent 1048576))
     ≡ codes "refused\t2\t0\n"
 unfolding evaluate
 collect_text_bytes_65536 = refl
 
 -- limits: units-bytes-16385
 pub collect_units_bytes_16385 :
-    printed (collect_answer [] ten (replicate 16379 97 ++ codes "\tmass\n") 7 (lent 1048576))
+    printed (collect_answer (input_of [] ten (replicate 16379 97 ++ codes "\tmass\n") 7) (lent 1048576))
     ≡ codes "refused\t3\t0\n"
 unfolding evaluate
 collect_units_bytes_16385 = refl
 
 -- limits: lines-4097
 pub collect_lines_4097 :
-    printed (collect_answer (codes "error\t1\n" ++ warnings 4096) ten kg 7 (lent 1048576))
+    printed (collect_answer (input_of (codes "error\t1\n" ++ warnings 4096) ten kg 7) (lent 1048576))
     ≡ codes "refused\t9\t4097\n"
 unfolding evaluate
 collect_lines_4097 = refl
 
 -- limits: form-findings-1025
 pub plain_form_findings_1025 :
-    printed (plain_answer (codes "meta\t0\t1\t[mode]\t1\t2\tsteps\n" ++ warnings 1000 ++ codes "start\tstep\n" ++ concat (replicate 25 (codes "ingredient\t0\t0\t0\t0\ta\t-\t-\t-\t+\t0\t0\t-\n")) ++ codes "end\tstep\n") ten kg 7 (lent 1048576))
+    printed (plain_answer (input_of (codes "meta\t0\t1\t[mode]\t1\t2\tsteps\n" ++ warnings 1000 ++ codes "start\tstep\n" ++ concat (replicate 25 (codes "ingredient\t0\t0\t0\t0\ta\t-\t-\t-\t+\t0\t0\t-\n")) ++ codes "end\tstep\n") ten kg 7) (lent 1048576))
     ≡ codes "refused\t24\t0\n"
 unfolding evaluate
 plain_form_findings_1025 = refl

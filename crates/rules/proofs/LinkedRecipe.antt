@@ -7,20 +7,19 @@ use Rattle.std.specs.Prelude.{Option, Some}
 use native.Mathlib.Omega.{arith}
 use lib.Dec.{eqb}
 use lib.ListN.{length}
+use Rattle.rules.specs.Input.{Input, Context, context_of}
 use Rattle.rules.specs.Basic.{pick, is_some}
 use Rattle.rules.specs.Event.{Event}
-use Rattle.rules.specs.Units.{NamedUnit, read_units}
 use Rattle.rules.specs.Model.{Kind, ingredient, cookware, Relation, definition, reference, Entry, set_relation}
 use Rattle.rules.specs.Reference.{Earlier, entry_at, referred_by, set_referenced_from, is_definition}
 use Rattle.rules.specs.State.{State, first_state, set_kept, table_of, report, over_limits, going, Outcome, recipe}
 use Rattle.rules.specs.Components.{Made, referred, pushed}
 use Rattle.rules.specs.Pass.{is_open, is_empty_section, close_section, walk, ended, unless_over, finish, parse_events}
-use Rattle.rules.specs.Answer.{collection, units_or}
+use Rattle.rules.specs.Answer.{events_of, collection}
 use Rattle.rules.specs.Demand.{is_accepted}
-use Rattle.rules.specs.PlainForm.{events_of}
 use Rattle.rules.proofs.Basics.{pick_either, no_some, no_truth, some_inj}
 use Rattle.rules.proofs.SimWalk.{Went, went}
-use Rattle.rules.proofs.Collected.{Collected, collected, collected_is}
+use Rattle.rules.proofs.Order.{collected, collected_is}
 use Rattle.rules.proofs.TableSteps.{Onward, walk_related}
 use Rattle.rules.proofs.Referrers.{is_own, Linked, MadeLinked, made_definition, made_elsewhere, made_reference, own_target, made_linked, walk_linked}
 
@@ -41,23 +40,20 @@ finished last st =
     P o = o ≡ recipe st → ended last ≡ st
 
 -- what holds of the tables of every walk, holds of every recipe
-recipe_tables : (P : Kind → List Entry → Type 0) (text : List ℕ) (units : List NamedUnit) (flags : ℕ) (es : List Event) (st : State)
-    → ((last : State) → walk text units flags 1 (going first_state) es ≡ going last → (k : Kind) → P k (table_of k last))
-    → parse_events text units flags es ≡ recipe st → (k : Kind) → P k (table_of k st)
-recipe_tables P text units flags es st h q k =
-    let w : Went text units flags es st = went text units flags es st q in
+recipe_tables : (P : Kind → List Entry → Type 0) (cx : Context) (es : List Event) (st : State)
+    → ((last : State) → walk cx 1 (going first_state) es ≡ going last → (k : Kind) → P k (table_of k last))
+    → parse_events cx es ≡ recipe st → (k : Kind) → P k (table_of k st)
+recipe_tables P cx es st h q k =
+    let w : Went cx es st = went cx es st q in
     subst (P k) (sym (ended_table k w.last) ∙ ap (table_of k) (finished w.last st w.done)) (h w.last w.there k)
 
-pub recipe_linked : (text : List ℕ) (units : List NamedUnit) (flags : ℕ) (es : List Event) (st : State) → parse_events text units flags es ≡ recipe st → (k : Kind)
+pub recipe_linked : (cx : Context) (es : List Event) (st : State) → parse_events cx es ≡ recipe st → (k : Kind)
     → Linked k (table_of k st)
-recipe_linked text units flags es st q = recipe_tables Linked text units flags es st (walk_linked text units flags es) q
+recipe_linked cx es st q = recipe_tables Linked cx es st (walk_linked cx es) q
 
-pub collection_linked : (sheet text units : List ℕ) (flags : ℕ) (st : State) → collection sheet text units flags ≡ recipe st → (k : Kind) → Linked k (table_of k st)
+pub collection_linked : (i : Input) (st : State) → collection i ≡ recipe st → (k : Kind) → Linked k (table_of k st)
 unfolding is_accepted
-collection_linked sheet text units flags st q =
-    let c : Collected sheet text units flags = collected sheet text units flags (ap is_accepted q) in
-    recipe_linked text (units_or (read_units units)) flags (events_of text sheet) st
-    (sym (collected_is sheet text units flags c.begins c.short (events_of text sheet) c.read) ∙ q)
+collection_linked i st q = recipe_linked (context_of i) (events_of i) st (sym (collected_is i (collected i (ap is_accepted q))) ∙ q)
 
 -- ---- how many refer
 
@@ -138,13 +134,13 @@ module _ (k : Kind) (m : Made) (es : List Entry) where
 abbrev CountedAfter : Kind → List Entry → List Entry → Type 0
 CountedAfter k es fs = kept_referrers es ≡ own_references k es → kept_referrers fs ≡ own_references k fs
 
-counted_onward : (units : List NamedUnit) (flags : ℕ) → Onward units flags CountedAfter
-counted_onward units flags =
+counted_onward : (cx : Context) → Onward cx CountedAfter
+counted_onward cx =
     record {
       same = λ k es c. c;
       further = λ f g c. g (f c);
       more = λ k m st h n c.
-          let l : MadeLinked k (table_of k st) m.entry.relation m.refers_to = made_linked units flags k m st h n in
+          let l : MadeLinked k (table_of k st) m.entry.relation m.refers_to = made_linked cx k m st h n in
           pushed_referrers k m (table_of k st) l ∙ (ap (λ (x : ℕ). pick (is_some m.refers_to) 1 0 + x) c ∙ sym (pushed_references k m (table_of k st) l));
     }
 
@@ -154,6 +150,6 @@ first_counted ingredient = refl
 first_counted cookware = refl
 
 -- the pass keeps a referrer for each reference
-pub walk_references : (text : List ℕ) (units : List NamedUnit) (flags : ℕ) (es : List Event) (st : State) → walk text units flags 1 (going first_state) es ≡ going st → (k : Kind)
+pub walk_references : (cx : Context) (es : List Event) (st : State) → walk cx 1 (going first_state) es ≡ going st → (k : Kind)
     → kept_referrers (table_of k st) ≡ own_references k (table_of k st)
-walk_references text units flags es st q k = walk_related units flags CountedAfter (counted_onward units flags) text es 1 first_state st q k (first_counted k)
+walk_references cx es st q k = walk_related cx CountedAfter (counted_onward cx) es 1 first_state st q k (first_counted k)

@@ -4,6 +4,7 @@ use Prim.Native.Nat.{ℕ}
 use mathlib.Core.Path.{◌≡◌, refl}
 use mathlib.Core.List.{List, [], ◌∷◌}
 use Rattle.rules.specs.Basic.{codes, concat}
+use Rattle.rules.specs.Input.{input_of}
 use Rattle.rules.specs.Answer.{Lent, collect_answer, plain_answer, printed, flags_of, words_needed, bytes_needed}
 use Rattle.rules.specs.Evaluate.{evaluate}
 
@@ -26,7 +27,7 @@ sheet_0 =
     ∷ codes "text\t27\t28\t \n" ∷ codes "ingredient\t28\t35\t29\t33\tSalt\t-\t-\t-\t.\t29\t29\t-\n" ∷ codes "end\tstep\n" ∷ [])
 
 pub collect_0 :
-    printed (collect_answer sheet_0 (concat (codes ">> [duplicate]: ref\n" ∷ codes "@salt{} @Salt{}\n" ∷ [])) [] (flags_of (codes "1")) (lent 1048576))
+    printed (collect_answer (input_of sheet_0 (concat (codes ">> [duplicate]: ref\n" ∷ codes "@salt{} @Salt{}\n" ∷ [])) [] (flags_of (codes "1"))) (lent 1048576))
     ≡
     concat
     (codes "recipe\tyes\n" ∷ codes "section\t-\n" ∷ codes "step\t1\n" ∷ codes "item\tingredient\t0\n" ∷ codes "item\ttext\t \n"
@@ -36,7 +37,7 @@ unfolding evaluate
 collect_0 = refl
 
 pub plain_0 :
-    printed (plain_answer sheet_0 (concat (codes ">> [duplicate]: ref\n" ∷ codes "@salt{} @Salt{}\n" ∷ [])) [] (flags_of (codes "1")) (lent 1048576))
+    printed (plain_answer (input_of sheet_0 (concat (codes ">> [duplicate]: ref\n" ∷ codes "@salt{} @Salt{}\n" ∷ [])) [] (flags_of (codes "1"))) (lent 1048576))
     ≡
     concat
     (codes "start\tstep\n" ∷ codes "ingredient\t20\t27\t21\t25\tsalt\t-\t-\t-\t.\t21\t21\t-\n" ∷ codes "text\t27\t28\t \n"
@@ -55,7 +56,7 @@ sheet_4 =
     ∷ codes "ingredient\t0\t2\t3\t5\tc\t-\t-\t-\t&\t1\t4\tn\tstep\t2\t6\t9\n" ∷ codes "end\tstep\n" ∷ [])
 
 pub collect_4 :
-    printed (collect_answer sheet_4 ten four (flags_of (codes "7")) (lent 1048576))
+    printed (collect_answer (input_of sheet_4 ten four (flags_of (codes "7"))) (lent 1048576))
     ≡
     concat
     (codes "recipe\tyes\n" ∷ codes "section\t-\n" ∷ codes "text\t\n" ∷ codes "step\t1\n" ∷ codes "step\t2\n" ∷ codes "item\tingredient\t0\n"
@@ -66,7 +67,7 @@ unfolding evaluate
 collect_4 = refl
 
 pub plain_4 :
-    printed (plain_answer sheet_4 ten four (flags_of (codes "7")) (lent 1048576))
+    printed (plain_answer (input_of sheet_4 ten four (flags_of (codes "7"))) (lent 1048576))
     ≡
     concat
     (codes "start\ttext\n" ∷ codes "end\ttext\n" ∷ codes "start\tstep\n" ∷ codes "end\tstep\n" ∷ codes "start\tstep\n"
@@ -91,7 +92,7 @@ sheet_5 =
     ∷ codes "ingredient\t2\t4\t5\t7\ta\t-\t0\t3\tt\t3\t6\tx\t-\t6\t7\tkg\t-\t&\t1\t2\t-\n" ∷ codes "end\tstep\n" ∷ [])
 
 pub collect_5 :
-    printed (collect_answer sheet_5 ten four (flags_of (codes "7")) (lent 1048576))
+    printed (collect_answer (input_of sheet_5 ten four (flags_of (codes "7"))) (lent 1048576))
     ≡
     concat
     (codes "recipe\tyes\n" ∷ codes "section\t-\n" ∷ codes "step\t1\n" ∷ codes "item\tingredient\t0\n" ∷ codes "item\tingredient\t1\n"
@@ -114,7 +115,7 @@ unfolding evaluate
 collect_5 = refl
 
 pub plain_5 :
-    printed (plain_answer sheet_5 ten four (flags_of (codes "7")) (lent 1048576))
+    printed (plain_answer (input_of sheet_5 ten four (flags_of (codes "7"))) (lent 1048576))
     ≡
     concat
     (codes "start\tstep\n" ∷ codes "ingredient\t0\t1\t3\t4\ta\t-\t6\t8\tn\t1\t3\t1\t-\t4\t7\tkg\t-\t.\t7\t10\t-\n"
@@ -131,7 +132,7 @@ plain_5 = refl
 -- decisions: C2-C7 "1 kg -2 kg --3 kg"
 -- inline, item inline, item text, recipe yes, section
 pub collect_18 :
-    printed (collect_answer (concat (codes "start\tstep\n" ∷ codes "text\t0\t1\t1 kg -2 kg --3 kg\n" ∷ codes "end\tstep\n" ∷ [])) ten (concat (codes "kg\tmass\n" ∷ codes "g\tmass\n" ∷ codes "l\tvolume\n" ∷ codes "min\ttime\n" ∷ codes "C\ttemperature\n" ∷ [])) (flags_of (codes "2")) (lent 1048576))
+    printed (collect_answer (input_of (concat (codes "start\tstep\n" ∷ codes "text\t0\t1\t1 kg -2 kg --3 kg\n" ∷ codes "end\tstep\n" ∷ [])) ten (concat (codes "kg\tmass\n" ∷ codes "g\tmass\n" ∷ codes "l\tvolume\n" ∷ codes "min\ttime\n" ∷ codes "C\ttemperature\n" ∷ [])) (flags_of (codes "2"))) (lent 1048576))
     ≡
     concat
     (codes "recipe\tyes\n" ∷ codes "section\t-\n" ∷ codes "step\t1\n" ∷ codes "item\tinline\t0\n" ∷ codes "item\ttext\t \n"
@@ -141,7 +142,7 @@ unfolding evaluate
 collect_18 = refl
 
 pub plain_18 :
-    printed (plain_answer (concat (codes "start\tstep\n" ∷ codes "text\t0\t1\t1 kg -2 kg --3 kg\n" ∷ codes "end\tstep\n" ∷ [])) ten (concat (codes "kg\tmass\n" ∷ codes "g\tmass\n" ∷ codes "l\tvolume\n" ∷ codes "min\ttime\n" ∷ codes "C\ttemperature\n" ∷ [])) (flags_of (codes "2")) (lent 1048576))
+    printed (plain_answer (input_of (concat (codes "start\tstep\n" ∷ codes "text\t0\t1\t1 kg -2 kg --3 kg\n" ∷ codes "end\tstep\n" ∷ [])) ten (concat (codes "kg\tmass\n" ∷ codes "g\tmass\n" ∷ codes "l\tvolume\n" ∷ codes "min\ttime\n" ∷ codes "C\ttemperature\n" ∷ [])) (flags_of (codes "2"))) (lent 1048576))
     ≡
     concat
     (codes "start\tstep\n" ∷ codes "text\t0\t1\t1 kg -2 kg --3 kg\n" ∷ codes "end\tstep\n" ∷ [])
@@ -157,7 +158,7 @@ sheet_19 =
     ∷ codes "ingredient\t7\t10\t2\t3\ta\t-\t-\t-\t.\t5\t6\t-\n" ∷ codes "end\tstep\n" ∷ [])
 
 pub collect_19 :
-    printed (collect_answer sheet_19 ten four (flags_of (codes "1")) (lent 1048576))
+    printed (collect_answer (input_of sheet_19 ten four (flags_of (codes "1"))) (lent 1048576))
     ≡
     concat
     (codes "recipe\tyes\n" ∷ codes "meta\t[mode\tText\n" ∷ codes "section\t-\n" ∷ codes "step\t1\n" ∷ codes "item\tingredient\t0\n"
@@ -167,7 +168,7 @@ unfolding evaluate
 collect_19 = refl
 
 pub plain_19 :
-    printed (plain_answer sheet_19 ten four (flags_of (codes "1")) (lent 1048576))
+    printed (plain_answer (input_of sheet_19 ten four (flags_of (codes "1"))) (lent 1048576))
     ≡
     concat
     (codes "meta\t0\t1\t[mode\t3\t4\tText\n" ∷ codes "start\tstep\n" ∷ codes "ingredient\t6\t8\t1\t3\ta\t-\t-\t-\t.\t4\t7\t-\n"
@@ -185,7 +186,7 @@ sheet_20 =
     ∷ codes "end\tstep\n" ∷ [])
 
 pub collect_20 :
-    printed (collect_answer sheet_20 ten four (flags_of (codes "7")) (lent 1048576))
+    printed (collect_answer (input_of sheet_20 ten four (flags_of (codes "7"))) (lent 1048576))
     ≡
     concat
     (codes "recipe\tyes\n" ∷ codes "section\t-\n" ∷ codes "step\t1\n" ∷ codes "item\tingredient\t0\n" ∷ codes "item\tingredient\t1\n"
@@ -196,7 +197,7 @@ unfolding evaluate
 collect_20 = refl
 
 pub plain_20 :
-    printed (plain_answer sheet_20 ten four (flags_of (codes "7")) (lent 1048576))
+    printed (plain_answer (input_of sheet_20 ten four (flags_of (codes "7"))) (lent 1048576))
     ≡
     concat
     (codes "start\tstep\n" ∷ codes "ingredient\t6\t8\t1\t3\ta\t-\t-\t-\t&\t4\t7\t-\n"
@@ -217,7 +218,7 @@ sheet_21 =
     ∷ codes "end\tstep\n" ∷ [])
 
 pub collect_21 :
-    printed (collect_answer sheet_21 ten four (flags_of (codes "7")) (lent 1048576))
+    printed (collect_answer (input_of sheet_21 ten four (flags_of (codes "7"))) (lent 1048576))
     ≡
     concat
     (codes "recipe\tyes\n" ∷ codes "section\t-\n" ∷ codes "step\t1\n" ∷ codes "item\tingredient\t0\n" ∷ codes "step\t2\n"
@@ -230,7 +231,7 @@ unfolding evaluate
 collect_21 = refl
 
 pub plain_21 :
-    printed (plain_answer sheet_21 ten four (flags_of (codes "7")) (lent 1048576))
+    printed (plain_answer (input_of sheet_21 ten four (flags_of (codes "7"))) (lent 1048576))
     ≡
     concat
     (codes "start\tstep\n" ∷ codes "ingredient\t0\t1\t3\t4\ta\t-\t-\t-\t+\t6\t8\t-\n" ∷ codes "end\tstep\n" ∷ codes "start\tstep\n"
@@ -252,7 +253,7 @@ sheet_23 =
     ∷ codes "ingredient\t4\t5\t7\t8\ta\t-\t-\t-\t&?\t5\t7\tn\tstep\t1\t2\t4\n" ∷ codes "end\tstep\n" ∷ [])
 
 pub collect_23 :
-    printed (collect_answer sheet_23 ten four (flags_of (codes "7")) (lent 1048576))
+    printed (collect_answer (input_of sheet_23 ten four (flags_of (codes "7"))) (lent 1048576))
     ≡
     concat
     (codes "recipe\tyes\n" ∷ codes "section\t-\n" ∷ codes "step\t1\n" ∷ codes "step\t2\n" ∷ codes "item\tingredient\t0\n"
@@ -264,7 +265,7 @@ unfolding evaluate
 collect_23 = refl
 
 pub plain_23 :
-    printed (plain_answer sheet_23 ten four (flags_of (codes "7")) (lent 1048576))
+    printed (plain_answer (input_of sheet_23 ten four (flags_of (codes "7"))) (lent 1048576))
     ≡
     concat
     (codes "start\tstep\n" ∷ codes "end\tstep\n" ∷ codes "start\tstep\n"
@@ -289,7 +290,7 @@ sheet_26 =
     ∷ codes "ingredient\t3\t5\t6\t9\td\t-\t1\t4\tt\t4\t5\ty\t-\t-\t-\t&\t7\t8\t-\n" ∷ codes "end\tstep\n" ∷ [])
 
 pub collect_26 :
-    printed (collect_answer sheet_26 ten four (flags_of (codes "7")) (lent 1048576))
+    printed (collect_answer (input_of sheet_26 ten four (flags_of (codes "7"))) (lent 1048576))
     ≡
     concat
     (codes "recipe\tyes\n" ∷ codes "section\t-\n" ∷ codes "step\t1\n" ∷ codes "item\tingredient\t0\n" ∷ codes "item\tingredient\t1\n"
@@ -304,7 +305,7 @@ unfolding evaluate
 collect_26 = refl
 
 pub plain_26 :
-    printed (plain_answer sheet_26 ten four (flags_of (codes "7")) (lent 1048576))
+    printed (plain_answer (input_of sheet_26 ten four (flags_of (codes "7"))) (lent 1048576))
     ≡
     concat
     (codes "start\tstep\n" ∷ codes "ingredient\t0\t1\t3\t4\ta\t-\t6\t8\tn\t1\t3\t1\t-\t-\t-\t.\t4\t7\t-\n"

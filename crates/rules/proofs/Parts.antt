@@ -4,10 +4,10 @@ use mathlib.Core.Path.{◌≡◌, refl, sym, ap, ◌∙◌, subst}
 use mathlib.Core.List.{List, [], ◌∷◌, reverse_aux}
 use mathlib.Core.Bool.{Bool, true, false}
 use Rattle.std.specs.Prelude.{Option, None, Some}
+use Rattle.rules.specs.Input.{Context}
 use Rattle.rules.specs.Basic.{pick}
 use Rattle.rules.specs.Words.{severe, mild, DefineMode, mode_all, mode_components, mode_steps, mode_text, DuplicateMode}
 use Rattle.rules.specs.Event.{Component, Intermediate, ComponentEvent, ingredient_event, cookware_event, timer_event, end_event, text_event, component_event, Event, between, inside, parser_event}
-use Rattle.rules.specs.Units.{NamedUnit}
 use Rattle.rules.specs.Modes.{first_modes, is_components}
 use Rattle.rules.specs.Finding.{Finding}
 use Rattle.rules.specs.Model.{Kind, ingredient, cookware, Entry, Item, Section, source_of, entry_with, entry_of, set_modifiers}
@@ -28,15 +28,15 @@ marked_entry_lem k c (Some d) st = refl
 no_22 : {P : Type 0} → ◌≡◌ {A = Option ℕ} (Some 22) None → P
 no_22 e = no_some (sym e)
 
-module _ (text : List ℕ) (units : List NamedUnit) (flags : ℕ) where
+module _ (cx : Context) where
   -- 18, or on
   chained_sim : (now after after' : State) (e : Event) (m m' : Made) (fs : List Finding) → is_error_event e ≡ false
-      → on_event text units flags e now ≡ unless_chained m' after' → m'.refers_to ≡ m.refers_to → after' ≡ as_form fs after
-      → Sim text units flags now (unless_chained m after) (e ∷ [])
+      → on_event cx e now ≡ unless_chained m' after' → m'.refers_to ≡ m.refers_to → after' ≡ as_form fs after
+      → Sim cx now (unless_chained m after) (e ∷ [])
   unfolding unless_chained
   chained_sim now after after' e m m' fs ne q r a =
-      pick_either (λ (s : Step). Sim text units flags now s (e ∷ [])) (refers_to_reference m.refers_to) _ _
-      (λ b. pick_either (λ (s : Step). Sim text units flags now s (e ∷ [])) (over_limits after) _ _ (λ h. stopped) (λ h. stopped))
+      pick_either (λ (s : Step). Sim cx now s (e ∷ [])) (refers_to_reference m.refers_to) _ _
+      (λ b. pick_either (λ (s : Step). Sim cx now s (e ∷ [])) (over_limits after) _ _ (λ h. stopped) (λ h. stopped))
       (λ b. goes fs ne (q ∙ on b))
     where
       on : refers_to_reference m.refers_to ≡ false → unless_chained m' after' ≡ next (as_form fs after)
@@ -83,9 +83,9 @@ module _ (text : List ℕ) (units : List NamedUnit) (flags : ℕ) where
       -- ---- an entry by name: the sheet's line c, and the form's line x
 
       module _ (j : Kind) (c : Component)
-          (no_fault : implicit_fault (new_entry j c N) (table_of j N) (implicit_of c (made_by_name units flags j c N).refers_to) ≡ None) where
+          (no_fault : implicit_fault (new_entry j c N) (table_of j N) (implicit_of c (made_by_name cx.units cx.flags j c N).refers_to) ≡ None) where
         abbrev goal : Option Earlier
-        goal = (made_by_name units flags j c N).refers_to
+        goal = (made_by_name cx.units cx.flags j c N).refers_to
 
         abbrev x : Component
         x = marked_if c (implicit_of c goal)
@@ -93,7 +93,7 @@ module _ (text : List ℕ) (units : List NamedUnit) (flags : ℕ) where
         new_marked : new_entry j x G ≡ mark_entry_if (implicit_of c goal) (new_entry j c N)
         new_marked = marked_entry_lem j c (implicit_of c goal) G ∙ ap (mark_entry_if (implicit_of c goal)) (new_same j c)
 
-        pub form_to : (made_by_name units flags j x G).refers_to ≡ (made_by_name units flags j c N).refers_to
+        pub form_to : (made_by_name cx.units cx.flags j x G).refers_to ≡ (made_by_name cx.units cx.flags j c N).refers_to
         unfolding made_by_name made_with implicit_of new_entry entry_of entry_with
         form_to =
             ap (λ (e : Entry). refers_to first_modes e (found_same e (table_of j G))) new_marked
@@ -101,31 +101,31 @@ module _ (text : List ℕ) (units : List NamedUnit) (flags : ℕ) where
             (found_same (mark_entry_if (implicit_of c goal) (new_entry j c N)) es)) (table_same j)
             ∙ resolve_same N.modes j (table_of j N) (new_entry j c N) goal refl no_fault
 
-        pub form_entry : (made_by_name units flags j x G).entry ≡ (made_by_name units flags j c N).entry
+        pub form_entry : (made_by_name cx.units cx.flags j x G).entry ≡ (made_by_name cx.units cx.flags j c N).entry
         unfolding made_by_name made_with implicit_of new_entry entry_of entry_with
         form_entry =
             ap (λ (o : Option Earlier). as_referring j o (new_entry j x G)) form_to
             ∙ ap (as_referring j goal) new_marked
             ∙ rebuilt_same j (new_entry j c N) goal
 
-        form_pushed : pushed (made_by_name units flags j x G) (table_of j G) ≡ pushed (made_by_name units flags j c N) (table_of j N)
+        form_pushed : pushed (made_by_name cx.units cx.flags j x G) (table_of j G) ≡ pushed (made_by_name cx.units cx.flags j c N) (table_of j N)
         unfolding pushed
         form_pushed = rw (form_to, form_entry, table_same j)
 
-        name_step : (e : Event) → is_error_event e ≡ false → on_event text units flags e G ≡ on_made units flags j (made_by_name units flags j x G) is G
-            → Sim text units flags G (on_made units flags j (made_by_name units flags j c N) is N) (e ∷ [])
+        name_step : (e : Event) → is_error_event e ≡ false → on_event cx e G ≡ on_made j (made_by_name cx.units cx.flags j x G) is G
+            → Sim cx G (on_made j (made_by_name cx.units cx.flags j c N) is N) (e ∷ [])
         unfolding on_made
         name_step e ne q =
-            chained_sim G _ _ e (made_by_name units flags j c N) (made_by_name units flags j x G) _ ne q form_to
-            (push_same j d is (made_by_name units flags j c N) (made_by_name units flags j x G) nc form_pushed)
+            chained_sim G _ _ e (made_by_name cx.units cx.flags j c N) (made_by_name cx.units cx.flags j x G) _ ne q form_to
+            (push_same j d is (made_by_name cx.units cx.flags j c N) (made_by_name cx.units cx.flags j x G) nc form_pushed)
 
       -- ---- an intermediate reference, never implicit
 
-      intermediate_same : (c : Component) (i : Intermediate) → make_ingredient units flags c (Some i) G ≡ make_ingredient units flags c (Some i) N
+      intermediate_same : (c : Component) (i : Intermediate) → make_ingredient cx c (Some i) G ≡ make_ingredient cx c (Some i) N
       unfolding make_ingredient
       intermediate_same c i = rw (new_same ingredient c)
 
-      never_implicit : (c : Component) (i : Intermediate) → c ≡ marked_if c (implicit_ingredient units flags N c (Some i))
+      never_implicit : (c : Component) (i : Intermediate) → c ≡ marked_if c (implicit_ingredient cx N c (Some i))
       unfolding implicit_ingredient implicit_of make_ingredient made_intermediate marked_if
       never_implicit c i = go c.modifiers.ref
         where
@@ -134,49 +134,49 @@ module _ (text : List ℕ) (units : List NamedUnit) (flags : ℕ) where
           go false = refl
 
       intermediate_step : (c : Component) (i : Intermediate) (f : Option ℕ) → intermediate_fault c (Some i) ≡ f
-          → Sim text units flags G (unless_fault f (on_made units flags ingredient (make_ingredient units flags c (Some i) N) is N))
+          → Sim cx G (unless_fault f (on_made ingredient (make_ingredient cx c (Some i) N) is N))
           (inside (component_event (ingredient_event c (Some i))) ∷ [])
       unfolding on_event on_inside in_step_block on_component on_made is_error_event unless_fault
       intermediate_step c i (Some e) q = stopped
       intermediate_step c i None q =
-          chained_sim G _ _ _ (make_ingredient units flags c (Some i) N) (make_ingredient units flags c (Some i) G) _ refl onx
+          chained_sim G _ _ _ (make_ingredient cx c (Some i) N) (make_ingredient cx c (Some i) G) _ refl onx
           (ap (λ (m : Made). m.refers_to) (intermediate_same c i))
-          (push_same ingredient d is (make_ingredient units flags c (Some i) N) (make_ingredient units flags c (Some i) G) nc
+          (push_same ingredient d is (make_ingredient cx c (Some i) N) (make_ingredient cx c (Some i) G) nc
           (ap (λ (m : Made). pushed m (table_of ingredient G)) (intermediate_same c i)
-          ∙ ap (pushed (make_ingredient units flags c (Some i) N)) (table_same ingredient)))
+          ∙ ap (pushed (make_ingredient cx c (Some i) N)) (table_same ingredient)))
         where
-          onx : on_event text units flags (inside (component_event (ingredient_event c (Some i)))) G
-              ≡ unless_chained (make_ingredient units flags c (Some i) G) (push_component ingredient (make_ingredient units flags c (Some i) G) is G)
+          onx : on_event cx (inside (component_event (ingredient_event c (Some i)))) G
+              ≡ unless_chained (make_ingredient cx c (Some i) G) (push_component ingredient (make_ingredient cx c (Some i) G) is G)
           onx = rw (nc, q)
 
       -- ---- every component of a step
 
-      step_sim : (c : ComponentEvent) → mark_fault units flags N c ≡ None
-          → Sim text units flags G (on_component units flags c is N) (inside (component_event (marked_component units flags N c)) ∷ [])
+      step_sim : (c : ComponentEvent) → mark_fault cx N c ≡ None
+          → Sim cx G (on_component cx c is N) (inside (component_event (marked_component cx N c)) ∷ [])
       unfolding mark_fault marked_component on_component implicit_cookware implicit_ingredient make_cookware made_by_name make_ingredient is_error_event
       step_sim (cookware_event c) f = name_step cookware c f _ refl onx
         where
-          onx : on_event text units flags (inside (component_event (cookware_event (x cookware c f)))) G ≡ on_made units flags cookware
-              (made_by_name units flags cookware (x cookware c f) G) is G
+          onx : on_event cx (inside (component_event (cookware_event (x cookware c f)))) G ≡ on_made cookware
+              (made_by_name cx.units cx.flags cookware (x cookware c f) G) is G
           onx = unfold on_event on_inside in_step_block in rw nc
       step_sim (ingredient_event c None) f = unfold make_ingredient intermediate_fault unless_fault in name_step ingredient c f _ refl onx
         where
-          onx : on_event text units flags (inside (component_event (ingredient_event (x ingredient c f) None))) G ≡ on_made units flags ingredient
-              (made_by_name units flags ingredient (x ingredient c f) G) is G
+          onx : on_event cx (inside (component_event (ingredient_event (x ingredient c f) None))) G ≡ on_made ingredient
+              (made_by_name cx.units cx.flags ingredient (x ingredient c f) G) is G
           onx = unfold on_event on_inside in_step_block make_ingredient intermediate_fault unless_fault in rw nc
       step_sim (ingredient_event c (Some i)) f =
-          subst (λ (y : Component). Sim text units flags G
-          (unless_fault (intermediate_fault c (Some i)) (on_made units flags ingredient (make_ingredient units flags c (Some i) N) is N))
+          subst (λ (y : Component). Sim cx G
+          (unless_fault (intermediate_fault c (Some i)) (on_made ingredient (make_ingredient cx c (Some i) N) is N))
           (inside (component_event (ingredient_event y (Some i))) ∷ []))
           (never_implicit c i) (intermediate_step c i (intermediate_fault c (Some i)) refl)
-      step_sim (timer_event at name q) f = goes (reverse_aux (timer_findings units flags q) fs') refl onx
+      step_sim (timer_event at name q) f = goes (reverse_aux (timer_findings cx.units cx.flags q) fs') refl onx
         where
-          onx : on_event text units flags (inside (component_event (timer_event at name q))) G ≡ next
-              (as_form (reverse_aux (timer_findings units flags q) fs') (push_timer units flags name q is N))
+          onx : on_event cx (inside (component_event (timer_event at name q))) G ≡ next
+              (as_form (reverse_aux (timer_findings cx.units cx.flags q) fs') (push_timer cx.units cx.flags name q is N))
           onx = unfold on_event on_inside in_step_block push_timer push_items set_timers report set_block set_place set_kept set_tables is_components first_modes in rw nc
 
-    component_sim : (d : DefineMode) (o : Open) (c : ComponentEvent) → component_fault units flags (M d o) c o ≡ None
-        → Sim text units flags (F d o) (on_inside text units flags (component_event c) o (M d o)) (plain_inside text units flags (M d o) (component_event c) o)
+    component_sim : (d : DefineMode) (o : Open) (c : ComponentEvent) → component_fault cx (M d o) c o ≡ None
+        → Sim cx (F d o) (on_inside cx (component_event c) o (M d o)) (plain_inside cx (M d o) (component_event c) o)
     unfolding on_inside on_event in_step_block in_text_block in_text_mode plain_inside in_plain_step in_plain_text unless_listed component_fault is_components report set_block set_place component_in_text is_error_event first_modes
     component_sim d no_block c f = stopped
     component_sim mode_all (step_open is) c f = step_sim mode_all is refl c f
@@ -186,19 +186,19 @@ module _ (text : List ℕ) (units : List NamedUnit) (flags : ℕ) where
     component_sim d (text_open ts) c f = stopped
     component_sim d (text_mode_open ts) c f = goes fs' refl refl
 
-    event_made : (d : DefineMode) (o : Open) (e : Event) → is_error_event e ≡ false → plain_fault units flags (M d o) e ≡ None
-        → Sim text units flags (F d o) (on_event text units flags e (M d o)) (plain_event text units flags (M d o) e)
+    event_made : (d : DefineMode) (o : Open) (e : Event) → is_error_event e ≡ false → plain_fault cx (M d o) e ≡ None
+        → Sim cx (F d o) (on_event cx e (M d o)) (plain_event cx (M d o) e)
     unfolding on_event plain_event is_error_event plain_fault
-    event_made d o (between b) ne f = between_sim text units flags u md s n k t fs fs' d o b
-    event_made d o (inside (end_event x)) ne f = end_sim text units flags u md s n k t fs fs' d o x
-    event_made d o (inside (text_event x)) ne f = text_sim text units flags u md s n k t fs fs' d o x
+    event_made d o (between b) ne f = between_sim cx u md s n k t fs fs' d o b
+    event_made d o (inside (end_event x)) ne f = end_sim cx u md s n k t fs fs' d o x
+    event_made d o (inside (text_event x)) ne f = text_sim cx u md s n k t fs fs' d o x
     event_made d o (inside (component_event c)) ne f = component_sim d o c f
     event_made d o (parser_event severe x) ne f = no_truth (sym ne)
-    event_made d o (parser_event mild x) ne f = warning_sim text units flags u md s n k t fs fs' d o x
+    event_made d o (parser_event mild x) ne f = warning_sim cx u md s n k t fs fs' d o x
 
   -- every line: what it makes of the sheet's state, its form's lines make of the form's
-  pub event_sim : (st : State) (fs : List Finding) (e : Event) → is_error_event e ≡ false → plain_fault units flags st e ≡ None
-      → Sim text units flags (as_form fs st) (on_event text units flags e st) (plain_event text units flags st e)
+  pub event_sim : (st : State) (fs : List Finding) (e : Event) → is_error_event e ≡ false → plain_fault cx st e ≡ None
+      → Sim cx (as_form fs st) (on_event cx e st) (plain_event cx st e)
   event_sim st fs e =
       event_made st.modes.duplicate st.metadata st.place.section st.place.step_counter st.kept st.tables st.findings fs
       st.modes.define st.place.block e

@@ -4,6 +4,7 @@ use mathlib.Core.Path.{◌≡◌, refl}
 use mathlib.Core.List.{List, [], ◌∷◌, ◌++◌}
 use Rattle.rules.specs.Basic.{codes, concat, each}
 use Rattle.rules.specs.Answer.{Answer, answered, declined}
+use Rattle.rules.specs.Input.{input_of}
 use Rattle.rules.specs.PlainForm.{plain_form}
 use Rattle.rules.specs.Evaluate.{evaluate}
 
@@ -18,7 +19,7 @@ abbrev text : List ℕ
 text = codes "salt, Salt"
 
 abbrev pub answer_for : PlainCase → Answer
-answer_for c = plain_form c.sheet text [] c.flags
+answer_for c = plain_form (input_of c.sheet text [] c.flags)
 
 abbrev pub expected : PlainCase → Answer
 expected c = c.answer

@@ -4,10 +4,10 @@ use mathlib.Core.Path.{◌≡◌, refl, sym, ◌∙◌}
 use mathlib.Core.List.{List, [], ◌∷◌, ◌++◌, reverse, reverse_aux}
 use mathlib.Core.Bool.{Bool, true, false, ◌&&◌, ◌||◌, not}
 use Rattle.std.specs.Prelude.{Option, None, Some}
+use Rattle.rules.specs.Input.{Context}
 use Rattle.rules.specs.Basic.{pick, is_some, word_in}
 use Rattle.rules.specs.Words.{step_kind, text_kind, ConfigKey, config_keys, mode_all, duplicate_new}
 use Rattle.rules.specs.Event.{Text, Component, Between, meta_event, section_event, start_event, Inside, Event, between, inside, parser_event}
-use Rattle.rules.specs.Units.{NamedUnit}
 use Rattle.rules.specs.Modes.{first_modes, is_components, is_steps, is_text, is_reference, has_modes, key_text, is_bracketed, key_as, key_of}
 use Rattle.rules.specs.Model.{Kind}
 use Rattle.rules.specs.State.{Open, no_block, step_open, text_open, text_mode_open, State}
@@ -58,35 +58,35 @@ pub meta_heeded : (flags : ℕ) (k v : Text) → is_heeded flags (between (meta_
 unfolding is_heeded is_mode_line mode_key key_of
 meta_heeded flags k v = rw (key_mode (word_in (key_text k) config_keys) (is_bracketed (key_text k)))
 
-module _ (text : List ℕ) (units : List NamedUnit) (flags : ℕ) where
-  listed_quiet : (st : State) (e : Event) → is_mode_line e ≡ false → Quiet flags (unless_listed st e)
+module _ (cx : Context) where
+  listed_quiet : (st : State) (e : Event) → is_mode_line e ≡ false → Quiet cx.flags (unless_listed st e)
   unfolding unless_listed
-  listed_quiet st e q = pick_either (Quiet flags) (is_components st.modes.define) _ _ (λ b. quiet_none) (λ b. one q)
+  listed_quiet st e q = pick_either (Quiet cx.flags) (is_components st.modes.define) _ _ (λ b. quiet_none) (λ b. one q)
 
-  inside_quiet : (st : State) (i : Inside) (o : Open) → Quiet flags (plain_inside text units flags st i o)
+  inside_quiet : (st : State) (i : Inside) (o : Open) → Quiet cx.flags (plain_inside cx st i o)
   unfolding plain_inside is_mode_line mode_key is_some
   inside_quiet st i no_block = one refl
   inside_quiet st i (step_open is) = listed_quiet st _ refl
   inside_quiet st i (text_open ts) = one refl
   inside_quiet st i (text_mode_open ts) = one refl
 
-  between_quiet : (st : State) (b : Between) → Quiet flags (plain_between flags st b)
+  between_quiet : (st : State) (b : Between) → Quiet cx.flags (plain_between cx.flags st b)
   unfolding plain_between is_mode_line mode_key is_some
   between_quiet st (meta_event k v) =
-      pick_either (Quiet flags) (has_modes flags && is_mode_key (key_of (key_text k))) _ _ (λ b. quiet_none) (λ b. quiet_more (meta_heeded flags k v ∙ b) quiet_none)
+      pick_either (Quiet cx.flags) (has_modes cx.flags && is_mode_key (key_of (key_text k))) _ _ (λ b. quiet_none) (λ b. quiet_more (meta_heeded cx.flags k v ∙ b) quiet_none)
   between_quiet st (section_event n) = one refl
   between_quiet st (start_event text_kind) = one refl
   between_quiet st (start_event step_kind) =
-      pick_either (Quiet flags) (is_text st.modes.define) _ _ (λ b. one refl) (λ b. listed_quiet st (between (start_event step_kind)) refl)
+      pick_either (Quiet cx.flags) (is_text st.modes.define) _ _ (λ b. one refl) (λ b. listed_quiet st (between (start_event step_kind)) refl)
 
-  event_quiet : (st : State) (e : Event) → Quiet flags (plain_event text units flags st e)
+  event_quiet : (st : State) (e : Event) → Quiet cx.flags (plain_event cx st e)
   unfolding plain_event is_mode_line mode_key is_some
   event_quiet st (between b) = between_quiet st b
   event_quiet st (inside i) = inside_quiet st i st.place.block
   event_quiet st (parser_event s n) = one refl
 
   -- "the form has no mode line that the flags heed"
-  pub form_quiet : (ts : List Traced) → Quiet flags (plain_events text units flags ts)
+  pub form_quiet : (ts : List Traced) → Quiet cx.flags (plain_events cx ts)
   unfolding plain_events
   form_quiet [] = quiet_none
   form_quiet (t ∷ ts) = quiet_both (event_quiet t.state t.event) (form_quiet ts)

@@ -8,10 +8,10 @@ use native.Mathlib.Omega.{arith}
 use lib.Dec.{eqb}
 use lib.ListN.{length}
 use borrow.Author.Tests.{eqb-true, eqb-false, eq-eqb, ne_eqb}
+use Rattle.rules.specs.Input.{Context}
 use Rattle.rules.specs.Basic.{pick, on_some}
 use Rattle.rules.specs.Words.{IntermediateTarget, target_step, target_section}
 use Rattle.rules.specs.Event.{Component, Intermediate, Event}
-use Rattle.rules.specs.Units.{NamedUnit}
 use Rattle.rules.specs.Model.{Kind, ingredient, cookware, Target, to_ingredient, to_cookware, to_step, to_section, target_of, Relation, definition, reference, Entry, entry_with, entry_of, set_relation, set_modifiers}
 use Rattle.rules.specs.Reference.{Earlier, same_name_of, entry_at, refers_to, as_referring, referred_by, set_referenced_from, is_definition}
 use Rattle.rules.specs.Checks.{intermediate_target, intermediate_relation}
@@ -352,10 +352,10 @@ not_false : (b : Bool) → not b ≡ false → b ≡ true
 not_false true q = refl
 not_false false q = no_truth (sym q)
 
-module _ (units : List NamedUnit) (flags : ℕ) where
+module _ (cx : Context) where
   -- what the search finds is a definition, or 18
-  by_name_linked : (k : Kind) (c : Component) (st : State) → refers_to_reference (made_by_name units flags k c st).refers_to ≡ false
-      → MadeLinked k (table_of k st) (made_by_name units flags k c st).entry.relation (made_by_name units flags k c st).refers_to
+  by_name_linked : (k : Kind) (c : Component) (st : State) → refers_to_reference (made_by_name cx.units cx.flags k c st).refers_to ≡ false
+      → MadeLinked k (table_of k st) (made_by_name cx.units cx.flags k c st).entry.relation (made_by_name cx.units cx.flags k c st).refers_to
   unfolding made_by_name made_with as_referring set_relation set_modifiers new_entry entry_of entry_with found_same same_name_of refers_to_reference
   by_name_linked k c st s = go (refers_to st.modes (new_entry k c st) (found_same (new_entry k c st) (table_of k st))) refl s
     where
@@ -367,20 +367,20 @@ module _ (units : List NamedUnit) (flags : ℕ) where
           made_reference d (record { entry = d.entry; stands = found_at _ _ _ (table_of k st) d p; is = not_false (is_definition d.entry.relation) n })
 
   intermediate_linked : (c : Component) (i : Intermediate) (st : State)
-      → MadeLinked ingredient (table_of ingredient st) (make_ingredient units flags c (Some i) st).entry.relation (make_ingredient units flags c (Some i) st).refers_to
+      → MadeLinked ingredient (table_of ingredient st) (make_ingredient cx c (Some i) st).entry.relation (make_ingredient cx c (Some i) st).refers_to
   unfolding make_ingredient made_intermediate set_relation new_entry entry_of entry_with
   intermediate_linked c i st = made_intermediate_lem (table_of ingredient st) i _ _
 
-  pub made_linked : (k : Kind) (m : Made) (st : State) → MadeBy units flags st k m → refers_to_reference m.refers_to ≡ false
+  pub made_linked : (k : Kind) (m : Made) (st : State) → MadeBy cx st k m → refers_to_reference m.refers_to ≡ false
       → MadeLinked k (table_of k st) m.entry.relation m.refers_to
   made_linked k m st h n = by st k m h n
     where
-      by : (st : State) (k : Kind) (m : Made) → MadeBy units flags st k m → refers_to_reference m.refers_to ≡ false → MadeLinked k (table_of k st) m.entry.relation m.refers_to
+      by : (st : State) (k : Kind) (m : Made) → MadeBy cx st k m → refers_to_reference m.refers_to ≡ false → MadeLinked k (table_of k st) m.entry.relation m.refers_to
       by st k m (by_name x c) n = by_name_linked x c st n
       by st k m (by_place c i r) n = intermediate_linked c i st
 
   -- linked tables stay linked
-  pub linked_onward : Onward units flags LinkedAfter
+  pub linked_onward : Onward cx LinkedAfter
   linked_onward =
       record {
         same = λ k es l. l;
@@ -394,6 +394,6 @@ first_tables ingredient = first_linked ingredient
 first_tables cookware = first_linked cookware
 
 -- in every state that the pass reaches the tables are linked
-pub walk_linked : (text : List ℕ) (units : List NamedUnit) (flags : ℕ) (es : List Event) (st : State) → walk text units flags 1 (going first_state) es ≡ going st → (k : Kind)
+pub walk_linked : (cx : Context) (es : List Event) (st : State) → walk cx 1 (going first_state) es ≡ going st → (k : Kind)
     → Linked k (table_of k st)
-walk_linked text units flags es st q k = walk_related units flags LinkedAfter (linked_onward units flags) text es 1 first_state st q k (first_tables k)
+walk_linked cx es st q k = walk_related cx LinkedAfter (linked_onward cx) es 1 first_state st q k (first_tables k)

@@ -4,6 +4,7 @@ use Prim.Native.Nat.{ℕ}
 use mathlib.Core.Path.{◌≡◌, refl}
 use mathlib.Core.List.{List, [], ◌∷◌}
 use Rattle.rules.specs.Basic.{codes, concat}
+use Rattle.rules.specs.Input.{input_of}
 use Rattle.rules.specs.Answer.{Lent, collect_answer, plain_answer, printed, flags_of, words_needed, bytes_needed}
 use Rattle.rules.specs.Evaluate.{evaluate}
 
@@ -19,11 +20,11 @@ four = codes "kg\tmass\ng\tmass\nl\tvolume\nmin\ttime\n"
 
 -- paper: flags 8
 -- collect 7, plain 7
-pub collect_1 : printed (collect_answer [] [] [] (flags_of (codes "8")) (lent 1048576)) ≡ codes "refused\t7\t0\n"
+pub collect_1 : printed (collect_answer (input_of [] [] [] (flags_of (codes "8"))) (lent 1048576)) ≡ codes "refused\t7\t0\n"
 unfolding evaluate
 collect_1 = refl
 
-pub plain_1 : printed (plain_answer [] [] [] (flags_of (codes "8")) (lent 1048576)) ≡ codes "refused\t7\t0\n"
+pub plain_1 : printed (plain_answer (input_of [] [] [] (flags_of (codes "8"))) (lent 1048576)) ≡ codes "refused\t7\t0\n"
 unfolding evaluate
 plain_1 = refl
 
@@ -38,7 +39,7 @@ sheet_2 =
     ∷ codes "ingredient\t3\t6\t6\t7\ta\t-\t-\t-\t+\t1\t2\t-\n" ∷ codes "ingredient\t4\t6\t7\t9\ta\t-\t-\t-\t.\t2\t5\t-\n" ∷ codes "end\tstep\n" ∷ [])
 
 pub collect_2 :
-    printed (collect_answer sheet_2 ten four (flags_of (codes "7")) (lent 1048576))
+    printed (collect_answer (input_of sheet_2 ten four (flags_of (codes "7"))) (lent 1048576))
     ≡
     concat
     (codes "recipe\tyes\n" ∷ codes "section\t-\n" ∷ codes "step\t1\n" ∷ codes "item\tingredient\t0\n" ∷ codes "item\tingredient\t1\n"
@@ -51,7 +52,7 @@ pub collect_2 :
 unfolding evaluate
 collect_2 = refl
 
-pub plain_2 : printed (plain_answer sheet_2 ten four (flags_of (codes "7")) (lent 1048576)) ≡ codes "refused\t23\t5\n"
+pub plain_2 : printed (plain_answer (input_of sheet_2 ten four (flags_of (codes "7"))) (lent 1048576)) ≡ codes "refused\t23\t5\n"
 unfolding evaluate
 plain_2 = refl
 
@@ -68,7 +69,7 @@ sheet_3 =
     ∷ codes "end\tstep\n" ∷ [])
 
 pub collect_3 :
-    printed (collect_answer sheet_3 ten four (flags_of (codes "7")) (lent 1048576))
+    printed (collect_answer (input_of sheet_3 ten four (flags_of (codes "7"))) (lent 1048576))
     ≡
     concat
     (codes "recipe\tyes\n" ∷ codes "section\t-\n" ∷ codes "text\ttext\n" ∷ codes "step\t1\n" ∷ codes "item\tingredient\t1\n" ∷ codes "step\t2\n"
@@ -77,7 +78,7 @@ pub collect_3 :
 unfolding evaluate
 collect_3 = refl
 
-pub plain_3 : printed (plain_answer sheet_3 ten four (flags_of (codes "7")) (lent 1048576)) ≡ codes "refused\t22\t8\n"
+pub plain_3 : printed (plain_answer (input_of sheet_3 ten four (flags_of (codes "7"))) (lent 1048576)) ≡ codes "refused\t22\t8\n"
 unfolding evaluate
 plain_3 = refl
 
@@ -90,28 +91,28 @@ sheet_6 =
     ∷ codes "section\t4\t7\ta\n" ∷ codes "error\t4\n" ∷ codes "end\tstep\n" ∷ codes "ingredient\t7\t10\t2\t3\ta\t-\t-\t-\t.\t5\t6\t-\n" ∷ [])
 
 pub collect_6 :
-    printed (collect_answer sheet_6 ten four (flags_of (codes "7")) (lent 1048576))
+    printed (collect_answer (input_of sheet_6 ten four (flags_of (codes "7"))) (lent 1048576))
     ≡
     concat
     (codes "recipe\tno\n" ∷ codes "parse\tW\t1\n" ∷ codes "parse\tE\t2\n" ∷ codes "parse\tW\t3\n" ∷ codes "parse\tE\t4\n" ∷ [])
 unfolding evaluate
 collect_6 = refl
 
-pub plain_6 : printed (plain_answer sheet_6 ten four (flags_of (codes "7")) (lent 1048576)) ≡ codes "refused\t21\t4\n"
+pub plain_6 : printed (plain_answer (input_of sheet_6 ten four (flags_of (codes "7"))) (lent 1048576)) ≡ codes "refused\t21\t4\n"
 unfolding evaluate
 plain_6 = refl
 
 -- decisions: B5 0
 -- collect 10, plain 10
 pub collect_7 :
-    printed (collect_answer (concat (codes "text\t1\t0\ta\n" ∷ codes "section\t0\t1\t" ∷ (255 ∷ []) ∷ codes "\n" ∷ [])) ten [] (flags_of (codes "7")) (lent 1048576))
+    printed (collect_answer (input_of (concat (codes "text\t1\t0\ta\n" ∷ codes "section\t0\t1\t" ∷ (255 ∷ []) ∷ codes "\n" ∷ [])) ten [] (flags_of (codes "7"))) (lent 1048576))
     ≡
     codes "refused\t10\t1\n"
 unfolding evaluate
 collect_7 = refl
 
 pub plain_7 :
-    printed (plain_answer (concat (codes "text\t1\t0\ta\n" ∷ codes "section\t0\t1\t" ∷ (255 ∷ []) ∷ codes "\n" ∷ [])) ten [] (flags_of (codes "7")) (lent 1048576))
+    printed (plain_answer (input_of (concat (codes "text\t1\t0\ta\n" ∷ codes "section\t0\t1\t" ∷ (255 ∷ []) ∷ codes "\n" ∷ [])) ten [] (flags_of (codes "7"))) (lent 1048576))
     ≡
     codes "refused\t10\t1\n"
 unfolding evaluate
@@ -120,14 +121,14 @@ plain_7 = refl
 -- decisions: B5 2
 -- collect 8, plain 8
 pub collect_8 :
-    printed (collect_answer (concat (codes "section\t0\t1\t" ∷ (192 ∷ 128 ∷ []) ∷ codes "\n" ∷ [])) ten [] (flags_of (codes "7")) (lent 1048576))
+    printed (collect_answer (input_of (concat (codes "section\t0\t1\t" ∷ (192 ∷ 128 ∷ []) ∷ codes "\n" ∷ [])) ten [] (flags_of (codes "7"))) (lent 1048576))
     ≡
     codes "refused\t8\t1\n"
 unfolding evaluate
 collect_8 = refl
 
 pub plain_8 :
-    printed (plain_answer (concat (codes "section\t0\t1\t" ∷ (192 ∷ 128 ∷ []) ∷ codes "\n" ∷ [])) ten [] (flags_of (codes "7")) (lent 1048576))
+    printed (plain_answer (input_of (concat (codes "section\t0\t1\t" ∷ (192 ∷ 128 ∷ []) ∷ codes "\n" ∷ [])) ten [] (flags_of (codes "7"))) (lent 1048576))
     ≡
     codes "refused\t8\t1\n"
 unfolding evaluate
@@ -140,11 +141,11 @@ sheet_9 =
     concat
     (codes "start\tstep\n" ∷ codes "ingredient\t0\t1\t0\t1\ta\t-\t-\t-\t&\t0\t0\tn\tstep\t-1\t0\t0\n" ∷ codes "end\tstep\n" ∷ [])
 
-pub collect_9 : printed (collect_answer sheet_9 ten four (flags_of (codes "7")) (lent 1048576)) ≡ codes "refused\t16\t2\n"
+pub collect_9 : printed (collect_answer (input_of sheet_9 ten four (flags_of (codes "7"))) (lent 1048576)) ≡ codes "refused\t16\t2\n"
 unfolding evaluate
 collect_9 = refl
 
-pub plain_9 : printed (plain_answer sheet_9 ten four (flags_of (codes "7")) (lent 1048576)) ≡ codes "refused\t16\t2\n"
+pub plain_9 : printed (plain_answer (input_of sheet_9 ten four (flags_of (codes "7"))) (lent 1048576)) ≡ codes "refused\t16\t2\n"
 unfolding evaluate
 plain_9 = refl
 
@@ -156,25 +157,25 @@ sheet_11 =
     (codes "meta\t0\t1\t[mode]\t3\t4\tall\n" ∷ codes "start\tstep\n" ∷ codes "ingredient\t6\t8\t1\t3\ta\t-\t-\t-\t.\t7\t10\tn\tstep\t1\t4\t7\n"
     ∷ codes "end\tstep\n" ∷ [])
 
-pub collect_11 : printed (collect_answer sheet_11 ten four (flags_of (codes "7")) (lent 1048576)) ≡ codes "refused\t15\t3\n"
+pub collect_11 : printed (collect_answer (input_of sheet_11 ten four (flags_of (codes "7"))) (lent 1048576)) ≡ codes "refused\t15\t3\n"
 unfolding evaluate
 collect_11 = refl
 
-pub plain_11 : printed (plain_answer sheet_11 ten four (flags_of (codes "7")) (lent 1048576)) ≡ codes "refused\t15\t3\n"
+pub plain_11 : printed (plain_answer (input_of sheet_11 ten four (flags_of (codes "7"))) (lent 1048576)) ≡ codes "refused\t15\t3\n"
 unfolding evaluate
 plain_11 = refl
 
 -- decisions: B19 all
 -- collect 13, plain 13
 pub collect_12 :
-    printed (collect_answer (concat (codes "meta\t0\t1\t[mode]\t3\t4\tall\n" ∷ codes "start\tstep\n" ∷ codes "end\ttext\n" ∷ [])) ten four (flags_of (codes "7")) (lent 1048576))
+    printed (collect_answer (input_of (concat (codes "meta\t0\t1\t[mode]\t3\t4\tall\n" ∷ codes "start\tstep\n" ∷ codes "end\ttext\n" ∷ [])) ten four (flags_of (codes "7"))) (lent 1048576))
     ≡
     codes "refused\t13\t3\n"
 unfolding evaluate
 collect_12 = refl
 
 pub plain_12 :
-    printed (plain_answer (concat (codes "meta\t0\t1\t[mode]\t3\t4\tall\n" ∷ codes "start\tstep\n" ∷ codes "end\ttext\n" ∷ [])) ten four (flags_of (codes "7")) (lent 1048576))
+    printed (plain_answer (input_of (concat (codes "meta\t0\t1\t[mode]\t3\t4\tall\n" ∷ codes "start\tstep\n" ∷ codes "end\ttext\n" ∷ [])) ten four (flags_of (codes "7"))) (lent 1048576))
     ≡
     codes "refused\t13\t3\n"
 unfolding evaluate
@@ -188,35 +189,35 @@ sheet_13 =
     (codes "meta\t0\t1\t[mode]\t3\t4\tall\n" ∷ codes "start\ttext\n" ∷ codes "text\t6\t8\ta\n" ∷ codes "timer\t1\t3\t-\t-\n"
     ∷ codes "end\ttext\n" ∷ [])
 
-pub collect_13 : printed (collect_answer sheet_13 ten four (flags_of (codes "7")) (lent 1048576)) ≡ codes "refused\t14\t4\n"
+pub collect_13 : printed (collect_answer (input_of sheet_13 ten four (flags_of (codes "7"))) (lent 1048576)) ≡ codes "refused\t14\t4\n"
 unfolding evaluate
 collect_13 = refl
 
-pub plain_13 : printed (plain_answer sheet_13 ten four (flags_of (codes "7")) (lent 1048576)) ≡ codes "refused\t14\t4\n"
+pub plain_13 : printed (plain_answer (input_of sheet_13 ten four (flags_of (codes "7"))) (lent 1048576)) ≡ codes "refused\t14\t4\n"
 unfolding evaluate
 plain_13 = refl
 
 -- decisions: 5 before 7
 -- collect 5, plain 5
-pub collect_15 : printed (collect_answer (codes "x") [] (codes "x") (flags_of (codes "8")) (lent 1048576)) ≡ codes "refused\t5\t0\n"
+pub collect_15 : printed (collect_answer (input_of (codes "x") [] (codes "x") (flags_of (codes "8"))) (lent 1048576)) ≡ codes "refused\t5\t0\n"
 unfolding evaluate
 collect_15 = refl
 
-pub plain_15 : printed (plain_answer (codes "x") [] (codes "x") (flags_of (codes "8")) (lent 1048576)) ≡ codes "refused\t5\t0\n"
+pub plain_15 : printed (plain_answer (input_of (codes "x") [] (codes "x") (flags_of (codes "8"))) (lent 1048576)) ≡ codes "refused\t5\t0\n"
 unfolding evaluate
 plain_15 = refl
 
 -- decisions: 6 before 7
 -- collect 6, plain 6
 pub collect_16 :
-    printed (collect_answer (codes "x") [] (concat (codes "g\tmass\n" ∷ codes "g\tmass\n" ∷ [])) (flags_of (codes "8")) (lent 1048576))
+    printed (collect_answer (input_of (codes "x") [] (concat (codes "g\tmass\n" ∷ codes "g\tmass\n" ∷ [])) (flags_of (codes "8"))) (lent 1048576))
     ≡
     codes "refused\t6\t0\n"
 unfolding evaluate
 collect_16 = refl
 
 pub plain_16 :
-    printed (plain_answer (codes "x") [] (concat (codes "g\tmass\n" ∷ codes "g\tmass\n" ∷ [])) (flags_of (codes "8")) (lent 1048576))
+    printed (plain_answer (input_of (codes "x") [] (concat (codes "g\tmass\n" ∷ codes "g\tmass\n" ∷ [])) (flags_of (codes "8"))) (lent 1048576))
     ≡
     codes "refused\t6\t0\n"
 unfolding evaluate
@@ -224,11 +225,17 @@ plain_16 = refl
 
 -- decisions: 4 before 5
 -- collect 4, plain 4
-pub collect_17 : printed (collect_answer (codes "x") (255 ∷ []) (codes "x") (flags_of (codes "8")) (lent 1048576)) ≡ codes "refused\t4\t0\n"
+pub collect_17 :
+    printed (collect_answer (input_of (codes "x") (255 ∷ []) (codes "x") (flags_of (codes "8"))) (lent 1048576))
+    ≡
+    codes "refused\t4\t0\n"
 unfolding evaluate
 collect_17 = refl
 
-pub plain_17 : printed (plain_answer (codes "x") (255 ∷ []) (codes "x") (flags_of (codes "8")) (lent 1048576)) ≡ codes "refused\t4\t0\n"
+pub plain_17 :
+    printed (plain_answer (input_of (codes "x") (255 ∷ []) (codes "x") (flags_of (codes "8"))) (lent 1048576))
+    ≡
+    codes "refused\t4\t0\n"
 unfolding evaluate
 plain_17 = refl
 
@@ -246,7 +253,7 @@ sheet_27 =
     ∷ codes "cookware\t6\t8\t1\t3\ta\t-\t-\t-\t.\t4\t7\n" ∷ codes "end\tstep\n" ∷ [])
 
 pub collect_27 :
-    printed (collect_answer sheet_27 ten four (flags_of (codes "7")) (lent 1048576))
+    printed (collect_answer (input_of sheet_27 ten four (flags_of (codes "7"))) (lent 1048576))
     ≡
     concat
     (codes "recipe\tyes\n" ∷ codes "section\t-\n" ∷ codes "step\t1\n" ∷ codes "item\tcookware\t3\n" ∷ codes "item\tcookware\t4\n"
@@ -258,7 +265,7 @@ pub collect_27 :
 unfolding evaluate
 collect_27 = refl
 
-pub plain_27 : printed (plain_answer sheet_27 ten four (flags_of (codes "7")) (lent 1048576)) ≡ codes "refused\t22\t4\n"
+pub plain_27 : printed (plain_answer (input_of sheet_27 ten four (flags_of (codes "7"))) (lent 1048576)) ≡ codes "refused\t22\t4\n"
 unfolding evaluate
 plain_27 = refl
 
@@ -273,7 +280,7 @@ sheet_30 =
     ∷ codes "end\tstep\n" ∷ [])
 
 pub collect_30 :
-    printed (collect_answer sheet_30 ten four (flags_of (codes "1")) (lent 1048576))
+    printed (collect_answer (input_of sheet_30 ten four (flags_of (codes "1"))) (lent 1048576))
     ≡
     concat
     (codes "recipe\tyes\n" ∷ codes "section\t-\n" ∷ codes "step\t1\n" ∷ codes "item\tingredient\t0\n" ∷ codes "item\tingredient\t1\n"
@@ -283,21 +290,21 @@ pub collect_30 :
 unfolding evaluate
 collect_30 = refl
 
-pub plain_30 : printed (plain_answer sheet_30 ten four (flags_of (codes "1")) (lent 1048576)) ≡ codes "refused\t23\t5\n"
+pub plain_30 : printed (plain_answer (input_of sheet_30 ten four (flags_of (codes "1"))) (lent 1048576)) ≡ codes "refused\t23\t5\n"
 unfolding evaluate
 plain_30 = refl
 
 -- decisions: D12 19
 -- collect 19, plain 19
 pub collect_33 :
-    printed (collect_answer (concat (codes "start\tstep\n" ∷ codes "warning\t1\n" ∷ [])) ten four (flags_of (codes "7")) (lent 1048576))
+    printed (collect_answer (input_of (concat (codes "start\tstep\n" ∷ codes "warning\t1\n" ∷ [])) ten four (flags_of (codes "7"))) (lent 1048576))
     ≡
     codes "refused\t19\t0\n"
 unfolding evaluate
 collect_33 = refl
 
 pub plain_33 :
-    printed (plain_answer (concat (codes "start\tstep\n" ∷ codes "warning\t1\n" ∷ [])) ten four (flags_of (codes "7")) (lent 1048576))
+    printed (plain_answer (input_of (concat (codes "start\tstep\n" ∷ codes "warning\t1\n" ∷ [])) ten four (flags_of (codes "7"))) (lent 1048576))
     ≡
     codes "refused\t19\t0\n"
 unfolding evaluate
@@ -306,14 +313,14 @@ plain_33 = refl
 -- decisions: in a block S sec-
 -- collect 11, plain 11
 pub collect_34 :
-    printed (collect_answer (concat (codes "start\tstep\n" ∷ codes "section\t-\n" ∷ [])) ten four (flags_of (codes "7")) (lent 1048576))
+    printed (collect_answer (input_of (concat (codes "start\tstep\n" ∷ codes "section\t-\n" ∷ [])) ten four (flags_of (codes "7"))) (lent 1048576))
     ≡
     codes "refused\t11\t2\n"
 unfolding evaluate
 collect_34 = refl
 
 pub plain_34 :
-    printed (plain_answer (concat (codes "start\tstep\n" ∷ codes "section\t-\n" ∷ [])) ten four (flags_of (codes "7")) (lent 1048576))
+    printed (plain_answer (input_of (concat (codes "start\tstep\n" ∷ codes "section\t-\n" ∷ [])) ten four (flags_of (codes "7"))) (lent 1048576))
     ≡
     codes "refused\t11\t2\n"
 unfolding evaluate
@@ -322,14 +329,14 @@ plain_34 = refl
 -- decisions: in no block E
 -- collect 12, plain 12
 pub collect_35 :
-    printed (collect_answer (concat (codes "warning\t1\n" ∷ codes "end\tstep\n" ∷ [])) ten four (flags_of (codes "7")) (lent 1048576))
+    printed (collect_answer (input_of (concat (codes "warning\t1\n" ∷ codes "end\tstep\n" ∷ [])) ten four (flags_of (codes "7"))) (lent 1048576))
     ≡
     codes "refused\t12\t2\n"
 unfolding evaluate
 collect_35 = refl
 
 pub plain_35 :
-    printed (plain_answer (concat (codes "warning\t1\n" ∷ codes "end\tstep\n" ∷ [])) ten four (flags_of (codes "7")) (lent 1048576))
+    printed (plain_answer (input_of (concat (codes "warning\t1\n" ∷ codes "end\tstep\n" ∷ [])) ten four (flags_of (codes "7"))) (lent 1048576))
     ≡
     codes "refused\t12\t2\n"
 unfolding evaluate
@@ -338,14 +345,14 @@ plain_35 = refl
 -- decisions: room one short for both
 -- collect 20, plain 20
 pub collect_36 :
-    printed (collect_answer (concat (codes "warning\t1\n" ∷ codes "section\t0\t1\ta\n" ∷ [])) ten four (flags_of (codes "7")) (lent 22))
+    printed (collect_answer (input_of (concat (codes "warning\t1\n" ∷ codes "section\t0\t1\ta\n" ∷ [])) ten four (flags_of (codes "7"))) (lent 22))
     ≡
     codes "refused\t20\t0\n"
 unfolding evaluate
 collect_36 = refl
 
 pub plain_36 :
-    printed (plain_answer (concat (codes "warning\t1\n" ∷ codes "section\t0\t1\ta\n" ∷ [])) ten four (flags_of (codes "7")) (lent 22))
+    printed (plain_answer (input_of (concat (codes "warning\t1\n" ∷ codes "section\t0\t1\ta\n" ∷ [])) ten four (flags_of (codes "7"))) (lent 22))
     ≡
     codes "refused\t20\t0\n"
 unfolding evaluate
@@ -390,10 +397,16 @@ sheet_37 =
     ∷ codes "section\t0\t1\ta\n" ∷ codes "section\t0\t1\ta\n" ∷ codes "section\t0\t1\ta\n" ∷ codes "section\t0\t1\ta\n"
     ∷ codes "section\t0\t1\ta\n" ∷ [])
 
-pub collect_37 : printed (collect_answer sheet_37 ten (codes "kg\tmass\n") (flags_of (codes "7")) (lent 1048576)) ≡ codes "refused\t17\t0\n"
+pub collect_37 :
+    printed (collect_answer (input_of sheet_37 ten (codes "kg\tmass\n") (flags_of (codes "7"))) (lent 1048576))
+    ≡
+    codes "refused\t17\t0\n"
 unfolding evaluate
 collect_37 = refl
 
-pub plain_37 : printed (plain_answer sheet_37 ten (codes "kg\tmass\n") (flags_of (codes "7")) (lent 1048576)) ≡ codes "refused\t17\t0\n"
+pub plain_37 :
+    printed (plain_answer (input_of sheet_37 ten (codes "kg\tmass\n") (flags_of (codes "7"))) (lent 1048576))
+    ≡
+    codes "refused\t17\t0\n"
 unfolding evaluate
 plain_37 = refl

@@ -5,10 +5,10 @@ use mathlib.Core.List.{List, [], ◌∷◌, ◌++◌, reverse_aux}
 use mathlib.Core.Bool.{Bool, true, false}
 use Rattle.std.specs.Prelude.{None}
 use native.Mathlib.Omega.{arith}
+use Rattle.rules.specs.Input.{Context}
 use Rattle.rules.specs.Basic.{pick}
 use Rattle.rules.specs.Words.{DefineMode}
 use Rattle.rules.specs.Event.{Event}
-use Rattle.rules.specs.Units.{NamedUnit}
 use Rattle.rules.specs.Modes.{first_modes}
 use Rattle.rules.specs.Finding.{Finding}
 use Rattle.rules.specs.State.{Open, no_block, step_open, text_open, text_mode_open, State, first_state, set_kept, report, over_limits, Step, next, Walk, going, failed, refused, Outcome, recipe, refusal}
@@ -21,11 +21,11 @@ use Rattle.rules.proofs.Walks.{stays_refused, not_refused, not_failed, step_sett
 use Rattle.rules.proofs.Sim.{form_open, as_form, Sim, stopped, skips, goes}
 use Rattle.rules.proofs.Parts.{event_sim}
 
-module _ (text : List ℕ) (units : List NamedUnit) (flags : ℕ) where
+module _ (cx : Context) where
   -- 22 and 23 do not arise
   pub data NoFaults : List Traced → Type 0 where
     no_line : NoFaults []
-    no_fault : {t : Traced} {ts : List Traced} → plain_fault units flags t.state t.event ≡ None → NoFaults ts → NoFaults (t ∷ ts)
+    no_fault : {t : Traced} {ts : List Traced} → plain_fault cx t.state t.event ≡ None → NoFaults ts → NoFaults (t ∷ ts)
 
   -- the form's walk ends beside the sheet's, or a limit ends it
   pub data Ends (st : State) : Walk → Type 0 where
@@ -33,41 +33,41 @@ module _ (text : List ℕ) (units : List NamedUnit) (flags : ℕ) where
     over : (l : ℕ) → Ends st (refused 17 l)
 
   abbrev trace : ℕ → Walk → List Event → List Traced
-  trace line w es = trace_from text units flags line w es
+  trace line w es = trace_from cx line w es
 
   abbrev plain : ℕ → Walk → List Event → List Event
-  plain line w es = plain_events text units flags (trace_from text units flags line w es)
+  plain line w es = plain_events cx (trace_from cx line w es)
 
   abbrev Follows : List Event → State → Type 0
   Follows es end =
-      (line line' : ℕ) (st : State) (fs : List Finding) → walk text units flags line (going st) es ≡ going end → NoFaults (trace line (going st) es)
-      → Ends end (walk text units flags line' (going (as_form fs st)) (plain line (going st) es))
+      (line line' : ℕ) (st : State) (fs : List Finding) → walk cx line (going st) es ≡ going end → NoFaults (trace line (going st) es)
+      → Ends end (walk cx line' (going (as_form fs st)) (plain line (going st) es))
 
   module _ (es : List Event) (end : State) (ih : Follows es end) (line line' : ℕ) where
     -- after the settling of the sheet's line
     settled : (now now' : State) (fs : List Finding) (b : Bool) → now' ≡ as_form fs now
-        → walk text units flags (suc line) (pick b (refused 17 line) (going now)) es ≡ going end
+        → walk cx (suc line) (pick b (refused 17 line) (going now)) es ≡ going end
         → NoFaults (trace (suc line) (pick b (refused 17 line) (going now)) es)
-        → Ends end (walk text units flags line' (going now') (plain (suc line) (pick b (refused 17 line) (going now)) es))
-    settled now now' fs true a q f = not_refused text units flags (suc line) 17 line es end q
+        → Ends end (walk cx line' (going now') (plain (suc line) (pick b (refused 17 line) (going now)) es))
+    settled now now' fs true a q f = not_refused cx (suc line) 17 line es end q
     settled now now' fs false a q f = rw a (ih (suc line) line' now fs q f)
 
     -- after the settling of the form's line
-    limited : (b : Bool) (w : Walk) (rest : List Event) → Ends end (walk text units flags (suc line') w rest)
-        → Ends end (walk text units flags (suc line') (pick b (refused 17 line') w) rest)
-    limited true w rest h = rw (stays_refused text units flags (suc line') 17 line' rest) (over line')
+    limited : (b : Bool) (w : Walk) (rest : List Event) → Ends end (walk cx (suc line') w rest)
+        → Ends end (walk cx (suc line') (pick b (refused 17 line') w) rest)
+    limited true w rest h = rw (stays_refused cx (suc line') 17 line' rest) (over line')
     limited false w rest h = h
 
-  turn : (es : List Event) (end : State) → Follows es end → (line line' : ℕ) {now : State} {s : Step} {ps : List Event} → Sim text units flags now s ps
-      → walk text units flags (suc line) (settle line s) es ≡ going end
+  turn : (es : List Event) (end : State) → Follows es end → (line line' : ℕ) {now : State} {s : Step} {ps : List Event} → Sim cx now s ps
+      → walk cx (suc line) (settle line s) es ≡ going end
       → NoFaults (trace (suc line) (settle line s) es)
-      → Ends end (walk text units flags line' (going now) (ps ++ plain (suc line) (settle line s) es))
+      → Ends end (walk cx line' (going now) (ps ++ plain (suc line) (settle line s) es))
   unfolding settle walk
-  turn es end ih line line' (stopped {n}) q f = not_refused text units flags (suc line) n line es end q
+  turn es end ih line line' (stopped {n}) q f = not_refused cx (suc line) n line es end q
   turn es end ih line line' (skips {st} fs a) q f = settled es end ih line line' st _ fs (over_limits st) a q f
   turn es end ih line line' {now} (goes {st} {e} fs ne a) q f =
-      subst (λ (w : Walk). Ends end (walk text units flags (suc line') w (plain (suc line) (settle line (next st)) es)))
-      (sym (step_next text units flags line' e now (as_form fs st) ne a))
+      subst (λ (w : Walk). Ends end (walk cx (suc line') w (plain (suc line) (settle line (next st)) es)))
+      (sym (step_next cx line' e now (as_form fs st) ne a))
       (limited es end ih line line' (over_limits (as_form fs st)) (going (as_form fs st)) (plain (suc line) (settle line (next st)) es)
       (settled es end ih line (suc line') st _ fs (over_limits st) refl q f))
 
@@ -76,13 +76,13 @@ module _ (text : List ℕ) (units : List NamedUnit) (flags : ℕ) where
   walk_sim [] end line line' st fs q f = let h : st ≡ end = cc in rw h (beside fs)
   walk_sim (e ∷ es) end line line' st fs q (no_fault f0 f) = go (walk_sim es end) (is_error_event e) refl
     where
-      go : Follows es end → (b : Bool) → is_error_event e ≡ b → Ends end (walk text units flags line' (going (as_form fs st)) (plain line (going st) (e ∷ es)))
-      go ih true ne = not_failed text units flags (suc line) _ es end (rw (step_fails text units flags line e st ne) at q)
+      go : Follows es end → (b : Bool) → is_error_event e ≡ b → Ends end (walk cx line' (going (as_form fs st)) (plain line (going st) (e ∷ es)))
+      go ih true ne = not_failed cx (suc line) _ es end (rw (step_fails cx line e st ne) at q)
       go ih false ne =
-          subst (λ (w : Walk). Ends end (walk text units flags line' (going (as_form fs st)) (plain_event text units flags st e ++ plain (suc line) w es)))
-          (sym (step_settles text units flags line e st ne))
-          (turn es end ih line line' (event_sim text units flags st fs e ne f0)
-          (rw (step_settles text units flags line e st ne) at q) (rw (step_settles text units flags line e st ne) at f))
+          subst (λ (w : Walk). Ends end (walk cx line' (going (as_form fs st)) (plain_event cx st e ++ plain (suc line) w es)))
+          (sym (step_settles cx line e st ne))
+          (turn es end ih line line' (event_sim cx st fs e ne f0)
+          (rw (step_settles cx line e st ne) at q) (rw (step_settles cx line e st ne) at f))
 
 -- ---- the end
 
@@ -127,8 +127,8 @@ finish_form st end fs =
     last : {s : State} {gs : List Finding} → s ≡ as_form gs st → Same st (unless_over s)
     last {s} {gs} q = pick_either (Same st) (over_limits s) _ _ (λ b. limit 0) (λ b. rw q (yields gs))
 
-module _ (text : List ℕ) (units : List NamedUnit) (flags : ℕ) where
-  outcome_form : (st end : State) (w : Walk) → finish (going end) ≡ recipe st → Ends text units flags end w → Same st (finish w)
+module _ (cx : Context) where
+  outcome_form : (st end : State) (w : Walk) → finish (going end) ≡ recipe st → Ends cx end w → Same st (finish w)
   unfolding finish
   outcome_form st end _ q (beside fs) = finish_form st end fs q
   outcome_form st end _ q (over l) = limit l
@@ -136,27 +136,27 @@ module _ (text : List ℕ) (units : List NamedUnit) (flags : ℕ) where
   -- a walk that ends in a recipe goes on to its end
   pub record Went (es : List Event) (st : State) : Type 0 where
     pub last : State
-    pub there : walk text units flags 1 (going first_state) es ≡ going last
+    pub there : walk cx 1 (going first_state) es ≡ going last
     pub done : finish (going last) ≡ recipe st
 
-  pub went : (es : List Event) (st : State) → parse_events text units flags es ≡ recipe st → Went es st
+  pub went : (es : List Event) (st : State) → parse_events cx es ≡ recipe st → Went es st
   unfolding parse_events finish
-  went es st q = go (walk text units flags 1 (going first_state) es) refl q
+  went es st q = go (walk cx 1 (going first_state) es) refl q
     where
-      go : (w : Walk) → walk text units flags 1 (going first_state) es ≡ w → finish w ≡ recipe st → Went es st
+      go : (w : Walk) → walk cx 1 (going first_state) es ≡ w → finish w ≡ recipe st → Went es st
       go (going end) p q = record { last = end; there = p; done = q }
       go (failed fs) p q = absurd (let z : ◌≡◌ {A = ℕ} 0 1 = cc in omega arith)
       go (refused n l) p q = no_recipe_lem q
 
-  pub form_yields : (es : List Event) (st : State) → parse_events text units flags es ≡ recipe st
-      → NoFaults text units flags (trace_from text units flags 1 (going first_state) es)
-      → Same st (parse_events text units flags (plain_events text units flags (trace_from text units flags 1 (going first_state) es)))
+  pub form_yields : (es : List Event) (st : State) → parse_events cx es ≡ recipe st
+      → NoFaults cx (trace_from cx 1 (going first_state) es)
+      → Same st (parse_events cx (plain_events cx (trace_from cx 1 (going first_state) es)))
   form_yields es st q f =
       let r : Went es st = went es st q in
       unfold parse_events in outcome_form st r.last _ r.done
-      (subst (λ (x : State). Ends text units flags r.last
-      (walk text units flags 1 (going x) (plain_events text units flags (trace_from text units flags 1 (going first_state) es)))) (sym start)
-      (walk_sim text units flags es r.last 1 1 first_state [] r.there f))
+      (subst (λ (x : State). Ends cx r.last
+      (walk cx 1 (going x) (plain_events cx (trace_from cx 1 (going first_state) es)))) (sym start)
+      (walk_sim cx es r.last 1 1 first_state [] r.there f))
     where
       start : first_state ≡ as_form [] first_state
       start = unfold first_state first_modes in refl

@@ -8,9 +8,9 @@ use native.Mathlib.Omega.{arith}
 use lib.Dec.{eqb}
 use lib.ListN.{length, take}
 use borrow.Author.Tests.{eq-eqb, ne_eqb}
+use Rattle.rules.specs.Input.{Context}
 use Rattle.rules.specs.Basic.{pick}
 use Rattle.rules.specs.Event.{Event}
-use Rattle.rules.specs.Units.{NamedUnit}
 use Rattle.rules.specs.Finding.{Finding, only_parsed}
 use Rattle.rules.specs.Model.{Entry}
 use Rattle.rules.specs.Reference.{Earlier, fits, same_name_in, entry_at}
@@ -22,15 +22,15 @@ use Rattle.rules.proofs.Basics.{no_some, some_inj}
 pub no_walk : {P : Type 0} {n l : ℕ} {st : State} → refused n l ≡ going st → P
 no_walk q = absurd (let z : ◌≡◌ {A = ℕ} 0 1 = cc in omega arith)
 
-module _ (text : List ℕ) (units : List NamedUnit) (flags : ℕ) where
+module _ (cx : Context) where
   -- ---- a refusal stays a refusal
 
-  pub stays_refused : (line n l : ℕ) (es : List Event) → walk text units flags line (refused n l) es ≡ refused n l
+  pub stays_refused : (line n l : ℕ) (es : List Event) → walk cx line (refused n l) es ≡ refused n l
   unfolding walk step
   stays_refused line n l [] = refl
   stays_refused line n l (e ∷ es) = stays_refused (suc line) n l es
 
-  pub not_refused : {P : Type 0} (line n l : ℕ) (es : List Event) (st : State) → walk text units flags line (refused n l) es ≡ going st → P
+  pub not_refused : {P : Type 0} (line n l : ℕ) (es : List Event) (st : State) → walk cx line (refused n l) es ≡ going st → P
   not_refused line n l es st q = no_walk (sym (stays_refused line n l es) ∙ q)
 
   -- a failed walk stays one, and keeps its findings below the new ones
@@ -38,38 +38,38 @@ module _ (text : List ℕ) (units : List NamedUnit) (flags : ℕ) where
     pub more : List Finding
     pub is : w ≡ failed (more ++ fs)
 
-  pub stays_failed : (line : ℕ) (fs : List Finding) (es : List Event) → Failed fs (walk text units flags line (failed fs) es)
+  pub stays_failed : (line : ℕ) (fs : List Finding) (es : List Event) → Failed fs (walk cx line (failed fs) es)
   unfolding walk step
   stays_failed line fs [] = record { more = []; is = refl }
   stays_failed line fs (e ∷ es) =
-      let r : Failed (parser_findings e ++ fs) (walk text units flags (suc line) (failed (parser_findings e ++ fs)) es) = stays_failed (suc line)
+      let r : Failed (parser_findings e ++ fs) (walk cx (suc line) (failed (parser_findings e ++ fs)) es) = stays_failed (suc line)
       (parser_findings e ++ fs) es in
       record { more = r.more ++ parser_findings e; is = r.is ∙ ap failed (sym (append_assoc r.more (parser_findings e) fs)) }
 
-  pub not_failed : {P : Type 0} (line : ℕ) (fs : List Finding) (es : List Event) (st : State) → walk text units flags line (failed fs) es ≡ going st → P
+  pub not_failed : {P : Type 0} (line : ℕ) (fs : List Finding) (es : List Event) (st : State) → walk cx line (failed fs) es ≡ going st → P
   not_failed line fs es st q =
-      let r : Failed fs (walk text units flags line (failed fs) es) = stays_failed line fs es in
+      let r : Failed fs (walk cx line (failed fs) es) = stays_failed line fs es in
       absurd (let h : failed (r.more ++ fs) ≡ going st = sym r.is ∙ q in let z : ◌≡◌ {A = ℕ} 0 1 = cc in omega arith)
 
   -- ---- one line of a walk that goes on
 
   pub step_settles : (line : ℕ) (e : Event) (st : State) → is_error_event e ≡ false
-      → step text units flags line e (going st) ≡ settle line (on_event text units flags e st)
+      → step cx line e (going st) ≡ settle line (on_event cx e st)
   unfolding step
   step_settles line e st ne = rw ne
 
   pub step_fails : (line : ℕ) (e : Event) (st : State) → is_error_event e ≡ true
-      → step text units flags line e (going st) ≡ failed (parser_findings e ++ only_parsed st.findings)
+      → step cx line e (going st) ≡ failed (parser_findings e ++ only_parsed st.findings)
   unfolding step
   step_fails line e st ne = rw ne
 
-  pub step_next : (line : ℕ) (e : Event) (st after : State) → is_error_event e ≡ false → on_event text units flags e st ≡ next after
-      → step text units flags line e (going st) ≡ pick (over_limits after) (refused 17 line) (going after)
+  pub step_next : (line : ℕ) (e : Event) (st after : State) → is_error_event e ≡ false → on_event cx e st ≡ next after
+      → step cx line e (going st) ≡ pick (over_limits after) (refused 17 line) (going after)
   unfolding settle
   step_next line e st after ne a = step_settles line e st ne ∙ ap (settle line) a
 
-  pub step_stops : (line n : ℕ) (e : Event) (st : State) → is_error_event e ≡ false → on_event text units flags e st ≡ stop n
-      → step text units flags line e (going st) ≡ refused n line
+  pub step_stops : (line n : ℕ) (e : Event) (st : State) → is_error_event e ≡ false → on_event cx e st ≡ stop n
+      → step cx line e (going st) ≡ refused n line
   unfolding settle
   step_stops line n e st ne a = step_settles line e st ne ∙ ap (settle line) a
 

@@ -6,6 +6,7 @@ use Rattle.rules.specs.Sheet.{Lines, last, more, lines, refused_line}
 use Rattle.rules.specs.Event.{Span, Event, spans_of}
 use Rattle.rules.specs.Read.{parse_line}
 use Rattle.rules.specs.Units.{NamedUnit, read_units, name_twice}
+use Rattle.rules.specs.Input.{Input, with_sheet, Context, context_of}
 use Rattle.rules.specs.State.{first_state, going, Outcome, recipe, no_recipe, refusal}
 use Rattle.rules.specs.Pass.{is_error_event, parse_events}
 use Rattle.rules.specs.Page.{recipe_page, failed_page}
@@ -44,26 +45,67 @@ module _ (text : List ℕ) (text_length : ℕ) where
 unfoldable pub read_sheet : List ℕ → List ℕ → Reading
 read_sheet text sheet = read_from text (length text) 1 (lines sheet)
 
--- ---- the rows above "plain form only" and "writing", with memory enough
+-- its refusal, if there is one: a number and a line
+unfoldable pub fault_of : Reading → Option (ℕ × ℕ)
+fault_of (events es) = None
+fault_of (unread n l) = Some (n, l)
 
-module _ (text : List ℕ) (flags : ℕ) where
-  unfoldable pub passed : List NamedUnit → Reading → Outcome
-  passed us (unread n l) = refusal n l
-  passed us (events es) = parse_events text us flags es
+unfoldable pub events_or : Reading → List Event
+events_or (events es) = es
+events_or (unread n l) = []
 
-  -- "5 unit line ill-formed or a 1,025th; 6 unit name twice; 7 flags over 7"
-  unfoldable pub with_units : List ℕ → Option (List NamedUnit) → Outcome
-  with_units sheet None = refusal 5 0
-  with_units sheet (Some us) =
-      pick (name_twice us) (refusal 6 0) (pick (ltb 7 flags) (refusal 7 0) (passed us (read_sheet text sheet)))
+-- the events of a sheet
+abbrev pub events_of : Input → List Event
+events_of i = events_or (read_sheet i.text i.sheet)
 
--- "1 sheet over 65,536 bytes; 2 text over 65,535; 3 units over 16,384"; "4 text not UTF-8"
-unfoldable pub collection : List ℕ → List ℕ → List ℕ → ℕ → Outcome
-collection sheet text units flags =
-    pick (ltb 65536 (length sheet)) (refusal 1 0)
-    (pick (ltb 65535 (length text)) (refusal 2 0)
-    (pick (ltb 16384 (length units)) (refusal 3 0)
-    (pick (is_utf8 text) (with_units text flags sheet (read_units units)) (refusal 4 0))))
+-- ---- the order of refusals: the rows above "plain form only" and "writing", with memory enough
+
+-- the first of some, where there is one
+unfoldable pub first_some : {A : Type 0} → List (Option A) → Option A
+first_some [] = None
+first_some (None ∷ os) = first_some os
+first_some (Some a ∷ os) = Some a
+
+unfoldable pub number_if : ℕ → Bool → Option ℕ
+number_if n b = pick b (Some n) None
+
+-- "5 unit line ill-formed or a 1,025th; 6 unit name twice"
+unfoldable pub units_refused : Option (List NamedUnit) → Option ℕ
+units_refused None = Some 5
+units_refused (Some us) = number_if 6 (name_twice us)
+
+-- what stands in the table before the flags: "1 sheet over 65,536 bytes; 2 text over 65,535; 3 units over 16,384", "4 text not
+-- UTF-8", then 5 or 6
+unfoldable pub before_flags : Input → Option ℕ
+before_flags i =
+    first_some
+    (number_if 1 (ltb 65536 (length i.sheet)) ∷ number_if 2 (ltb 65535 (length i.text)) ∷ number_if 3 (ltb 16384 (length i.units))
+    ∷ number_if 4 (not (is_utf8 i.text)) ∷ units_refused (read_units i.units) ∷ [])
+
+-- a number that names no line
+unfoldable pub in_no_line : Option ℕ → Option (ℕ × ℕ)
+in_no_line None = None
+in_no_line (Some n) = Some (n, 0)
+
+-- "7 flags over 7", then the sheet, line by line
+unfoldable pub from_flags : Input → Option (ℕ × ℕ)
+from_flags i = first_some (in_no_line (number_if 7 (ltb 7 i.flags)) ∷ fault_of (read_sheet i.text i.sheet) ∷ [])
+
+-- all that is refused before the pass; `fault` is what the list of a single page refuses, right before the flags
+unfoldable pub before_pass : Option ℕ → Input → Option (ℕ × ℕ)
+before_pass fault i = first_some (in_no_line (before_flags i) ∷ in_no_line fault ∷ from_flags i ∷ [])
+
+unfoldable pub refused_or : Option (ℕ × ℕ) → Outcome → Outcome
+refused_or None o = o
+refused_or (Some p) o = refusal p.0 p.1
+
+-- what a page with a list of its own begins with
+unfoldable pub collection_with : Option ℕ → Input → Outcome
+collection_with fault i = refused_or (before_pass fault i) (parse_events (context_of i) (events_of i))
+
+-- what any other begins with: the recipe, none after an `error` line, or a refusal
+unfoldable pub collection : Input → Outcome
+collection i = collection_with None i
 
 -- ---- lent memory: the lengths of the work memory, in words and in bytes, and of the output
 
@@ -96,9 +138,8 @@ written room (no_recipe fs) = hand_out room (failed_page fs)
 written room (refusal n l) = declined n l
 
 -- what `collect` answers
-unfoldable pub collect_answer : List ℕ → List ℕ → List ℕ → ℕ → Lent → Answer
-collect_answer sheet text units flags m =
-    pick (is_short m) (declined 1 0) (written m.room (collection sheet text units flags))
+unfoldable pub collect_answer : Input → Lent → Answer
+collect_answer i m = pick (is_short m) (declined 1 0) (written m.room (collection i))
 
 -- ---- the plain form
 
@@ -112,44 +153,34 @@ gives17 (recipe st) = false
 gives17 (no_recipe fs) = false
 gives17 (refusal n l) = eqb n 17
 
-module _ (text units : List ℕ) (flags room : ℕ) where
+module _ (i : Input) (room : ℕ) where
   -- "24 form over 65,536 bytes, or its collection gives 17"
   unfoldable pub form_answer : List ℕ → Answer
   form_answer form =
-      pick (ltb 65536 (length form) || gives17 (collection form text units flags)) (declined 24 0) (hand_out room form)
+      pick (ltb 65536 (length form) || gives17 (collection (with_sheet form i))) (declined 24 0) (hand_out room form)
 
 unfoldable pub fault_or : ℕ → Option ℕ → Answer → Answer
 fault_or line (Some n) a = declined n line
 fault_or line None a = a
 
 -- "then by line 22 component in a components-mode step, 23 implicit reference not to the last non-REF of its name"
-module _ (us : List NamedUnit) (flags : ℕ) (whole : Answer) where
+module _ (cx : Context) (whole : Answer) where
   unfoldable pub unless_faulty : List Traced → Answer
   unless_faulty [] = whole
-  unless_faulty (t ∷ ts) = fault_or t.line (plain_fault us flags t.state t.event) (unless_faulty ts)
+  unless_faulty (t ∷ ts) = fault_or t.line (plain_fault cx t.state t.event) (unless_faulty ts)
 
-module _ (text units : List ℕ) (us : List NamedUnit) (flags room : ℕ) where
+module _ (i : Input) (room : ℕ) where
   unfoldable pub form_of : List Traced → Answer
-  form_of ts = unless_faulty us flags (form_answer text units flags room (sheet_of (plain_events text us flags ts))) ts
+  form_of ts = unless_faulty (context_of i) (form_answer i room (sheet_of (plain_events (context_of i) ts))) ts
 
   unfoldable pub plain_of : List Event → Outcome → Answer
   plain_of es (refusal n l) = declined n l
   plain_of es (no_recipe fs) = declined 21 (error_line 1 es)
-  plain_of es (recipe st) = form_of (trace_from text us flags 1 (going first_state) es)
-
-unfoldable pub events_or : Reading → List Event
-events_or (events es) = es
-events_or (unread n l) = []
-
-unfoldable pub units_or : Option (List NamedUnit) → List NamedUnit
-units_or None = []
-units_or (Some us) = us
+  plain_of es (recipe st) = form_of (trace_from (context_of i) 1 (going first_state) es)
 
 -- what `plain_form` answers
-unfoldable pub plain_answer : List ℕ → List ℕ → List ℕ → ℕ → Lent → Answer
-plain_answer sheet text units flags m =
-    pick (is_short m) (declined 1 0)
-    (plain_of text units (units_or (read_units units)) flags m.room (events_or (read_sheet text sheet)) (collection sheet text units flags))
+unfoldable pub plain_answer : Input → Lent → Answer
+plain_answer i m = pick (is_short m) (declined 1 0) (plain_of i m.room (events_of i) (collection i))
 
 -- ---- what is left in lent memory, and what the programs print
 

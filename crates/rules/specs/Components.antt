@@ -3,6 +3,7 @@ use Rattle.std.specs.Prelude.{ℕ, List, [], ◌∷◌, ◌++◌, Bool, false, �
 use Rattle.rules.specs.Basic.{pick, when, on_some}
 use Rattle.rules.specs.Event.{Span, Text, Quantity, Component, Intermediate}
 use Rattle.rules.specs.Units.{NamedUnit, PhysicalQuantity, find_unit, same_physical, time}
+use Rattle.rules.specs.Input.{Context}
 use Rattle.rules.specs.Finding.{Finding, found}
 use Rattle.rules.specs.Model.{Kind, ingredient, cookware, is_ingredient, inherits, amount_of, is_textual, trimmed_text, Entry, Timer, entry_of, set_relation}
 use Rattle.rules.specs.Modes.{Modes, is_components, has_advanced_units}
@@ -24,6 +25,16 @@ pub record Made : Type 0 where
 -- the entry of a component here: defined in a step unless in components mode
 unfoldable pub new_entry : Kind → Component → State → Entry
 new_entry k c st = entry_of k (not (is_components st.modes.define)) c
+
+-- ---- with an intermediate reference
+
+unfoldable pub made_intermediate : Component → Entry → Intermediate → Option ℕ → Made
+made_intermediate c new i target =
+    record {
+      entry = set_relation (intermediate_relation i new.relation target) new;
+      findings = lock_findings c.quantity ++ intermediate_modifiers c ++ intermediate_findings i target;
+      refers_to = None;
+    }
 
 -- ---- by name
 
@@ -52,27 +63,22 @@ module _ (units : List NamedUnit) (flags : ℕ) where
   made_by_name k c st =
       made_with k st.modes (table_of k st) (lock_findings c.quantity) (new_entry k c st) (found_same (new_entry k c st) (table_of k st))
 
-  -- ---- `ingredient` and `cookware`
+-- ---- `ingredient` and `cookware`
 
-  unfoldable pub made_intermediate : Component → Entry → Intermediate → Option ℕ → Made
-  made_intermediate c new i target =
-      record {
-        entry = set_relation (intermediate_relation i new.relation target) new;
-        findings = lock_findings c.quantity ++ intermediate_modifiers c ++ intermediate_findings i target;
-        refers_to = None;
-      }
-
+module _ (cx : Context) where
   unfoldable pub make_ingredient : Component → Option Intermediate → State → Made
-  make_ingredient c None st = made_by_name ingredient c st
+  make_ingredient c None st = made_by_name cx.units cx.flags ingredient c st
   make_ingredient c (Some i) st =
       made_intermediate c (new_entry ingredient c st) i
       (resolve_intermediate_ref i st.place.section.content (length st.kept.sections))
 
+module _ (units : List NamedUnit) (flags : ℕ) where
   unfoldable pub make_cookware : Component → State → Made
-  make_cookware c st = made_by_name cookware c st
+  make_cookware c st = made_by_name units flags cookware c st
 
-  -- ---- `timer`: 21 timer text, 22 not time, 23 unknown timer unit
+-- ---- `timer`: 21 timer text, 22 not time, 23 unknown timer unit
 
+module _ (units : List NamedUnit) (flags : ℕ) where
   unfoldable pub time_unit : Span → Option PhysicalQuantity → List Finding
   time_unit s None = found 23 s ∷ []
   time_unit s (Some p) = when (not (same_physical p time)) (found 22 s)

@@ -3,6 +3,7 @@
 use Rattle.std.specs.Prelude.{ℕ, List, [], ◌∷◌, Bool, true, false, ◌&&◌, ◌||◌, not, leb, length, Option, None, Some}
 use Rattle.rules.specs.Basic.{pick, eq_list, any, is_some, word_in}
 use Rattle.rules.specs.Unicode.{fold_name}
+use Rattle.rules.specs.Input.{Input, with_sheet}
 use Rattle.rules.specs.Words.{DefineMode, DuplicateMode, define_words, duplicate_words, ConfigKey, define_key, duplicate_key, config_keys}
 use Rattle.rules.specs.Event.{Component, Event, Inside, meta_event, section_event, start_event, end_event, text_event, component_event, ComponentEvent, ingredient_event, cookware_event, timer_event, between, inside, parser_event}
 use Rattle.rules.specs.Model.{Kind, ingredient, cookware, entry_of}
@@ -23,8 +24,8 @@ unfoldable pub yields_recipe : List Event → Bool
 yields_recipe es = not (any is_error_event es)
 
 -- "*Within the limits*: 24 does not arise."
-unfoldable pub is_within_limits : List ℕ → List ℕ → List ℕ → ℕ → Bool
-is_within_limits form text units flags = leb (length form) 65536 && not (gives17 (collection form text units flags))
+unfoldable pub is_within_limits : List ℕ → Input → Bool
+is_within_limits form i = leb (length form) 65536 && not (gives17 (collection (with_sheet form i)))
 
 -- "*Component*: an `ingredient`, `cookware` or `timer` line."
 unfoldable pub is_component_inside : Inside → Bool

@@ -13,6 +13,7 @@ pub mod Event
 pub mod Read
 pub mod Write
 pub mod Units
+pub mod Input
 pub mod Inline
 pub mod Modes
 pub mod Finding

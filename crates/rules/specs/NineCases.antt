@@ -1,6 +1,7 @@
 -- The nine cases of document 01 ("Hollow versions") in one table; proofs/Cases.antt proves them.
 use Rattle.std.specs.Prelude.{ℕ, List, [], ◌∷◌, ◌++◌}
 use Rattle.rules.specs.Basic.{codes, concat}
+use Rattle.rules.specs.Input.{input_of}
 use Rattle.rules.specs.Answer.{collect_answer, printed, enough}
 
 -- what is handed in, and what the collect program prints for it
@@ -12,7 +13,7 @@ pub record Case : Type 0 where
   pub prints : List ℕ
 
 abbrev pub printed_for : Case → List ℕ
-printed_for c = printed (collect_answer c.sheet c.text c.units c.flags enough)
+printed_for c = printed (collect_answer (input_of c.sheet c.text c.units c.flags) enough)
 
 abbrev pub expected_of : Case → List ℕ
 expected_of c = c.prints

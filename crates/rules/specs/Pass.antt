@@ -7,6 +7,7 @@ use Rattle.rules.specs.Utf8.{chars}
 use Rattle.rules.specs.Words.{BlockKind, step_kind, text_kind, DefineMode, severe, mild}
 use Rattle.rules.specs.Event.{Span, Text, Quantity, Event, Between, meta_event, section_event, start_event, Inside, end_event, text_event, component_event, ComponentEvent, ingredient_event, cookware_event, timer_event, between, inside, parser_event, component_span}
 use Rattle.rules.specs.Units.{NamedUnit}
+use Rattle.rules.specs.Input.{Context}
 use Rattle.rules.specs.Inline.{Piece, text_piece, quantity_piece, inline_pieces}
 use Rattle.rules.specs.Finding.{Finding, parsed, found, only_parsed}
 use Rattle.rules.specs.Model.{Kind, ingredient, cookware, trimmed_text, InlineQuantity, Item, text_item, ingredient_item, cookware_item, timer_item, inline_item, Block, step_block, text_block, Section}
@@ -123,19 +124,20 @@ module _ (units : List NamedUnit) (flags : ℕ) where
       report (timer_findings units flags q)
       (push_items (timer_item (length st.tables.timers) ∷ []) is (set_timers (timer_of name q ∷ st.tables.timers) st))
 
-  unfoldable pub on_made : Kind → Made → List Item → State → Step
-  on_made k m is st = unless_chained m (push_component k m is st)
+unfoldable pub on_made : Kind → Made → List Item → State → Step
+on_made k m is st = unless_chained m (push_component k m is st)
 
+module _ (cx : Context) where
   unfoldable pub on_component : ComponentEvent → List Item → State → Step
-  on_component (ingredient_event c i) is st = unless_fault (intermediate_fault c i) (on_made ingredient (make_ingredient units flags c i st) is st)
-  on_component (cookware_event c) is st = on_made cookware (make_cookware units flags c st) is st
-  on_component (timer_event s n q) is st = next (push_timer n q is st)
+  on_component (ingredient_event c i) is st = unless_fault (intermediate_fault c i) (on_made ingredient (make_ingredient cx c i st) is st)
+  on_component (cookware_event c) is st = on_made cookware (make_cookware cx.units cx.flags c st) is st
+  on_component (timer_event s n q) is st = next (push_timer cx.units cx.flags n q is st)
 
   -- 13 `end` of other kind
   unfoldable pub in_step_block : Inside → List Item → State → Step
   in_step_block (end_event step_kind) is st = next (close_step is st)
   in_step_block (end_event text_kind) is st = stop 13
-  in_step_block (text_event t) is st = next (text_in_step t is st)
+  in_step_block (text_event t) is st = next (text_in_step cx.units cx.flags t is st)
   in_step_block (component_event c) is st = on_component c is st
 
 -- ---- `in_text`
@@ -180,16 +182,16 @@ unfoldable pub settle : ℕ → Step → Walk
 settle line (stop n) = refused n line
 settle line (next st) = pick (over_limits st) (refused 17 line) (going st)
 
-module _ (text : List ℕ) (units : List NamedUnit) (flags : ℕ) where
+module _ (cx : Context) where
   -- 12 `end`, `text`, component in none
   unfoldable pub on_inside : Inside → Open → State → Step
   on_inside e no_block st = stop 12
-  on_inside e (step_open is) st = in_step_block units flags e is st
+  on_inside e (step_open is) st = in_step_block cx e is st
   on_inside e (text_open ts) st = in_text_block e ts st
-  on_inside e (text_mode_open ts) st = in_text_mode text e ts st
+  on_inside e (text_mode_open ts) st = in_text_mode cx.text e ts st
 
   unfoldable pub on_between : Between → State → State
-  on_between (meta_event k v) st = on_metadata flags k v st
+  on_between (meta_event k v) st = on_metadata cx.flags k v st
   on_between (section_event n) st = on_section n st
   on_between (start_event k) st = set_block (opened st.modes.define k) st
 
@@ -224,6 +226,5 @@ finish (going st) = pick (is_open st.place.block) (refusal 19 0) (unless_over (e
 finish (failed fs) = no_recipe fs
 finish (refused n l) = refusal n l
 
-module _ (text : List ℕ) (units : List NamedUnit) (flags : ℕ) where
-  unfoldable pub parse_events : List Event → Outcome
-  parse_events es = finish (walk text units flags 1 (going first_state) es)
+unfoldable pub parse_events : Context → List Event → Outcome
+parse_events cx es = finish (walk cx 1 (going first_state) es)

@@ -4,7 +4,7 @@ use Rattle.rules.specs.Basic.{pick}
 use Rattle.rules.specs.Words.{step_kind, text_kind}
 use Rattle.rules.specs.Event.{Component, Intermediate, Event, Between, meta_event, section_event, start_event, Inside, end_event, text_event, component_event, ComponentEvent, ingredient_event, cookware_event, timer_event, between, inside, parser_event, component_span}
 use Rattle.rules.specs.Write.{write_line}
-use Rattle.rules.specs.Units.{NamedUnit}
+use Rattle.rules.specs.Input.{Context}
 use Rattle.rules.specs.Model.{ingredient, cookware, Entry, with_ref}
 use Rattle.rules.specs.Modes.{is_components, is_text, has_modes, Key, config, unknown_config, ordinary, key_of, key_text}
 use Rattle.rules.specs.Reference.{Earlier, same_name_of}
@@ -53,12 +53,12 @@ implicit_fault new table (Some d) = pick (is_last d (same_name_of true new table
 unfoldable pub unless_listed : State → Event → List Event
 unless_listed st e = pick (is_components st.modes.define) [] (e ∷ [])
 
-module _ (units : List NamedUnit) (flags : ℕ) where
+module _ (cx : Context) where
   unfoldable pub implicit_ingredient : State → Component → Option Intermediate → Option Earlier
-  implicit_ingredient st c i = implicit_of c (make_ingredient units flags c i st).refers_to
+  implicit_ingredient st c i = implicit_of c (make_ingredient cx c i st).refers_to
 
   unfoldable pub implicit_cookware : State → Component → Option Earlier
-  implicit_cookware st c = implicit_of c (make_cookware units flags c st).refers_to
+  implicit_cookware st c = implicit_of c (make_cookware cx.units cx.flags c st).refers_to
 
   unfoldable pub marked_component : State → ComponentEvent → ComponentEvent
   marked_component st (ingredient_event c i) = ingredient_event (marked_if c (implicit_ingredient st c i)) i
@@ -113,16 +113,16 @@ module _ (text : List ℕ) where
   in_plain_text (text_event t) = text_event t
   in_plain_text (component_event c) = text_event (record { span = component_span c; content = source_text text (component_span c) })
 
-module _ (text : List ℕ) (units : List NamedUnit) (flags : ℕ) where
+module _ (cx : Context) where
   unfoldable pub plain_inside : State → Inside → Open → List Event
   plain_inside st i no_block = inside i ∷ []
-  plain_inside st i (step_open is) = unless_listed st (inside (in_plain_step units flags st i))
+  plain_inside st i (step_open is) = unless_listed st (inside (in_plain_step cx st i))
   plain_inside st i (text_open ts) = inside i ∷ []
-  plain_inside st i (text_mode_open ts) = inside (in_plain_text text i) ∷ []
+  plain_inside st i (text_mode_open ts) = inside (in_plain_text cx.text i) ∷ []
 
   -- "(their `warning` lines kept)"
   unfoldable pub plain_event : State → Event → List Event
-  plain_event st (between b) = plain_between flags st b
+  plain_event st (between b) = plain_between cx.flags st b
   plain_event st (inside i) = plain_inside st i st.place.block
   plain_event st (parser_event s n) = parser_event s n ∷ []
 
@@ -132,7 +132,7 @@ module _ (text : List ℕ) (units : List NamedUnit) (flags : ℕ) where
 
   unfoldable pub trace_from : ℕ → Walk → List Event → List Traced
   trace_from line w [] = []
-  trace_from line w (e ∷ es) = traced line e w ++ trace_from (suc line) (step text units flags line e w) es
+  trace_from line w (e ∷ es) = traced line e w ++ trace_from (suc line) (step cx line e w) es
 
 -- the bytes of some events' lines
 unfoldable pub sheet_of : List Event → List ℕ

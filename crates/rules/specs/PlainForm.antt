@@ -1,20 +1,16 @@
--- Demand 3 as one statement about a whole sheet: `PlainForm sheet text units flags`, which proofs/PlainForm.antt proves for any
+-- Demand 3 as one statement about a whole sheet: `PlainForm i`, which proofs/PlainForm.antt proves for any
 -- bytes and any flags. It speaks in the words of Demand.antt, line by line, not in the plain form's own tests.
 use Rattle.std.specs.Prelude.{ℕ, suc, ◌≡◌, List, [], ◌∷◌, ◌++◌, reverse, true, false, length, None, Some}
 use Rattle.rules.specs.Basic.{pick}
 use Rattle.rules.specs.Event.{Event, between, inside, parser_event}
-use Rattle.rules.specs.Units.{read_units}
+use Rattle.rules.specs.Input.{Input, with_sheet, context_of}
 use Rattle.rules.specs.Modes.{is_components}
 use Rattle.rules.specs.State.{State, first_state, going, Outcome, recipe, refusal}
 use Rattle.rules.specs.Pass.{is_error_event}
 use Rattle.rules.specs.Page.{recipe_part}
 use Rattle.rules.specs.Plain.{plain_events, trace_from, sheet_of}
-use Rattle.rules.specs.Answer.{Answer, answered, declined, read_sheet, collection, Lent, enough, is_short, hand_out, events_or, units_or, plain_answer}
+use Rattle.rules.specs.Answer.{Answer, answered, declined, events_of, collection, Lent, enough, is_short, hand_out, plain_answer}
 use Rattle.rules.specs.Demand.{is_accepted, yields_recipe, is_within_limits, is_component_line, is_heeded, define_at, Unmarked, implicit_at, last_of_name}
-
--- the events of a sheet
-abbrev pub events_of : List ℕ → List ℕ → List Event
-events_of text sheet = events_or (read_sheet text sheet)
 
 -- "for every line": the line, and the lines before it, newest first
 abbrev pub EveryLine : (List Event → Event → Type 0) → List Event → Type 0
@@ -48,15 +44,12 @@ module _ (flags : ℕ) (earlier : List Event) (e : Event) where
 -- ---- the form
 
 -- the bytes of the form that the rules make of a sheet, whether it is handed out or not
-abbrev pub form_bytes : List ℕ → List ℕ → List ℕ → ℕ → List ℕ
-form_bytes sheet text units flags =
-    sheet_of
-    (plain_events text (units_or (read_units units)) flags
-    (trace_from text (units_or (read_units units)) flags 1 (going first_state) (events_of text sheet)))
+abbrev pub form_bytes : Input → List ℕ
+form_bytes i = sheet_of (plain_events (context_of i) (trace_from (context_of i) 1 (going first_state) (events_of i)))
 
 -- what `plain_form` answers with memory enough
-abbrev pub plain_form : List ℕ → List ℕ → List ℕ → ℕ → Answer
-plain_form sheet text units flags = plain_answer sheet text units flags enough
+abbrev pub plain_form : Input → Answer
+plain_form i = plain_answer i enough
 
 -- what it answers with other memory (proofs/Lending.antt): "Where the form would be handed out but too little room is lent, 1 or 20
 -- answers in its place."
@@ -85,46 +78,46 @@ pub record SamePage (one other : Outcome) : Type 0 where
 
 -- ---- demand 3
 
-module _ (sheet text units : List ℕ) (flags : ℕ) where
+module _ (i : Input) where
   -- when a form is handed out, and which
   pub record Demanded (form : List ℕ) : Type 0 where
-    pub accepted : is_accepted (collection sheet text units flags) ≡ true
-    pub yields : yields_recipe (events_of text sheet) ≡ true
-    pub clear : EveryLine (IsClear flags) (events_of text sheet)
-    pub made : form ≡ form_bytes sheet text units flags
-    pub fits : is_within_limits form text units flags ≡ true
+    pub accepted : is_accepted (collection i) ≡ true
+    pub yields : yields_recipe (events_of i) ≡ true
+    pub clear : EveryLine (IsClear i.flags) (events_of i)
+    pub made : form ≡ form_bytes i
+    pub fits : is_within_limits form i ≡ true
 
   -- why none is handed out: the number and the line
   pub data Declined : ℕ → ℕ → Type 0 where
     -- 1 to 19: as the collection
-    as_collected : {n l : ℕ} → collection sheet text units flags ≡ refusal n l → Declined n l
+    as_collected : {n l : ℕ} → collection i ≡ refusal n l → Declined n l
     -- 21: at the first `error` line
-    with_error : is_accepted (collection sheet text units flags) ≡ true
-        → (before after : List Event) (e : Event) → events_of text sheet ≡ before ++ (e ∷ after)
+    with_error : is_accepted (collection i) ≡ true
+        → (before after : List Event) (e : Event) → events_of i ≡ before ++ (e ∷ after)
         → yields_recipe before ≡ true → is_error_event e ≡ true → Declined 21 (suc (length before))
     -- 22 and 23: at the first line that has one
-    at_line : {n : ℕ} → is_accepted (collection sheet text units flags) ≡ true → yields_recipe (events_of text sheet) ≡ true
-        → (before after : List Event) (e : Event) → events_of text sheet ≡ before ++ (e ∷ after)
-        → EveryLine (IsClear flags) before → Faulty flags (reverse before) e n → Declined n (suc (length before))
+    at_line : {n : ℕ} → is_accepted (collection i) ≡ true → yields_recipe (events_of i) ≡ true
+        → (before after : List Event) (e : Event) → events_of i ≡ before ++ (e ∷ after)
+        → EveryLine (IsClear i.flags) before → Faulty i.flags (reverse before) e n → Declined n (suc (length before))
     -- 24
-    over_limit : is_accepted (collection sheet text units flags) ≡ true → yields_recipe (events_of text sheet) ≡ true
-        → EveryLine (IsClear flags) (events_of text sheet)
-        → is_within_limits (form_bytes sheet text units flags) text units flags ≡ false → Declined 24 0
+    over_limit : is_accepted (collection i) ≡ true → yields_recipe (events_of i) ≡ true
+        → EveryLine (IsClear i.flags) (events_of i)
+        → is_within_limits (form_bytes i) i ≡ false → Declined 24 0
 
   -- `form` is handed out
   abbrev pub HandedOut : List ℕ → Type 0
-  HandedOut form = plain_form sheet text units flags ≡ answered form
+  HandedOut form = plain_form i ≡ answered form
 
   pub record PlainForm : Type 0 where
     -- 1. a form is handed out exactly when the demand says so
     pub exactly : (form : List ℕ) → Iff (HandedOut form) (Demanded form)
     -- 2. every other sheet is declined by the number and the line of the table
-    pub otherwise : (n l : ℕ) → Iff (plain_form sheet text units flags ≡ declined n l) (Declined n l)
+    pub otherwise : (n l : ℕ) → Iff (plain_form i ≡ declined n l) (Declined n l)
     -- 3. the form has no mode line that the flags heed, and every reference in it is explicit
-    pub plain : (form : List ℕ) → HandedOut form → EveryLine (IsPlain flags) (events_of text form)
+    pub plain : (form : List ℕ) → HandedOut form → EveryLine (IsPlain i.flags) (events_of (with_sheet form i))
     -- 4. with the same text, units and flags it is accepted
-    pub accepted : (form : List ℕ) → HandedOut form → is_accepted (collection form text units flags) ≡ true
+    pub accepted : (form : List ℕ) → HandedOut form → is_accepted (collection (with_sheet form i)) ≡ true
     -- 5. its recipe page is the sheet's in all bytes above the findings
-    pub same : (form : List ℕ) → HandedOut form → SamePage (collection form text units flags) (collection sheet text units flags)
+    pub same : (form : List ℕ) → HandedOut form → SamePage (collection (with_sheet form i)) (collection i)
     -- 6. its own plain form is itself
-    pub own : (form : List ℕ) → HandedOut form → plain_form form text units flags ≡ answered form
+    pub own : (form : List ℕ) → HandedOut form → plain_form (with_sheet form i) ≡ answered form

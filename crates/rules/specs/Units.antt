@@ -59,6 +59,11 @@ at_most1024 (Some us) = pick (leb (length us) 1024) (Some us) None
 unfoldable pub read_units : List ℕ → Option (List NamedUnit)
 read_units bytes = at_most1024 (units_of (lines bytes))
 
+-- the units that a list names; none where it is ill-formed
+unfoldable pub units_or : Option (List NamedUnit) → List NamedUnit
+units_or None = []
+units_or (Some us) = us
+
 -- `find_unit`: "an exact byte match in the lent unit list"
 module _ (name : List ℕ) where
   unfoldable pub find_unit : List NamedUnit → Option PhysicalQuantity

@@ -5,8 +5,8 @@
 ghost use Rattle.std.specs.Prelude.{◌≡◌, true, [], ◌∷◌, ◌++◌, ◌+◌, ◌^◌, ◌<◌, length, None};
 ghost use Rattle.rules.specs.Basic.{codes, tab, lf, decimal, on_some};
 ghost use Rattle.rules.specs.Sheet.{line_of};
-ghost use Rattle.rules.specs.Units.{read_units};
-ghost use Rattle.rules.specs.Answer.{units_or, is_good_span};
+ghost use Rattle.rules.specs.Units.{read_units, units_or};
+ghost use Rattle.rules.specs.Answer.{is_good_span};
 ghost use Rattle.rules.specs.Inline.{inline_pieces};
 ghost use Rattle.rules.specs.Model.{text_item, trimmed_text};
 ghost use Rattle.rules.specs.Components.{timer_of};

@@ -2,8 +2,7 @@
 #![tactic(auto)]
 
 ghost use Rattle.std.specs.Prelude.{◌≡◌, ◌+◌, ◌≤◌, ◌<◌, length};
-ghost use Rattle.rules.specs.Units.{read_units};
-ghost use Rattle.rules.specs.Answer.{units_or};
+ghost use Rattle.rules.specs.Units.{read_units, units_or};
 ghost use Rattle.content.specs.Parts.{Field};
 ghost use Rattle.parts.specs.Views.{part_of, TextWithin};
 ghost use Rattle.model.specs.Small.{with_inline};

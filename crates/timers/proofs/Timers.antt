@@ -12,8 +12,7 @@ use Rattle.rules.specs.Basic.{pick, when, is_some}
 use Rattle.rules.proofs.Basics.{no_some, some_inj}
 use Rattle.rules.specs.Event as rules
 use Rattle.rules.specs.Finding.{Finding, found}
-use Rattle.rules.specs.Units.{NamedUnit, PhysicalQuantity, time, same_physical, find_unit, read_units}
-use Rattle.rules.specs.Answer.{units_or}
+use Rattle.rules.specs.Units.{NamedUnit, PhysicalQuantity, time, same_physical, find_unit, read_units, units_or}
 use Rattle.rules.specs.Modes.{has_advanced_units}
 use Rattle.rules.specs.Model.{Timer, Item, timer_item, is_textual, trimmed_text}
 use Rattle.rules.specs.State.{State, set_block, set_place, set_kept, set_tables, set_timers, report}

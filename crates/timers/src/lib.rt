@@ -3,8 +3,7 @@
 
 ghost use Rattle.std.specs.Prelude.{◌≡◌, ◌+◌, ◌<◌};
 ghost use Rattle.rules.specs.Basic.{when, on_some};
-ghost use Rattle.rules.specs.Units.{read_units};
-ghost use Rattle.rules.specs.Answer.{units_or};
+ghost use Rattle.rules.specs.Units.{read_units, units_or};
 ghost use Rattle.rules.specs.Finding.{found};
 ghost use Rattle.rules.specs.Model.{is_textual};
 ghost use Rattle.sheet.specs.Words.{kind_in};

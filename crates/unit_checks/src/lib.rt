@@ -5,8 +5,7 @@
 mod kept;
 
 ghost use Rattle.std.specs.Prelude.{◌≡◌, true, ◌+◌, ◌-◌, ◌<◌, ◌≤◌, None, Some};
-ghost use Rattle.rules.specs.Units.{read_units};
-ghost use Rattle.rules.specs.Answer.{units_or};
+ghost use Rattle.rules.specs.Units.{read_units, units_or};
 ghost use Rattle.units.specs.Lists.{units_from};
 ghost use Rattle.compatible.specs.Fitting.{unit_code};
 ghost use Rattle.parts.specs.Views.{OptQuantityWithin};

@@ -13,8 +13,7 @@ use lib.Seq.{get_or-set_same, get_or-set_other, length-take-le}
 use Rattle.rules.specs.Basic.{pick, is_some}
 use Rattle.rules.specs.Utf8.{chars, encode}
 use Rattle.rules.specs.Sheet.{lines}
-use Rattle.rules.specs.Units.{NamedUnit, units_of, at_most1024, read_units}
-use Rattle.rules.specs.Answer.{units_or}
+use Rattle.rules.specs.Units.{NamedUnit, units_of, at_most1024, read_units, units_or}
 use Rattle.rules.proofs.Basics.{pick_either, by_order, no_truth}
 use Rattle.rules.proofs.Encodes.{encode_chars}
 use Rattle.refusals.specs.declared.Reason.TheVariants as reason
@@ -23,7 +22,8 @@ use Rattle.units.specs.declared.UnitAt.{UnitAt}
 use Rattle.units.specs.Quantities.{physical_in}
 use Rattle.units.specs.Lists.{units_from, part, named_as, UnitTurn}
 use Rattle.units.proofs.Walks.{list_starts, units_start}
-use Rattle.unit_index.specs.Index.{head, start, next, longest, bucket, names, Placed, Filled, Cleared, LongestKept, LinePushed, Named, LineAdded, AllAdded, units_refused, UnitsIndexed}
+use Rattle.rules.specs.Answer.{number_if, units_refused}
+use Rattle.unit_index.specs.Index.{head, start, next, longest, bucket, names, Placed, Filled, Cleared, LongestKept, LinePushed, Named, LineAdded, AllAdded, UnitsIndexed}
 use Rattle.unit_index.proofs.Names.{first_name, first_rest, all_once, one_twice}
 use Rattle.unit_index.proofs.Searches.{bucket_small}
 
@@ -249,7 +249,7 @@ module _ (units : List ℕ) {b : Bool} (q : b ≡ is_some (read_units units)) wh
       where
         go : (o : Option (List NamedUnit)) → is_some o ≡ true → units_from units 0 ≡ units_or o → pick t (Some 6) None ≡ units_refused o
         go None e i = unfold is_some in no_truth e
-        go (Some us) e i = unfold units_refused units_or in rw (a.told, i)
+        go (Some us) e i = unfold units_refused number_if units_or in rw (a.told, i)
 
     pub units_twice : t ≡ true → UnitsIndexed units index (Err reason.UnitTwice)
     units_twice e = record { long = a.long; is = rw (← read_all, e); indexed = λ o. absurd (cc) }

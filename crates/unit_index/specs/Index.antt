@@ -1,8 +1,9 @@
 -- The index of a unit list in words: what the chains of its lines are.
-use Rattle.std.specs.Prelude.{ℕ, zero, suc, ◌+◌, ◌*◌, ◌/◌, ◌%◌, ◌≤◌, ◌<◌, ◌≡◌, Bool, true, false, List, [], ◌∷◌, ltb, length, get_or, set, drop, Option, None, Some, Result, Ok}
+use Rattle.std.specs.Prelude.{ℕ, zero, suc, ◌+◌, ◌*◌, ◌/◌, ◌%◌, ◌≤◌, ◌<◌, ◌≡◌, Bool, true, false, List, [], ◌∷◌, ltb, length, get_or, set, drop, None, Result, Ok}
 use Rattle.rules.specs.Basic.{pick, is_some}
 use Rattle.rules.specs.Utf8.{is_utf8, chars, encode}
 use Rattle.rules.specs.Units.{NamedUnit, read_units, name_twice}
+use Rattle.rules.specs.Answer.{units_refused}
 use Rattle.refusals.specs.declared.Reason.{Reason}
 use Rattle.refusals.specs.Told.{number_told}
 use Rattle.content.specs.Contents.{content_in}
@@ -113,11 +114,6 @@ pub record AllAdded (units index : List ℕ) (r : Bool) : Type 0 where
   pub long : length index ≡ 2305
   pub told : r ≡ name_twice (units_from units 0)
   pub filled : r ≡ false → Filled units index (length (units_from units 0))
-
--- "5 unit line ill-formed or a 1,025th; 6 unit name twice"
-unfoldable pub units_refused : Option (List NamedUnit) → Option ℕ
-units_refused None = Some 5
-units_refused (Some us) = pick (name_twice us) (Some 6) None
 
 pub record UnitsIndexed (units index : List ℕ) (r : Result (Unit {0}) Reason) : Type 0 where
   pub long : length index ≡ 2305

@@ -11,8 +11,7 @@ use lib.ListN.{length, drop, length-drop, drop_of_length-le}
 use lib.Seq.{length-take-le}
 use Rattle.rules.specs.Basic.{pick, eq_list, is_empty, is_some}
 use Rattle.rules.specs.Sheet.{last, more, lines}
-use Rattle.rules.specs.Units.{NamedUnit, unit_of, with_unit, units_of, at_most1024, read_units}
-use Rattle.rules.specs.Answer.{units_or}
+use Rattle.rules.specs.Units.{NamedUnit, unit_of, with_unit, units_of, at_most1024, read_units, units_or}
 use Rattle.rules.proofs.Basics.{no_truth}
 use Rattle.sheet.proofs.Tests.{eq_length}
 use Rattle.sheet.specs.Lines.{lines_from, LineAt}

@@ -3,8 +3,7 @@ use Rattle.std.specs.Prelude.{ℕ, ◌-◌, ◌≤◌, ◌<◌, ◌≡◌, Bool,
 use Rattle.rules.specs.Basic.{is_some}
 use Rattle.rules.specs.Utf8.{is_utf8, chars}
 use Rattle.rules.specs.Sheet.{lines}
-use Rattle.rules.specs.Units.{PhysicalQuantity, NamedUnit, units_of}
-use Rattle.rules.specs.Answer.{units_or}
+use Rattle.rules.specs.Units.{PhysicalQuantity, NamedUnit, units_of, units_or}
 use Rattle.units.specs.declared.UnitAt.{UnitAt}
 use Rattle.units.specs.Quantities.{physical_in}
 

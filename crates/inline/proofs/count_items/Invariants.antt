@@ -1,7 +1,6 @@
 use Prim.Native.Nat.{◌-◌}
 use lib.ListN.{length}
-use Rattle.rules.specs.Units.{read_units}
-use Rattle.rules.specs.Answer.{units_or}
+use Rattle.rules.specs.Units.{read_units, units_or}
 use Rattle.inline.proofs.Items.{Counting}
 use Rattle.inline.proofs.count_items.Given as goal
 

@@ -5,4 +5,4 @@ pub put_old-requires : goal.put_old-requires
 put_old-requires c = draw_given c.requires
 
 pub returns : goal.returns
-returns c = findings_put c.requires c.finding_lines-a.ensures c.put_old.ensures
+returns c = findings_put c.finding_lines-a.ensures c.put_old.ensures

@@ -16,4 +16,4 @@ put_drawn-requires c = draw_given c.requires
 
 pub returns : goal.returns
 unfolding entry_line
-returns c = tables_put c.requires c.component_lines-a.ensures c.component_lines-b.ensures c.put_drawn-c.ensures c.put_drawn.ensures
+returns c = tables_put c.component_lines-a.ensures c.component_lines-b.ensures c.put_drawn-c.ensures c.put_drawn.ensures

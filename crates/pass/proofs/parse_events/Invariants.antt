@@ -1,6 +1,4 @@
 use Rattle.unit_checks.specs.Codes.{CodesKept}
-use Rattle.rules.specs.Answer.{units_or}
-use Rattle.rules.specs.Units.{read_units}
 use mathlib.Core.Path.{◌≡◌}
 use lib.ListN.{length}
 use Prim.Native.Nat.{◌-◌}
@@ -8,7 +6,7 @@ use Rattle.pass.proofs.Loops.{Passing}
 use Rattle.pass.proofs.parse_events.Given as goal
 
 abbrev pub invariant-loop-at : goal.invariant-loop-at
-invariant-loop-at l = Passing (units_or (read_units l.units.lines.now)) l.flags l.sheet.bytes.now l.sheet.text.now l.memory.words.now l.memory.held l.at l.number × CodesKept l.units.lines.now l.sheet.bytes.now l.codes × (l.memory.words.ghost_name ≡ l.initial.memory.words.ghost_name)
+invariant-loop-at l = Passing l.units.lines.now l.flags l.sheet.bytes.now l.sheet.text.now l.memory.words.now l.memory.held l.at l.number × CodesKept l.units.lines.now l.sheet.bytes.now l.codes × (l.memory.words.ghost_name ≡ l.initial.memory.words.ghost_name)
 
 abbrev pub decreases-loop-at : goal.decreases-loop-at
 decreases-loop-at l = length l.sheet.bytes.now - l.at

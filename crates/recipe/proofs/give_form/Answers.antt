@@ -1,11 +1,12 @@
 use mathlib.Core.Path.{refl}
 use Rattle.std.proofs.result.Match.{err_is}
+use Rattle.inputs.proofs.Answers.{good_read}
 use Rattle.pass.proofs.Given.{run_ready}
 use Rattle.recipe.proofs.Forms.{form_over, form_out}
 use Rattle.recipe.proofs.give_form.Goals as goal
 
 pub invariant_of-read : goal.invariant_of-read
-invariant_of-read c = record { read = c.requires.sheet_read }
+invariant_of-read c = record { read = good_read c.requires }
 
 pub run-requires : goal.run-requires
 run-requires c = run_ready c.requires

@@ -1,7 +1,6 @@
 use Prim.Native.Nat.{◌-◌}
 use lib.ListN.{length}
-use Rattle.rules.specs.Units.{read_units}
-use Rattle.rules.specs.Answer.{units_or}
+use Rattle.rules.specs.Units.{read_units, units_or}
 use Rattle.step_lines.specs.Lines.{item_text}
 use Rattle.step_lines.proofs.Splits.{Splitting}
 use Rattle.step_lines.proofs.split_items.Given as goal

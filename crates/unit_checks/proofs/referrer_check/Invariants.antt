@@ -1,7 +1,6 @@
 use lib.ListN.{length}
 use mathlib.Core.Path.{◌≡◌}
-use Rattle.rules.specs.Answer.{units_or}
-use Rattle.rules.specs.Units.{read_units}
+use Rattle.rules.specs.Units.{read_units, units_or}
 use Rattle.rules.specs.Model.{ingredient}
 use Rattle.model.specs.Memory.{referrers_left}
 use Rattle.unit_checks.specs.Codes.{CodesKept}
