@@ -9,6 +9,9 @@ import sys
 import tempfile
 
 HERE = os.path.dirname(os.path.dirname(os.path.abspath(__file__)))
+sys.path.insert(0, os.path.join(HERE, "tools"))
+import replay
+
 TEXT = "Mix @wheat flour{250%g}(sieved) with @&water{150%ml} in a #large bowl{}, knead for ~rest{10%minutes}. ".encode() * 600
 STEP = [
     "start\tstep", "text\t0\t4\tMix ",
@@ -26,20 +29,21 @@ def sheet(size):
     return step * (size // len(step)) + b"x\n"
 
 
-def count(replay, work, bytes_):
-    parts = [b"x", bytes_, TEXT[:60000], b"g\tmass\nml\tvolume\nminutes\ttime\n", b"7", b"x", b"x"]
+def count(program, work, bytes_):
+    units = b"g\tmass\nml\tvolume\nminutes\ttime\n"
+    parts = {"sheet": bytes_, "text": TEXT[:60000], "units": units, "flags": b"7", "collect": b"x", "plain": b"x"}
     with open(os.path.join(work, "generated.txt"), "wb") as f:
-        f.write(b"case 0 " + b" ".join(str(len(p)).encode() for p in parts) + b"\n" + b"".join(parts) + b"\n")
-    run = subprocess.run(["valgrind", "--tool=callgrind", "--callgrind-out-file=/dev/null", replay], cwd=work, capture_output=True, text=True)
+        f.write(replay.written(b"x", 0, parts))
+    run = subprocess.run(["valgrind", "--tool=callgrind", "--callgrind-out-file=/dev/null", program], cwd=work, capture_output=True, text=True)
     assert "refused 8: 1\n" in run.stdout, run.stdout
     return int(re.search(r"Collected : (\d+)", run.stderr).group(1))
 
 
 def main():
-    replay = os.environ.get("REPLAY")
-    if not replay:
+    program = os.environ.get("REPLAY")
+    if not program:
         subprocess.run([sys.executable, os.path.join(HERE, "tools", "build.py"), "replay"], check=True)
-        replay = os.path.join(HERE, "target", "bin", "replay")
+        program = os.path.join(HERE, "target", "bin", "replay")
     with tempfile.TemporaryDirectory() as work:
         for name in ("paper.txt", "decisions.txt", "limits.txt"):
             open(os.path.join(work, name), "wb").close()
@@ -47,7 +51,7 @@ def main():
         print("| bytes of the sheet | instructions a byte beyond the row before |\n|---|---|")
         for size in (8192, 16384, 32768, 65536):
             bytes_ = sheet(size)
-            n = count(replay, work, bytes_)
+            n = count(program, work, bytes_)
             if before:
                 print("| %d | %.1f |" % (len(bytes_), (n - before[1]) / (len(bytes_) - before[0]) / 2))
             before = (len(bytes_), n)

@@ -7,37 +7,38 @@ import subprocess
 import sys
 import tempfile
 
+import replay
+
 HERE = os.path.dirname(os.path.dirname(os.path.abspath(__file__)))
-FILES = ("paper.txt", "decisions.txt", "generated.txt", "limits.txt")
 EACH = 1800
 
 
 def programs():
-    harness, replay = os.environ.get("HARNESS"), os.environ.get("REPLAY")
+    harness, program = os.environ.get("HARNESS"), os.environ.get("REPLAY")
     if not harness:
         folder = os.path.join(HERE, "harness")
         subprocess.run(["cargo", "build", "-q", "--release", "--offline"], cwd=folder, check=True)
         harness = os.path.join(folder, "target", "release", "harness")
-    if not replay:
+    if not program:
         subprocess.run([sys.executable, os.path.join(HERE, "tools", "build.py"), "replay"], check=True)
-        replay = os.path.join(HERE, "target", "bin", "replay")
-    return harness, replay
+        program = os.path.join(HERE, "target", "bin", "replay")
+    return harness, program
 
 
 def main():
     count, seed = int(sys.argv[1]), int(sys.argv[2])
-    harness, replay = programs()
+    harness, program = programs()
     totals, damaged = {}, 0
     with tempfile.TemporaryDirectory() as work:
-        for name in FILES:
-            open(os.path.join(work, name), "wb").close()
+        for name in replay.FILES:
+            open(os.path.join(work, name + ".txt"), "wb").close()
         while count > 0:
             n = min(count, EACH)
             cases = subprocess.run([harness, "sample", str(n), str(seed)], check=True, capture_output=True).stdout
-            damaged += cases.count(b"\ndamaged ")
+            damaged += sum(name.startswith(b"damaged ") for name, *_ in replay.read(cases))
             with open(os.path.join(work, "generated.txt"), "wb") as f:
                 f.write(cases)
-            out = subprocess.run([replay], cwd=work, check=True, capture_output=True, text=True).stdout
+            out = subprocess.run([program], cwd=work, check=True, capture_output=True, text=True).stdout
             for line in out.splitlines():
                 key, value = line.rsplit(" ", 1)
                 totals[key] = totals.get(key, 0) + int(value)

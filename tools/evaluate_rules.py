@@ -17,37 +17,27 @@ import subprocess
 import sys
 import time
 
+import replay
+
 HERE = os.path.dirname(os.path.dirname(os.path.abspath(__file__)))
 ANSWERS = os.path.join(HERE, "crates", "replay", "data")
-FILES = ["paper.txt", "decisions.txt", "generated.txt", "limits.txt"]
+FILES = [name + ".txt" for name in replay.FILES]
+PARTS = ("sheet", "text", "units", "flags", "collect", "plain")
 WORK = os.path.join(HERE, "target", "evaluate")
 
 
 class Case:
-    def __init__(self, file, room, parts):
+    def __init__(self, file, name, room, parts):
         self.file, self.room = file, room
-        self.name = parts[0].decode()
-        self.sheet, self.text, self.units, self.flags, self.collect, self.plain = parts[1:]
-        self.size = sum(len(p) for p in parts[1:])
+        self.name = name.decode()
+        data = [parts[part] for part in PARTS]
+        self.sheet, self.text, self.units, self.flags, self.collect, self.plain = data
+        self.size = sum(len(p) for p in data)
 
 
 def read_cases(file):
     data = open(os.path.join(ANSWERS, file), "rb").read()
-    out, at = [], 0
-    while at < len(data):
-        end = data.index(b"\n", at)
-        words = data[at:end].split(b" ")
-        assert words[0] == b"case"
-        room, *lengths = map(int, words[1:])
-        at = end + 1
-        parts = []
-        for n in lengths:
-            parts.append(data[at:at + n])
-            at += n
-        assert data[at:at + 1] == b"\n"
-        at += 1
-        out.append(Case(file, room, parts))
-    return out
+    return [Case(file, *case) for case in replay.read(data)]
 
 
 def literal(data):

@@ -21,19 +21,14 @@ def is_chosen(file, name, answer):
     return file == "limits" and name in LIMITS
 
 
-def written(room, parts):
-    return b"case %d %s\n" % (room, b" ".join(b"%d" % len(p) for p in parts)) + b"".join(parts) + b"\n"
-
-
 def counts(lines):
     words = {b"ingredients": (b"ingredient",), b"cookware": (b"cookware",), b"timers": (b"timer",), b"inline": (b"inline",),
              b"sections": (b"section",), b"blocks": (b"step", b"text"), b"items": (b"item",), b"findings": (b"diag", b"parse")}
     return b", ".join(b"%s %d" % (what, sum(line[0] in of for line in lines)) for what, of in words.items())
 
 
-def shown(parts):
+def shown(name, answer):
     """what the program prints of a case"""
-    name, answer = parts[0], parts[5]
     if replay.refusal(answer):
         return [name, answer[:-1]]
     lines = [line.split(b"\t") for line in answer[:-1].split(b"\n")]
@@ -44,9 +39,9 @@ def shown(parts):
 
 
 def main():
-    chosen = [(room, parts) for file, room, parts in replay.cases() if is_chosen(file, parts[0], parts[5])]
-    cases = b"".join(written(room, parts) for room, parts in chosen)
-    stdout = b"".join(line + b"\n" for _, parts in chosen for line in shown(parts))
+    chosen = [case for file, *case in replay.cases() if is_chosen(file, case[0], case[2]["collect"])]
+    cases = b"".join(replay.written(*case) for case in chosen)
+    stdout = b"".join(line + b"\n" for name, _, parts in chosen for line in shown(name, parts["collect"]))
     for path, new in ((os.path.join(CRATE, "data", "cases.txt"), cases), (os.path.join(CRATE, "stdout"), stdout)):
         if sys.argv[1:] != ["--check"]:
             with open(path, "wb") as f:

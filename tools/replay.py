@@ -6,23 +6,43 @@ import sys
 
 HERE = os.path.dirname(os.path.dirname(os.path.abspath(__file__)))
 CRATE = os.path.join(HERE, "crates", "replay")
+FILES = ("paper", "decisions", "generated", "limits")
+
+
+def read(data):
+    """for each case its name, its lent room and its parts by their names; the format is that of crates/replay/data/README.md"""
+    at = 0
+
+    def line(word):
+        nonlocal at
+        start, at = at, data.index(b"\n", at) + 1
+        first, *rest = data[start:at - 1].split(b" ", 2)
+        assert first == word and len(rest) == 2, data[start:at]
+        return rest
+
+    while at < len(data):
+        room, name = line(b"case")
+        parts = {}
+        while data.startswith(b"part ", at):
+            part, length = line(b"part")
+            end = at + int(length)
+            assert data[end:end + 1] == b"\n", data[at - 50:at]
+            parts.setdefault(part.decode(), data[at:end])
+            at = end + 1
+        yield name, int(room), parts
+
+
+def written(name, room, parts):
+    """a case in this format"""
+    out = b"case %d %s\n" % (room, name)
+    return out + b"".join(b"part %s %d\n%s\n" % (part.encode(), len(data), data) for part, data in parts.items())
 
 
 def cases():
-    """for each case its file, its lent room and its seven parts; the format is that of crates/replay/data/README.md"""
-    for name in ("paper", "decisions", "generated", "limits"):
-        data, at = open(os.path.join(CRATE, "data", name + ".txt"), "rb").read(), 0
-        while at < len(data):
-            end = data.index(b"\n", at)
-            word, room, *lengths = data[at:end].split(b" ")
-            assert word == b"case" and len(lengths) == 7, data[at:end]
-            at, parts = end + 1, []
-            for length in lengths:
-                parts.append(data[at:at + int(length)])
-                at += int(length)
-            assert data[at:at + 1] == b"\n"
-            at += 1
-            yield name, int(room), parts
+    """for each case of the fixed list its file, and what `read` says of it"""
+    for file in FILES:
+        for case in read(open(os.path.join(CRATE, "data", file + ".txt"), "rb").read()):
+            yield file, *case
 
 
 def refusal(answer):
@@ -36,13 +56,15 @@ def counted(answers, words, last):
 
 
 def expected():
-    parts = [parts for _, _, parts in cases()]
-    pages, refused = counted([p[5] for p in parts], "refused", 20)
-    lines = ["cases %d" % len(parts), "pages %d" % pages]
-    lines += ["without recipe %d" % sum(p[5].startswith(b"recipe\tno\n") for p in parts)] + refused + ["different 0"]
-    forms, refused = counted([p[6] for p in parts], "form refused", 24)
-    lines += ["plain forms of cases %d" % len(parts), "forms %d" % forms]
-    lines += ["other than the sheet %d" % sum(not refusal(p[6]) and p[6] != p[1] for p in parts)] + refused
+    """as the program counts: a case is left out of the pages, or of the forms, where none is stored of it"""
+    parts = [parts for *_, parts in cases()]
+    pages, forms = [[p[part] for p in parts if part in p] for part in ("collect", "plain")]
+    given, refused = counted(pages, "refused", 20)
+    lines = ["cases %d" % len(pages), "pages %d" % given]
+    lines += ["without recipe %d" % sum(p.startswith(b"recipe\tno\n") for p in pages)] + refused + ["different 0"]
+    given, refused = counted(forms, "form refused", 24)
+    changed = sum("plain" in p and not refusal(p["plain"]) and p["plain"] != p.get("sheet", b"") for p in parts)
+    lines += ["plain forms of cases %d" % len(forms), "forms %d" % given, "other than the sheet %d" % changed] + refused
     return "\n".join(lines + ["forms different 0"]) + "\n"
 
 

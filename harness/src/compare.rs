@@ -223,10 +223,8 @@ impl Comparison {
         let name = format!("{what}{flags}{}{}", if c.name.is_empty() { "" } else { ": " }, c.name);
         println!("different, room {room}: {name}");
         let case = Case { name, room, ..c.clone() };
-        match catch_unwind(AssertUnwindSafe(|| [case.collect_answer(), case.plain_answer()])) {
-            Ok(answers) => case.write_with(&mut self.counts.kept, &answers),
-            Err(_) => case.write_with(&mut self.counts.kept, &[]),
-        }
+        let answers = catch_unwind(AssertUnwindSafe(|| case.answers())).unwrap_or_default();
+        case.write_with(&mut self.counts.kept, &answers);
     }
 }
 

@@ -78,7 +78,7 @@ fn verify() -> Vec<u8> {
     for file in FILES {
         for (c, stored) in Case::read_all(&std::fs::read(answers().join(file)).unwrap()) {
             cases += 1;
-            if stored != [c.collect_answer(), c.plain_answer()] {
+            if stored != c.answers() {
                 different += 1;
                 println!("different: {file}: {}", c.name);
             }

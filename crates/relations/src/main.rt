@@ -15,7 +15,7 @@ use model::{Held, Kind};
 use reading::ReadSheet;
 use refusals::Refusal;
 use std::io;
-use stored_cases::{Case, part};
+use stored_cases::{Case, bytes_named, part};
 use unit_index::UnitList;
 
 // ---- components
@@ -141,13 +141,14 @@ fn check_and_run(
     }
 }
 
+// A part that is absent has no bytes; the stored answers are not read.
 fn relate(rt: &impl Print, s: &[u8], c: Case, words: &mut [u32]) -> io::Result<()> {
-    rt.write_all(part(s, c.name, c.sheet))?;
+    rt.write_all(part(s, c.name.from, c.name.to))?;
     rt.write_all(b"\n")?;
-    let sheet = part(s, c.sheet, c.text);
-    let text = part(s, c.text, c.units);
-    let units = part(s, c.units, c.flags);
-    let flags = inputs::read_flags(part(s, c.flags, c.collect));
+    let sheet = bytes_named(s, c, b"sheet");
+    let text = bytes_named(s, c, b"text");
+    let units = bytes_named(s, c, b"units");
+    let flags = inputs::read_flags(bytes_named(s, c, b"flags"));
     check_and_run(rt, sheet, text, units, flags, words)
 }
 

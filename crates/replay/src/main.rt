@@ -11,7 +11,7 @@ use answers::Answer;
 use refusals::Refusal;
 use std::io;
 use std::rt::Files;
-use stored_cases::{Case, part, show, starts};
+use stored_cases::{Case, Place, bytes_named, part, part_named, show, starts};
 
 // Places in a list of counts: all pages or forms, refused by 1 to 24, pages without a recipe, forms other than the sheet, all
 // cases, those that differ.
@@ -98,7 +98,7 @@ fn count_answer(plain: bool, r: Answer, sheet: &[u8], out: &[u8], counts: &mut [
     }
 }
 
-// The page of a case, or its plain form.
+// The page of a case, or its plain form. An input that is absent has no bytes.
 fn answer(
     plain: bool,
     s: &[u8],
@@ -107,25 +107,26 @@ fn answer(
     bytes: &mut [u8],
     out: &mut [u8],
 ) -> Answer {
-    let sheet = part(s, c.sheet, c.text);
-    let text = part(s, c.text, c.units);
-    let units = part(s, c.units, c.flags);
-    let flags = inputs::read_flags(part(s, c.flags, c.collect));
+    let sheet = bytes_named(s, c, b"sheet");
+    let text = bytes_named(s, c, b"text");
+    let units = bytes_named(s, c, b"units");
+    let flags = inputs::read_flags(bytes_named(s, c, b"flags"));
     if plain {
         return recipe::plain_form(sheet, text, units, flags, words, bytes, out);
     }
     recipe::collect(sheet, text, units, flags, words, bytes, out)
 }
 
-// What is stored of it.
-fn stored<'a>(plain: bool, s: &'a [u8], c: Case) -> &'a [u8] {
+// Where the page or the form that is stored of it stands.
+fn stored(plain: bool, s: &[u8], c: Case) -> Option<Place> {
     if plain {
-        return part(s, c.plain, c.end);
+        return part_named(s, c, b"plain");
     }
-    part(s, c.collect, c.plain)
+    part_named(s, c, b"collect")
 }
 
-// A case, with as much output as it says; whether all is as it has to be.
+// A case, with as much output as it says; whether all is as it has to be. Where its page or its form is absent, nothing is
+// stored, and it is neither run nor counted.
 fn replay(
     plain: bool,
     s: &[u8],
@@ -135,9 +136,12 @@ fn replay(
     out: &mut [u8],
     counts: &mut [u64; 29],
 ) -> bool {
+    let Some(p) = stored(plain, s, c) else {
+        return true;
+    };
     let r = answer(plain, s, c, words, bytes, out);
-    count_answer(plain, r, part(s, c.sheet, c.text), out, counts);
-    if !is_stored(r, out, stored(plain, s, c)) {
+    count_answer(plain, r, bytes_named(s, c, b"sheet"), out, counts);
+    if !is_stored(r, out, part(s, p.from, p.to)) {
         return false;
     }
     is_cleared(r, words, bytes, out)

@@ -1,3 +1,5 @@
 pub mod Places
 pub mod Numbers
-pub mod Cases
+pub mod Words
+pub mod Parts
+pub mod Named

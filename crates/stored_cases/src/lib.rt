@@ -4,7 +4,7 @@
 
 ghost use Rattle.std.specs.Prelude.{◌≡◌, length, get_or, replicate};
 ghost use Rattle.std.specs.Io.{ReadsAtMost};
-ghost use Rattle.stored_cases.specs.Cases.{part_of, after_of, starts_with, number_at, laid_out, parts_at, case_at};
+ghost use Rattle.stored_cases.specs.Cases.{part_of, after_of, starts_with, past_word, on_line, number_at, part_at, case_at, part_named, bytes_named, next_case};
 
 use std::rt::Files;
 use std::{fs, io};
@@ -16,18 +16,26 @@ struct Number {
     next: usize,
 }
 
-// How many bytes of output are lent, and where the parts of a case start in its file; each ends where the next starts.
+// Bytes of the file, from a place to another.
+#[derive(Clone, Copy)]
+pub struct Place {
+    pub from: usize,
+    pub to: usize,
+}
+
+// A part of a case: its name and its bytes, which end before an LF.
+#[derive(Clone, Copy)]
+struct NamedPart {
+    name: Place,
+    bytes: Place,
+}
+
+// How many bytes of output are lent, the case's name, and where its parts start.
 #[derive(Clone, Copy)]
 pub struct Case {
     pub room: usize,
-    pub name: usize,
-    pub sheet: usize,
-    pub text: usize,
-    pub units: usize,
-    pub flags: usize,
-    pub collect: usize,
-    pub plain: usize,
-    pub end: usize,
+    pub name: Place,
+    pub parts: usize,
 }
 
 // The byte at a place; past the end 0.
@@ -67,13 +75,12 @@ fn read_number(s: &[u8], at: usize, end: u8) -> Option<Number>
 }
 
 // So many bytes on from a place, or the end.
-fn after(s: &[u8], at: usize, n: u32) -> usize
+fn after(s: &[u8], at: usize, n: usize) -> usize
     ensures { result ≡ after_of s.now at n }
 {
-    let k = n as usize;
     if at <= s.len() {
-        if k <= s.len() - at {
-            return at + k;
+        if n <= s.len() - at {
+            return at + n;
         }
     }
     s.len()
@@ -99,75 +106,102 @@ pub fn starts(s: &[u8], word: &[u8]) -> bool
     sheet::same_bytes(part(s, 0, n), word)
 }
 
-// The parts stand after the numbers, one after the other.
-fn laid_out(
-    s: &[u8],
-    room: Number,
-    name: Number,
-    sheet: Number,
-    text: Number,
-    units: Number,
-    flags: Number,
-    collect: Number,
-    plain: Number,
-) -> Case
-    ensures { result ≡ laid_out s.now room name sheet text units flags collect plain }
+// The place after a word, if that stands at a place.
+fn past_word(s: &[u8], at: usize, word: &[u8]) -> Option<usize>
+    ensures { result ≡ past_word s.now at word.now }
 {
-    let a = after(s, plain.next, name.value);
-    let b = after(s, a, sheet.value);
-    let c = after(s, b, text.value);
-    let d = after(s, c, units.value);
-    let e = after(s, d, flags.value);
-    let f = after(s, e, collect.value);
-    let g = after(s, f, plain.value);
-    Case {
-        room: room.value as usize,
-        name: plain.next,
-        sheet: a,
-        text: b,
-        units: c,
-        flags: d,
-        collect: e,
-        plain: f,
-        end: g,
+    if !starts(part(s, at, s.len()), word) {
+        return None;
     }
+    Some(after(s, at, word.len()))
 }
 
-// The case whose eight numbers start at a place.
-fn parts_at(s: &[u8], at: usize) -> Option<Case>
-    ensures { result ≡ parts_at s.now at }
+// Where this byte stands first from a place on; none where the line or the file ends before it.
+fn on_line(s: &[u8], at: usize, end: u8) -> Option<usize>
+    ensures { result ≡ on_line s.now at end }
 {
-    let room = read_number(s, at, b' ')?;
-    let name = read_number(s, room.next, b' ')?;
-    let sheet = read_number(s, name.next, b' ')?;
-    let text = read_number(s, sheet.next, b' ')?;
-    let units = read_number(s, text.next, b' ')?;
-    let flags = read_number(s, units.next, b' ')?;
-    let collect = read_number(s, flags.next, b' ')?;
-    let plain = read_number(s, collect.next, b'\n')?;
-    let c = laid_out(s, room, name, sheet, text, units, flags, collect, plain);
-    Some(c)
+    for i in at..s.len() {
+        let b = s[i];
+        if b == end {
+            return Some(i);
+        }
+        if b == b'\n' {
+            return None;
+        }
+    }
+    None
 }
 
-// The case whose first line starts at a place; an LF ends it, and the next starts after that.
+// The part whose line starts at a place; an LF within the file ends its bytes.
+fn part_at(s: &[u8], at: usize) -> Option<NamedPart>
+    ensures { result ≡ part_at s.now at }
+{
+    let from = past_word(s, at, b"part ")?;
+    let to = on_line(s, from, b' ')?;
+    let size = read_number(s, to + 1, b'\n')?;
+    let end = after(s, size.next, size.value as usize);
+    if byte(s, end) != b'\n' {
+        return None;
+    }
+    Some(NamedPart {
+        name: Place { from, to },
+        bytes: Place {
+            from: size.next,
+            to: end,
+        },
+    })
+}
+
+// The case whose line starts at a place.
 pub fn case_at(s: &[u8], at: usize) -> Option<Case>
     ensures { result ≡ case_at s.now at }
 {
-    if !starts(part(s, at, s.len()), b"case ") {
-        return None;
-    }
-    let c = parts_at(s, after(s, at, 5))?;
-    if byte(s, c.end) != b'\n' {
-        return None;
-    }
-    Some(c)
+    let a = past_word(s, at, b"case ")?;
+    let room = read_number(s, a, b' ')?;
+    let end = on_line(s, room.next, b'\n')?;
+    Some(Case {
+        room: room.value as usize,
+        name: Place {
+            from: room.next,
+            to: end,
+        },
+        parts: end + 1,
+    })
 }
 
-// Where the case after this one starts.
-pub fn next_case(s: &[u8], c: Case) -> usize
-    ensures { result ≡ after_of s.now c.end 1 }
+// Where the bytes of a part stand, by its name: the first one of that name. Other parts are passed over.
+pub fn part_named(s: &[u8], c: Case, name: &[u8]) -> Option<Place>
+    ensures { result ≡ part_named s.now c name.now }
 {
-    after(s, c.end, 1)
+    let mut at = c.parts;
+    while let Some(p) = part_at(s, at) {
+        if sheet::same_bytes(part(s, p.name.from, p.name.to), name) {
+            return Some(p.bytes);
+        }
+        at = p.bytes.to + 1;
+    }
+    None
+}
+
+// The bytes of a part, by its name; none where it is absent.
+pub fn bytes_named<'a>(s: &'a [u8], c: Case, name: &[u8]) -> &'a [u8]
+    ensures { result.now ≡ bytes_named s.now c name.now }
+{
+    match part_named(s, c, name) {
+        Some(p) => part(s, p.from, p.to),
+        None => &s[0..0],
+    }
+}
+
+// Where the case after this one starts: after its last part.
+pub fn next_case(s: &[u8], c: Case) -> usize
+    ensures { result ≡ next_case s.now c }
+{
+    let mut at = c.parts;
+    while let Some(p) = part_at(s, at) {
+        at = p.bytes.to + 1;
+    }
+    at
 }
 
 // Room for the longest file.

@@ -1,14 +1,24 @@
-use Rattle.stored_cases.proofs.Cases.{not_case, no_parts, not_ended, case_is}
+use native.Mathlib.Omega.{arith}
+use mathlib.Core.Path.{sym}
+use Rattle.stored_cases.specs.Cases.{case_at}
+use Rattle.stored_cases.proofs.Words.{on_line_within}
 use Rattle.stored_cases.proofs.case_at.Goals as goal
 
-pub returns-then-not-starts : goal.returns-then-not-starts
-returns-then-not-starts c = not_case _ _ c.part.ensures c.starts.ensures c.if-not-starts.true
+pub returns-in_err-a : goal.returns-in_err-a
+unfolding case_at
+returns-in_err-a c = rw (c.from_residual.ensures, ← c.in_err-a.ensures)
 
-pub returns-in_err-c : goal.returns-in_err-c
-returns-in_err-c c = rw c.from_residual.ensures (no_parts _ _ c.part.ensures c.starts.ensures c.if-not-starts.false c.after.ensures c.in_err-c.ensures)
+pub returns-in_err-room : goal.returns-in_err-room
+unfolding case_at
+returns-in_err-room c = rw (c.from_residual-in_err-room.ensures, ← c.in_ok-a.ensures, ← c.in_err-room.ensures)
 
-pub returns-then-byte-ne10 : goal.returns-then-byte-ne10
-returns-then-byte-ne10 c = not_ended _ _ c.part.ensures c.starts.ensures c.if-not-starts.false c.after.ensures c.in_ok-c.ensures c.byte.ensures c.if-byte-ne10.true
+pub returns-in_err-end : goal.returns-in_err-end
+unfolding case_at
+returns-in_err-end c = rw (c.from_residual-in_err-end.ensures, ← c.in_ok-a.ensures, ← c.in_ok-room.ensures, ← c.in_err-end.ensures)
+
+pub overflow_add-result : goal.overflow_add-result
+overflow_add-result c = let k = on_line_within _ _ _ (sym c.in_ok-end.ensures) in omega (arith, k.1)
 
 pub returns : goal.returns
-returns c = case_is _ _ c.part.ensures c.starts.ensures c.if-not-starts.false c.after.ensures c.in_ok-c.ensures c.byte.ensures c.if-byte-ne10.false
+unfolding case_at
+returns c = rw (← c.in_ok-a.ensures, ← c.in_ok-room.ensures, ← c.in_ok-end.ensures)
