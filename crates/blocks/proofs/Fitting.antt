@@ -14,11 +14,11 @@ use Rattle.model.proofs.Tables.{entries_length}
 use Rattle.memory.proofs.Bounds.{fit_counts}
 use Rattle.blocks.specs.Lined.{Told, ItemsPushed}
 
-ingredients_count : (sheet w : List ℕ) (h : Held) → length (state_in sheet w h).tables.ingredients ≡ h.counts.ingredients
+pub ingredients_count : (sheet w : List ℕ) (h : Held) → length (state_in sheet w h).tables.ingredients ≡ h.counts.ingredients
 unfolding state_in state_of
 ingredients_count sheet w h = entries_length _ _ _ _ h.counts.ingredients
 
-cookware_count : (sheet w : List ℕ) (h : Held) → length (state_in sheet w h).tables.cookware ≡ h.counts.cookware
+pub cookware_count : (sheet w : List ℕ) (h : Held) → length (state_in sheet w h).tables.cookware ≡ h.counts.cookware
 unfolding state_in state_of
 cookware_count sheet w h = entries_length _ _ _ _ h.counts.cookware
 

@@ -36,8 +36,6 @@ use Rattle.model.specs.Rows.{finding_of, block_of}
 use Rattle.model.specs.Memory.{open_of, state_of, state_in, Sound}
 use Rattle.model.specs.Fits.{AllFit}
 use Rattle.model.specs.Small.{with_block, with_items}
-use Rattle.sheet.specs.declared.Define.{Define}
-use Rattle.sheet.specs.declared.Define.TheVariants.{All, Components, Steps, Text}
 use Rattle.model.specs.declared.Open.{Open}
 use Rattle.model.specs.declared.Open.TheVariants.{Nothing, Step as StepBlock, Text as TextBlock, TextMode}
 use Rattle.model.specs.declared.Noted.{Noted}
@@ -46,7 +44,7 @@ use Rattle.model.proofs.Blanks.{blank_report}
 use Rattle.memory.specs.Pushes.{FindingPushed, BlockKept, SectionBegun, is_open_block}
 use Rattle.memory.proofs.Smalls.{state_blank, with_block_lem}
 use Rattle.memory.proofs.Endings.{open_as}
-use Rattle.memory.proofs.Bounds.{sound_block, sound_items, fit_block}
+use Rattle.memory.proofs.Bounds.{sound_block, sound_items, fit_counts}
 use Rattle.refusals.specs.declared.Reason.{Reason}
 use Rattle.refusals.specs.declared.Reason.TheVariants.{OtherEnd, ComponentInText as in_text}
 use Rattle.refusals.specs.Told.{number_of}
@@ -106,22 +104,6 @@ kind_step e = rw e
 pub kind_text : {k : BlockKind} → k ≡ block.Text → TextBlock ≡ kind_open k
 unfolding kind_open
 kind_text e = rw e
-
--- ---- modes
-
-pub components_not : {d : Define} → (d ≡ Components → ⊥) → false ≡ is_components (define_of d)
-unfolding is_components define_of
-components_not {d = All} n = refl
-components_not {d = Components} n = absurd (n refl)
-components_not {d = Steps} n = refl
-components_not {d = Text} n = refl
-
-pub text_not : {d : Define} → (d ≡ Text → ⊥) → false ≡ is_text (define_of d)
-unfolding is_text define_of
-text_not {d = All} n = refl
-text_not {d = Components} n = refl
-text_not {d = Steps} n = refl
-text_not {d = Text} n = absurd (n refl)
 
 -- ---- whether a block is open, and sections
 
@@ -266,7 +248,7 @@ module _ {w : List ℕ} {h₀ h : Held} {b : Bool} (e : b ≡ is_components (def
       record {
         is = λ sheet. block_is sheet w h₀ Nothing no_block refl ∙ ap blank (sym (close_dropped (state_in sheet w h₀) (components_of sheet w h₀ e t)));
         sound = sound_block z Nothing;
-        fit = λ sheet a. fit_block a Nothing;
+        fit = λ sheet a. fit_counts refl refl a;
       }
 
 -- ---- lines in a block
@@ -312,11 +294,11 @@ module _ {w₀ w : List ℕ} {h₀ : Held} {e : Inside} where
 module _ {w : List ℕ} {h₀ h : Held} {e : Inside} (z : Sound w h₀) (t : TextView) (p : e ≡ inside.Text t) where
   pub text_more : h ≡ with_block TextBlock h₀ → InTextBlock e w h₀ w (Ok h)
   unfolding in_text_block inside_in blank_open open_of
-  text_more q = rw (p, q) record { at = λ line. stepped (record { is = λ sheet. block_is sheet w h₀ TextBlock _ refl; sound = sound_block z TextBlock; fit = λ sheet a. fit_block a TextBlock }) }
+  text_more q = rw (p, q) record { at = λ line. stepped (record { is = λ sheet. block_is sheet w h₀ TextBlock _ refl; sound = sound_block z TextBlock; fit = λ sheet a. fit_counts refl refl a }) }
 
   pub mode_more : h ≡ with_block TextMode h₀ → InTextMode e w h₀ w (Ok h)
   unfolding in_text_mode inside_in blank_open open_of
-  mode_more q = rw (p, q) record { at = λ text line. stepped (record { is = λ sheet. block_is sheet w h₀ TextMode _ refl; sound = sound_block z TextMode; fit = λ sheet a. fit_block a TextMode }) }
+  mode_more q = rw (p, q) record { at = λ text line. stepped (record { is = λ sheet. block_is sheet w h₀ TextMode _ refl; sound = sound_block z TextMode; fit = λ sheet a. fit_counts refl refl a }) }
 
 -- ---- the span of a component
 
@@ -342,5 +324,5 @@ pub mode_found : {w₀ w : List ℕ} {h₀ h₁ h : Held} {x : Noted} {s : Span}
 unfolding component_in_text blank_open open_of
 mode_found {w₀} {h₀ = h₀} {x = x} z s q p e =
     record {
-      at = λ text line. went_found (record { is = λ sheet. block_is sheet w₀ h₀ TextMode _ refl; sound = sound_block z TextMode; fit = λ sheet a. fit_block a TextMode }) (rw q at p) (rw (s.is line) at e);
+      at = λ text line. went_found (record { is = λ sheet. block_is sheet w₀ h₀ TextMode _ refl; sound = sound_block z TextMode; fit = λ sheet a. fit_counts refl refl a }) (rw q at p) (rw (s.is line) at e);
     }

@@ -26,6 +26,7 @@ pub fn is_open(h: Held) -> bool
     memory::is_open(h.block)
 }
 
+#[tactic(auto, unfolding(rules::specs::Modes::is_components, sheet::specs::Words::define_of))]
 pub fn is_components(d: Define) -> bool
     ensures { result ≡ is_components (define_of d) }
 {
@@ -42,6 +43,7 @@ fn block_of(kind: BlockKind) -> Open
     }
 }
 
+#[tactic(auto, unfolding(rules::specs::Modes::is_text, sheet::specs::Words::define_of))]
 pub fn is_text(d: Define) -> bool
     ensures { result ≡ is_text (define_of d) }
 {

@@ -14,6 +14,7 @@ fn mixed(h: usize, c: u32) -> usize
 }
 
 // The hash of the content of a field, its blanks collapsed.
+#[tactic(auto, using(content::proofs::Compare::sizes))]
 pub fn hash_kept(f: &[u8]) -> usize
     ensures { Hashed (kept_in f.now) result }
 {
@@ -34,6 +35,7 @@ pub fn hash_kept(f: &[u8]) -> usize
 }
 
 // The same with all its blanks.
+#[tactic(auto, using(content::proofs::Compare::sizes))]
 pub fn hash_content(f: &[u8]) -> usize
     ensures { Hashed (content_in f.now) result }
 {
@@ -58,6 +60,7 @@ pub fn hash_content(f: &[u8]) -> usize
 }
 
 // The hash of a text in UTF-8.
+#[tactic(auto, using(content::proofs::Compare::sizes))]
 pub fn hash_chars(s: &[u8]) -> usize
     ensures { Hashed (chars s.now) result }
 {

@@ -63,3 +63,5 @@ module _ (s : List ℕ) (at : ℕ) where
   none_cleared h =
       let k : length s - at ≡ 0 = omega arith in
       rw (k, take_all at s h, append-nil)
+
+pub ruleset zeros = (zero_start, zero_turn, zero_piece, zero_end)

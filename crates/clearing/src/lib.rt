@@ -12,6 +12,7 @@ fn piece_end(at: usize, size: usize, n: usize) -> usize
     if n - at < size { n } else { at + size }
 }
 
+#[tactic(auto, using(crate::proofs::Zeros::zeros))]
 fn clear_few_words(words: &mut [u32])
     ensures { words.new ≡ replicate (length words.old) 0 }
 {
@@ -23,6 +24,7 @@ fn clear_few_words(words: &mut [u32])
 }
 
 // All words.
+#[tactic(auto, using(crate::proofs::Zeros::zeros))]
 pub fn clear_words(words: &mut [u32])
     ensures { words.new ≡ replicate (length words.old) 0 }
 {
@@ -34,6 +36,7 @@ pub fn clear_words(words: &mut [u32])
     }
 }
 
+#[tactic(auto, using(crate::proofs::Zeros::zeros))]
 fn clear_few_bytes(bytes: &mut [u8])
     ensures { bytes.new ≡ replicate (length bytes.old) 0 }
 {
@@ -45,6 +48,7 @@ fn clear_few_bytes(bytes: &mut [u8])
 }
 
 // All bytes.
+#[tactic(auto, using(crate::proofs::Zeros::zeros))]
 fn clear_bytes(bytes: &mut [u8])
     ensures { bytes.new ≡ replicate (length bytes.old) 0 }
 {

@@ -15,6 +15,7 @@ use parts::TextView;
 use unit_index::UnitList;
 use units::Physical;
 
+#[tactic(auto, unfolding(rules::specs::Units::physical_number, units::specs::Quantities::physical_in))]
 fn physical_code(p: Physical) -> u32
     ensures { result ≡ physical_number (physical_in p) }
 {

@@ -11,20 +11,12 @@ use Rattle.rules.specs.Model.{Kind, Entry}
 use Rattle.rules.specs.Modes.{Modes, is_steps, is_reference}
 use Rattle.rules.specs.Reference.{Earlier, is_explicit, treat_as_reference, refers_to, redundant_new, reference_findings}
 use Rattle.rules.specs.Components.{made_with}
-use Rattle.rules.proofs.Basics.{no_truth}
+use Rattle.rules.proofs.Basics.{no_truth, or_left, or_right}
 use Rattle.model.specs.declared.Held.{Held}
 use Rattle.lookup.specs.Names.{SameFound}
 use Rattle.lookup.specs.References.{modes_of, asks_same}
 use Rattle.unit_checks.specs.Checked.{SameBelow}
 use Rattle.component_lines.specs.Steps.{SameAsked}
-
-or_left : (a b : Bool) → (a || b) ≡ false → a ≡ false
-or_left true b e = e
-or_left false b e = refl
-
-or_right : (a b : Bool) → (a || b) ≡ false → b ≡ false
-or_right true b e = no_truth (sym e)
-or_right false b e = e
 
 not_at : {P : Type 0} {i : ℕ} → None ≡ Some i → P
 not_at e = absurd (let z : ◌≡◌ {A = ℕ} 0 1 = cc in omega arith)

@@ -1,6 +1,6 @@
 -- What one line can draw, and that there is room for it.
 use Prim.Native.Nat.{ℕ, ◌+◌, ◌≤◌}
-use mathlib.Core.Path.{◌≡◌, refl, sym}
+use mathlib.Core.Path.{◌≡◌, refl}
 use mathlib.Core.Bool.{Bool, true, false, ◌||◌}
 use mathlib.Core.List.{List, [], ◌∷◌, ◌++◌}
 use Rattle.std.specs.Prelude.{Option, None, Some}
@@ -15,24 +15,17 @@ use Rattle.rules.specs.Model.{Entry}
 use Rattle.rules.specs.Modes.{Modes}
 use Rattle.rules.specs.Reference.{Earlier, is_explicit, treat_as_reference, redundant_new, redundant_ref, conflict_or_missing, reference_findings}
 use Rattle.rules.specs.State.{over_limits}
-use Rattle.rules.proofs.Basics.{pick_either, no_truth}
+use Rattle.rules.proofs.Basics.{pick_either, or_left, or_right}
 use Rattle.model.specs.Memory.{state_in, state_of}
 use Rattle.model.specs.declared.Held.{Held}
-use Rattle.model.proofs.Tables.{entries_length, findings_length}
+use Rattle.model.proofs.Tables.{findings_length}
 use Rattle.memory.specs.Reports.{Reported}
 use Rattle.memory.proofs.Reports.{reported_count}
 use Rattle.memory.specs.Frames.{Framed}
+use Rattle.blocks.proofs.Fitting.{ingredients_count, cookware_count}
 use Rattle.component_lines.specs.Steps.{Roomy}
 
 -- ---- the counts before a line
-
-or_left : (a b : Bool) → (a || b) ≡ false → a ≡ false
-or_left false b e = refl
-or_left true b e = no_truth (sym e)
-
-or_right : (a b : Bool) → (a || b) ≡ false → b ≡ false
-or_right false b e = e
-or_right true b e = no_truth (sym e)
 
 or_eight : (a b c d e f g h : Bool) → (a || b || c || d || e || f || g || h) ≡ false → (a ≡ false) × (b ≡ false) × (f ≡ false) × (h ≡ false)
 or_eight a b c d e f g h q =
@@ -51,14 +44,6 @@ over_counts a b c d e f g h q =
 findings_count : (sheet w : List ℕ) (h : Held) → length (state_in sheet w h).findings ≡ h.counts.findings
 unfolding state_in state_of
 findings_count sheet w h = findings_length _ h.counts.findings
-
-ingredients_count : (sheet w : List ℕ) (h : Held) → length (state_in sheet w h).tables.ingredients ≡ h.counts.ingredients
-unfolding state_in state_of
-ingredients_count sheet w h = entries_length _ _ _ _ h.counts.ingredients
-
-cookware_count : (sheet w : List ℕ) (h : Held) → length (state_in sheet w h).tables.cookware ≡ h.counts.cookware
-unfolding state_in state_of
-cookware_count sheet w h = entries_length _ _ _ _ h.counts.cookware
 
 items_count : (sheet w : List ℕ) (h : Held) → (state_in sheet w h).kept.items ≡ h.counts.items
 unfolding state_in state_of

@@ -2,12 +2,13 @@
 #![tactic(auto)]
 
 ghost use Rattle.std.specs.Prelude.{◌≡◌, drop};
-ghost use Rattle.rules.specs.Read.{leads, modifier_letters, modifiers_of};
+ghost use Rattle.rules.specs.Read.{leads, modifier_letters, modifiers_of, word, read_modifiers};
 ghost use Rattle.rules.specs.Basic.{on_some, word_in};
 ghost use Rattle.rules.specs.Words.{references, targets};
 ghost use Rattle.rules.specs.Sheet.{signed_of};
+ghost use Rattle.parts.specs.Got.{BareRead, itself};
 ghost use Rattle.components.specs.Views.{Skips, modifiers_in, signed_in, target_in};
-ghost use Rattle.components.specs.Got.{ModifiersRead, ComponentRead, SignedRead, ReferenceRead, TargetRead, IntermediateRead, OptIntermediateRead};
+ghost use Rattle.components.specs.Got.{ComponentRead, SignedRead, IntermediateRead, OptIntermediateRead};
 
 #[derive(Clone, Copy)]
 pub struct Modifiers {
@@ -114,11 +115,12 @@ fn modifiers_of(f: &[u8]) -> Option<Modifiers>
 }
 
 fn read_modifiers(line: &[u8], at: usize) -> Option<(Modifiers, usize)>
-    ensures { ModifiersRead line.now at result }
+    ensures { BareRead modifiers_in read_modifiers line.now at result }
 {
     parts::read_word(line, at, modifiers_of)
 }
 
+#[tactic(auto, using(parts::proofs::Sequence::goes_on), unfolding(rules::specs::Read::read_component, rules::specs::Read::go_on, parts::specs::Got::got_as, parts::specs::Got::IfGot, parts::specs::Got::IfWhole))]
 pub fn read_component(line: &[u8], at: usize) -> Option<(ComponentView, usize)>
     ensures { ComponentRead line.now at result }
 {
@@ -166,6 +168,7 @@ fn read_value(line: &[u8], at: usize) -> Option<(SignedView, usize)>
 }
 
 // How an intermediate is counted: `n`, from the start, or `r`, relative.
+#[tactic(auto, unfolding(rules::specs::Basic::word_in))]
 fn reference_of(f: &[u8]) -> Option<bool>
     ensures { result ≡ word_in f.now references }
 {
@@ -179,11 +182,12 @@ fn reference_of(f: &[u8]) -> Option<bool>
 }
 
 fn read_reference(line: &[u8], at: usize) -> Option<(bool, usize)>
-    ensures { ReferenceRead line.now at result }
+    ensures { BareRead itself (word references) line.now at result }
 {
     parts::read_word(line, at, reference_of)
 }
 
+#[tactic(auto, unfolding(rules::specs::Basic::on_some, rules::specs::Basic::word_in, crate::specs::Views::target_in))]
 fn target_of(f: &[u8]) -> Option<Target>
     ensures { on_some target_in result ≡ word_in f.now targets }
 {
@@ -197,11 +201,12 @@ fn target_of(f: &[u8]) -> Option<Target>
 }
 
 fn read_target(line: &[u8], at: usize) -> Option<(Target, usize)>
-    ensures { TargetRead line.now at result }
+    ensures { BareRead target_in (word targets) line.now at result }
 {
     parts::read_word(line, at, target_of)
 }
 
+#[tactic(auto, using(parts::proofs::Sequence::goes_on), unfolding(rules::specs::Read::read_intermediate, rules::specs::Read::go_on, parts::specs::Got::got_as, parts::specs::Got::IfGot, parts::specs::Got::IfWhole))]
 fn read_intermediate(line: &[u8], at: usize) -> Option<(Intermediate, usize)>
     ensures { IntermediateRead line.now at result }
 {

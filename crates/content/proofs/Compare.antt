@@ -58,6 +58,22 @@ kept_step k = record { reads = k.reads; least = k.least; most = k.most }
 pub chars_step : {f : List ℕ} {i : ℕ} {ch : Char} → i < length f → ch ≡ char_of (drop i f) → Stepped chars f i ch.code ch.size
 chars_step {f} {i} {ch} h e = let k = char_step f i ch h e in record { reads = k.reads; least = k.least; most = k.most }
 
+-- the bounds of one character, as the code meets them
+module _ (f : List ℕ) (i : ℕ) where
+  pub least_in : i < length f → 0 < (char_in (drop i f)).size
+  least_in h = (content_step f i _ h refl).least
+
+  pub most_in : i < length f → i + (char_in (drop i f)).size ≤ length f
+  most_in h = (content_step f i _ h refl).most
+
+  pub least_of : i < length f → 0 < (char_of (drop i f)).size
+  least_of h = (char_step f i _ h refl).least
+
+  pub most_of : i < length f → i + (char_of (drop i f)).size ≤ length f
+  most_of h = (char_step f i _ h refl).most
+
+pub ruleset sizes = (least_in, most_in, least_of, most_of)
+
 pub record Comparing (g h : List ℕ → List ℕ) (f w : List ℕ) (i j : ℕ) : Type 0 where
   pub left : i ≤ length f
   pub right : j ≤ length w

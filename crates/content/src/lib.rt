@@ -110,6 +110,7 @@ fn same_plain(a: u8, b: u8) -> bool
 }
 
 // Whether the content of a field, its blanks collapsed, is a text in UTF-8.
+#[tactic(auto, using(crate::proofs::Compare::sizes))]
 pub fn same_content(f: &[u8], w: &[u8]) -> bool
     ensures { result ≡ eq_list (kept_in f.now) (chars w.now) }
 {
@@ -136,6 +137,7 @@ pub fn same_content(f: &[u8], w: &[u8]) -> bool
 }
 
 // Whether the content of a field, with all its blanks, is a text in UTF-8.
+#[tactic(auto, using(crate::proofs::Compare::sizes))]
 pub fn same_chars(f: &[u8], w: &[u8]) -> bool
     ensures { result ≡ eq_list (content_in f.now) (chars w.now) }
 {

@@ -1,9 +1,12 @@
 // The event of a line as a view, read after the line's first word. All readers take any bytes and any position.
 #![tactic(auto)]
 
-ghost use Rattle.rules.specs.Read.{read_meta, read_section, read_start, read_end, read_text_line, read_ingredient, read_cookware, read_timer, read_finding};
+ghost use Rattle.rules.specs.Read.{word, read_meta, read_section, read_start, read_end, read_text_line, read_ingredient, read_cookware, read_timer, read_finding};
 ghost use Rattle.events.specs.Views.{severity_in};
-ghost use Rattle.events.specs.Got.{BlockRead, EventRead};
+ghost use Rattle.rules.specs.Words.{block_kinds};
+ghost use Rattle.sheet.specs.Words.{block_in};
+ghost use Rattle.parts.specs.Got.{BareRead};
+ghost use Rattle.events.specs.Got.{EventRead};
 
 use sheet::BlockKind;
 
@@ -44,11 +47,12 @@ pub enum EventView {
 }
 
 fn read_block(line: &[u8], at: usize) -> Option<(BlockKind, usize)>
-    ensures { BlockRead line.now at result }
+    ensures { BareRead block_in (word block_kinds) line.now at result }
 {
     parts::read_word(line, at, sheet::block_kind)
 }
 
+#[tactic(auto, using(parts::proofs::Sequence::goes_on), unfolding(rules::specs::Read::read_meta, rules::specs::Read::go_on, parts::specs::Got::got_as, parts::specs::Got::IfGot, parts::specs::Got::IfWhole))]
 pub fn read_meta(line: &[u8], at: usize) -> Option<(EventView, usize)>
     ensures { EventRead read_meta line.now at result }
 {
@@ -57,6 +61,7 @@ pub fn read_meta(line: &[u8], at: usize) -> Option<(EventView, usize)>
     Some((EventView::Between(Between::Meta(key, value)), a2))
 }
 
+#[tactic(auto, using(parts::proofs::Sequence::goes_on), unfolding(rules::specs::Read::read_section, rules::specs::Read::go_on, parts::specs::Got::got_as, parts::specs::Got::IfGot, parts::specs::Got::IfWhole))]
 pub fn read_section(line: &[u8], at: usize) -> Option<(EventView, usize)>
     ensures { EventRead read_section line.now at result }
 {
@@ -64,6 +69,7 @@ pub fn read_section(line: &[u8], at: usize) -> Option<(EventView, usize)>
     Some((EventView::Between(Between::Section(name)), a1))
 }
 
+#[tactic(auto, using(parts::proofs::Sequence::goes_on), unfolding(rules::specs::Read::read_start, rules::specs::Read::go_on, parts::specs::Got::got_as, parts::specs::Got::IfGot, parts::specs::Got::IfWhole))]
 pub fn read_start(line: &[u8], at: usize) -> Option<(EventView, usize)>
     ensures { EventRead read_start line.now at result }
 {
@@ -71,6 +77,7 @@ pub fn read_start(line: &[u8], at: usize) -> Option<(EventView, usize)>
     Some((EventView::Between(Between::Start(kind)), a1))
 }
 
+#[tactic(auto, using(parts::proofs::Sequence::goes_on), unfolding(rules::specs::Read::read_end, rules::specs::Read::go_on, parts::specs::Got::got_as, parts::specs::Got::IfGot, parts::specs::Got::IfWhole))]
 pub fn read_end(line: &[u8], at: usize) -> Option<(EventView, usize)>
     ensures { EventRead read_end line.now at result }
 {
@@ -78,6 +85,7 @@ pub fn read_end(line: &[u8], at: usize) -> Option<(EventView, usize)>
     Some((EventView::Inside(Inside::End(kind)), a1))
 }
 
+#[tactic(auto, using(parts::proofs::Sequence::goes_on), unfolding(rules::specs::Read::read_text_line, rules::specs::Read::go_on, parts::specs::Got::got_as, parts::specs::Got::IfGot, parts::specs::Got::IfWhole))]
 pub fn read_text_line(line: &[u8], at: usize) -> Option<(EventView, usize)>
     ensures { EventRead read_text_line line.now at result }
 {
@@ -85,6 +93,7 @@ pub fn read_text_line(line: &[u8], at: usize) -> Option<(EventView, usize)>
     Some((EventView::Inside(Inside::Text(text)), a1))
 }
 
+#[tactic(auto, using(parts::proofs::Sequence::goes_on), unfolding(rules::specs::Read::read_ingredient, rules::specs::Read::go_on, parts::specs::Got::got_as, parts::specs::Got::IfGot, parts::specs::Got::IfWhole))]
 pub fn read_ingredient(line: &[u8], at: usize) -> Option<(EventView, usize)>
     ensures { EventRead read_ingredient line.now at result }
 {
@@ -96,6 +105,7 @@ pub fn read_ingredient(line: &[u8], at: usize) -> Option<(EventView, usize)>
     ))
 }
 
+#[tactic(auto, using(parts::proofs::Sequence::goes_on), unfolding(rules::specs::Read::read_cookware, rules::specs::Read::go_on, parts::specs::Got::got_as, parts::specs::Got::IfGot, parts::specs::Got::IfWhole))]
 pub fn read_cookware(line: &[u8], at: usize) -> Option<(EventView, usize)>
     ensures { EventRead read_cookware line.now at result }
 {
@@ -106,6 +116,7 @@ pub fn read_cookware(line: &[u8], at: usize) -> Option<(EventView, usize)>
     ))
 }
 
+#[tactic(auto, using(parts::proofs::Sequence::goes_on), unfolding(rules::specs::Read::read_timer, rules::specs::Read::go_on, parts::specs::Got::got_as, parts::specs::Got::IfGot, parts::specs::Got::IfWhole))]
 pub fn read_timer(line: &[u8], at: usize) -> Option<(EventView, usize)>
     ensures { EventRead read_timer line.now at result }
 {
@@ -118,6 +129,7 @@ pub fn read_timer(line: &[u8], at: usize) -> Option<(EventView, usize)>
     ))
 }
 
+#[tactic(auto, using(parts::proofs::Sequence::goes_on), unfolding(rules::specs::Read::read_finding, rules::specs::Read::go_on, parts::specs::Got::got_as, parts::specs::Got::IfGot, parts::specs::Got::IfWhole))]
 pub fn read_finding(line: &[u8], at: usize, severity: Severity) -> Option<(EventView, usize)>
     ensures { EventRead (read_finding (severity_in severity)) line.now at result }
 {

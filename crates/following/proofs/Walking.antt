@@ -14,7 +14,7 @@ use Rattle.rules.specs.Event.{Event, meta_event, section_event, start_event, end
 use Rattle.rules.specs.Modes.{is_components}
 use Rattle.rules.specs.State.{State, first_state, over_limits, next, Walk, going, refused, failed, recipe, refusal}
 use Rattle.rules.specs.Pass.{is_open, on_event, walk, ended, unless_over, finish, parse_events}
-use Rattle.rules.proofs.Basics.{pick_either, no_truth}
+use Rattle.rules.proofs.Basics.{pick_either, or_left, or_right}
 use Rattle.rules.proofs.Walks.{no_walk, step_next}
 use Rattle.rules.proofs.FaultWalk.{Takes, takes, walk_on}
 use Rattle.model.specs.declared.Open.{Open}
@@ -92,14 +92,6 @@ unfolding with_inline
 inline_counts x h = record { counter = h.counter; ingredients = h.ingredients; cookware = h.cookware; timers = h.timers }
 
 -- ---- limits
-
-or_left : (a b : Bool) → (a || b) ≡ false → a ≡ false
-or_left true b q = q
-or_left false b q = refl
-
-or_right : (a b : Bool) → (a || b) ≡ false → b ≡ false
-or_right true b q = no_truth (sym q)
-or_right false b q = q
 
 inline_most : (st : State) → over_limits st ≡ false → length st.tables.inline ≤ 512
 unfolding over_limits

@@ -1,17 +1,14 @@
 -- What the functions that go over a text keep in each turn.
 use Prim.Native.Nat.{ℕ, ◌+◌, ◌-◌, ◌≤◌, ◌<◌}
 use mathlib.Core.Path.{◌≡◌, refl, sym, ap, ◌∙◌}
-use mathlib.Core.Bool.{Bool, true, false}
+use mathlib.Core.Bool.{Bool, true, false, not}
 use mathlib.Core.List.{List, [], ◌∷◌, ◌++◌, append-nil}
 use native.Mathlib.Nat.{le_refl, sub_self, add-zero, zero-add}
 use native.Mathlib.Omega.{arith}
 use lib.ListN.{length, take, drop, length-drop, take-append-drop, drop_of_length-le}
 use lib.Seq.{drop-drop, take-add, append_snoc}
 use borrow.Author.Tests.{eq-eqb, ne_eqb}
-use Rattle.rules.specs.Basic.{is_digit}
-use Rattle.rules.specs.Unicode.{is_white_space, is_alphabetic}
-use Rattle.rules.specs.Text.{is_not_alphabetic}
-use Rattle.rules.specs.Inline.{is_no_digit, points}
+use Rattle.rules.specs.Inline.{points}
 use Rattle.utf8.specs.declared.Char.{Char}
 use Rattle.content.specs.Contents.{content_in}
 use Rattle.content.specs.Readings.{char_in}
@@ -19,7 +16,7 @@ use Rattle.content.specs.Parts.{Field}
 use Rattle.content.proofs.Chars.{ContentStep, content_step, no_content}
 use Rattle.content.proofs.Spells.{content_append, field_append, field_none, field_first}
 use Rattle.content.proofs.Cuts.{cut_step, cut_start}
-use Rattle.inline.specs.Scans.{is_not_white, part, Front}
+use Rattle.inline.specs.Scans.{part, Front}
 use Rattle.inline.proofs.Fronts.{front_yes, behind_yes, front_no, behind_no, front_none, behind_none}
 use Rattle.rules.specs.Inline as rules
 
@@ -114,32 +111,13 @@ module _ {p : ℕ → Bool} {s : List ℕ} {at i : ℕ} (g : Going p s at i) (ch
         left = rw (← drop-drop ch.size i s) lead.left;
       }
 
--- ---- the tests of one character
+-- ---- where a scan stops at a character of a kind
 
-module _ {b : Bool} (c : ℕ) where
-  pub digit_stops : b ≡ is_digit c → b ≡ true → is_no_digit c ≡ false
-  unfolding is_no_digit
-  digit_stops e t = rw (← e, t)
+pub stops_at : {b t : Bool} → b ≡ t → b ≡ true → not t ≡ false
+stops_at e k = rw (← e, k)
 
-  pub digit_none : b ≡ is_digit c → b ≡ false → is_no_digit c ≡ true
-  unfolding is_no_digit
-  digit_none e t = rw (← e, t)
-
-  pub white_stops : b ≡ is_white_space c → b ≡ true → is_not_white c ≡ false
-  unfolding is_not_white
-  white_stops e t = rw (← e, t)
-
-  pub white_none : b ≡ is_white_space c → b ≡ false → is_not_white c ≡ true
-  unfolding is_not_white
-  white_none e t = rw (← e, t)
-
-  pub letter_stops : b ≡ is_alphabetic c → b ≡ true → is_not_alphabetic c ≡ false
-  unfolding is_not_alphabetic
-  letter_stops e t = rw (← e, t)
-
-  pub letter_none : b ≡ is_alphabetic c → b ≡ false → is_not_alphabetic c ≡ true
-  unfolding is_not_alphabetic
-  letter_none e t = rw (← e, t)
+pub goes_by : {b t : Bool} → b ≡ t → b ≡ false → not t ≡ true
+goes_by e k = rw (← e, k)
 
 -- ---- points
 

@@ -79,6 +79,7 @@ fn is_solid_e3(s: &[u8], i: usize) -> bool
 }
 
 // The place of the next ASCII digit, or the end.
+#[tactic(auto, using(content::proofs::Compare::sizes))]
 fn next_digit(s: &[u8], at: usize) -> usize
     requires { (at ≤ length s.now) × (Field (drop at s.now)) }
     ensures { Front is_no_digit s.now at result }
@@ -100,6 +101,7 @@ fn next_digit(s: &[u8], at: usize) -> usize
 }
 
 // The place after the digits and points.
+#[tactic(auto, using(content::proofs::Compare::sizes))]
 fn number_end(s: &[u8], at: usize) -> usize
     requires { (at ≤ length s.now) × (Field (drop at s.now)) }
     ensures { Front is_digit_or_point s.now at result }
@@ -119,6 +121,7 @@ fn number_end(s: &[u8], at: usize) -> usize
 }
 
 // The place after the White_Space.
+#[tactic(auto, using(content::proofs::Compare::sizes))]
 fn blanks_end(s: &[u8], at: usize) -> usize
     requires { (at ≤ length s.now) × (Field (drop at s.now)) }
     ensures { Front is_white_space s.now at result }
@@ -138,6 +141,7 @@ fn blanks_end(s: &[u8], at: usize) -> usize
 }
 
 // The place of the next White_Space, or the end.
+#[tactic(auto, using(content::proofs::Compare::sizes))]
 fn word_end(s: &[u8], at: usize) -> usize
     requires { (at ≤ length s.now) × (Field (drop at s.now)) }
     ensures { Front is_not_white s.now at result }
@@ -161,6 +165,7 @@ fn word_end(s: &[u8], at: usize) -> usize
 }
 
 // The place of the first Alphabetic character, or the end.
+#[tactic(auto, using(content::proofs::Compare::sizes))]
 fn letters_start(s: &[u8]) -> usize
     requires { Field s.now }
     ensures { Front is_not_alphabetic s.now 0 result }

@@ -13,7 +13,7 @@ use Rattle.rules.specs.Input.{Input, context_of}
 use Rattle.rules.specs.State.{refusal}
 use Rattle.rules.specs.Pass.{parse_events}
 use Rattle.rules.specs.Answer.{declined, events, events_of, read_sheet, first_some, number_if, in_no_line, before_pass, collection, Lent, words_needed, bytes_needed, is_short, written, collect_answer, plain_of, plain_answer}
-use Rattle.rules.proofs.Basics.{no_truth, some_inj}
+use Rattle.rules.proofs.Basics.{some_inj, or_left, or_right}
 use Rattle.rules.proofs.Order.{if_none, no_line_none, some_none, some_only, InOrder, in_order, collected_pass, collected_refused}
 use Rattle.refusals.specs.declared.Refusal.{Refusal}
 use Rattle.refusals.specs.Told.{told_of}
@@ -54,14 +54,6 @@ pub told_good : {i : Input} {words bytes : ℕ} → InputsChecked i words bytes 
 told_good p =
     let a = some_none _ _ (sym p.is) in
     record { enough = if_none _ _ (no_line_none _ a.0); no_fault = (some_none _ _ a.1).0 }
-
-or_left : (a b : Bool) → (a || b) ≡ false → a ≡ false
-or_left true b e = e
-or_left false b e = refl
-
-or_right : (a b : Bool) → (a || b) ≡ false → b ≡ false
-or_right true b e = no_truth (sym e)
-or_right false b e = e
 
 -- what follows from it
 module _ {i : Input} {words bytes : ℕ} (g : GoodInputs i words bytes) where

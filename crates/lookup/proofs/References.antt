@@ -9,17 +9,9 @@ use Rattle.rules.specs.Model.{Entry}
 use Rattle.rules.specs.Modes.{Modes, is_steps, is_reference}
 use Rattle.rules.specs.Reference.{Earlier, is_explicit, treat_as_reference, refers_to}
 use Rattle.sheet.specs.declared.Define.{Define}
-use Rattle.sheet.specs.declared.Define.TheVariants.{All, Components, Steps, Text}
 use Rattle.sheet.specs.declared.Duplicate.{Duplicate}
 use Rattle.lookup.specs.References.{modes_of, asks_same, Marked, TreatedAs, Refers}
 use Rattle.sheet.specs.Words.{define_of, duplicate_of}
-
-pub steps_not : (d : Define) → (d ≡ Steps → ⊥) → false ≡ is_steps (define_of d)
-unfolding is_steps define_of
-steps_not All n = refl
-steps_not Components n = refl
-steps_not Steps n = absurd (n refl)
-steps_not Text n = refl
 
 pub found_in : {A : Type 0} (s : Option A) → option.is_some s ≡ is_some s
 unfolding is_some

@@ -142,12 +142,14 @@ pub fn found_before(
 
 // ---- what it refers to
 
+#[tactic(auto, unfolding(rules::specs::Modes::is_steps, sheet::specs::Words::define_of))]
 pub fn is_steps(d: Define) -> bool
     ensures { result ≡ is_steps (define_of d) }
 {
     matches!(d, Define::Steps)
 }
 
+#[tactic(auto, unfolding(rules::specs::Modes::is_reference, sheet::specs::Words::duplicate_of))]
 pub fn is_reference(d: Duplicate) -> bool
     ensures { result ≡ is_reference (duplicate_of d) }
 {

@@ -43,15 +43,18 @@ room_set i n z l p =
     record {
       rows = by_kind _ (put_le i n l 5 (z.rows ingredient)) (put_le i n l 6 (z.rows cookware));
       pairs = p;
-      findings = put_le i n l 11 z.findings;
-      here = put_le i n l 1 z.here;
-      counter = put_le i n l 0 z.counter;
-      sections = put_le i n l 2 z.sections;
-      blocks = put_le i n l 3 z.blocks;
-      items = put_le i n l 4 z.items;
-      timers = put_le i n l 7 z.timers;
-      inline = put_le i n l 8 z.inline;
-      old = put_le i n l 12 z.old;
+      others =
+          record {
+            findings = put_le i n l 11 z.others.findings;
+            here = put_le i n l 1 z.others.here;
+            counter = put_le i n l 0 z.others.counter;
+            sections = put_le i n l 2 z.others.sections;
+            blocks = put_le i n l 3 z.others.blocks;
+            items = put_le i n l 4 z.others.items;
+            timers = put_le i n l 7 z.others.timers;
+            inline = put_le i n l 8 z.others.inline;
+            old = put_le i n l 12 z.others.old;
+          };
     }
 
 -- ---- parts that have no table
@@ -82,25 +85,6 @@ module _ {w : List ℕ} {h : Held} (z : Sound w h) where
 pub fit_counts : {sheet w : List ℕ} {h₀ h : Held} → h.counts.ingredients ≡ h₀.counts.ingredients → h.counts.cookware ≡ h₀.counts.cookware → AllFit sheet w h₀ → AllFit sheet w h
 fit_counts i c f = record { rows = by_kind _ (rw i (f.rows ingredient)) (rw c (f.rows cookware)) }
 
-module _ {sheet w : List ℕ} {h : Held} (f : AllFit sheet w h) where
-  pub fit_block : (b : Open) → AllFit sheet w (with_block b h)
-  fit_block b = fit_counts refl refl f
-
-  pub fit_define : (d : Define) → AllFit sheet w (with_define d h)
-  fit_define d = fit_counts refl refl f
-
-  pub fit_duplicate : (d : Duplicate) → AllFit sheet w (with_duplicate d h)
-  fit_duplicate d = fit_counts refl refl f
-
-  pub fit_timers : (n : ℕ) → AllFit sheet w (with_timers n h)
-  fit_timers n = fit_counts refl refl f
-
-  pub fit_inline : (n : ℕ) → AllFit sheet w (with_inline n h)
-  fit_inline n = fit_counts refl refl f
-
-  pub fit_old : (n : ℕ) → AllFit sheet w (with_old n h)
-  fit_old n = fit_counts refl refl f
-
 -- ---- the start
 
 pub first_sound : (w : List ℕ) → STATE_WORDS ≤ length w → Sound w first_held
@@ -108,7 +92,7 @@ unfolding first_held
 first_sound w l =
     record {
       long = l;
-      room = record { rows = by_kind _ (omega arith) (omega arith); pairs = by_kind _ (omega arith) (omega arith); findings = omega arith; here = omega arith; counter = omega arith; sections = omega arith; blocks = omega arith; items = omega arith; timers = omega arith; inline = omega arith; old = omega arith };
+      room = record { rows = by_kind _ (omega arith) (omega arith); pairs = by_kind _ (omega arith) (omega arith); others = record { findings = omega arith; here = omega arith; counter = omega arith; sections = omega arith; blocks = omega arith; items = omega arith; timers = omega arith; inline = omega arith; old = omega arith } };
       pairs = by_kind _ none none;
     }
   where

@@ -39,7 +39,7 @@ framed_seq {h₂ = h₂} a b =
 windows_after : {w w₁ : List ℕ} {h h₁ : Held} {x : Noted} → FindingPushed w h x w₁ h₁ → windows_of w₁ ≡ record (windows_of w) { findings = sets (windows_of w).findings (h.counts.findings * FINDING) (noted_words x) }
 windows_after {w} {h = h} {h₁ = h₁} {x = x} p =
     let n : h₁.counts.findings ≡ h.counts.findings + 1 = ap (λ (z : Held). z.counts.findings) p.held in
-    let m : h₁.counts.findings ≤ MOST_FINDINGS = p.sound.room.findings in
+    let m : h₁.counts.findings ≤ MOST_FINDINGS = p.sound.room.others.findings in
     ap windows_of p.words ∙ in_findings w (h.counts.findings * FINDING) (noted_words x) (omega (arith, noted_length x))
 
 place_report : (f : Finding) (st : State) → (report (f ∷ []) st).place ≡ st.place

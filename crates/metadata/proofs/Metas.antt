@@ -27,7 +27,7 @@ use Rattle.model.specs.declared.Noted.{Noted}
 use Rattle.model.specs.declared.Held.{Held}
 use Rattle.memory.specs.Pushes.{FindingPushed}
 use Rattle.memory.proofs.Smalls.{state_blank, with_define_lem, with_duplicate_lem, with_old_lem}
-use Rattle.memory.proofs.Bounds.{sound_define, sound_duplicate, sound_old, fit_define, fit_duplicate, fit_old}
+use Rattle.memory.proofs.Bounds.{sound_define, sound_duplicate, sound_old, fit_counts}
 use Rattle.blocks.specs.Lined.{Went}
 use Rattle.blocks.proofs.Lines.{found_one, went_found}
 use Rattle.metadata.specs.Metas.{OrdinaryCounted}
@@ -73,11 +73,11 @@ module _ (sheet w : List ℕ) (h : Held) (k v : rules.Text) where
 module _ {w : List ℕ} {h r : Held} {key value : Span} (z : Sound w h) where
   pub define_set : {m : Option Define} {d : Define} → m ≡ Some d → r ≡ with_define d h → DefineSet key value m w h w r
   unfolding on_some
-  define_set {d = d} p q = rw (p, q) record { by = λ k v a b. record { is = λ sheet. define_is sheet w h k v d; sound = sound_define z d; fit = λ sheet a. fit_define a d } }
+  define_set {d = d} p q = rw (p, q) record { by = λ k v a b. record { is = λ sheet. define_is sheet w h k v d; sound = sound_define z d; fit = λ sheet a. fit_counts refl refl a } }
 
   pub duplicate_set : {m : Option Duplicate} {d : Duplicate} → m ≡ Some d → r ≡ with_duplicate d h → DuplicateSet key value m w h w r
   unfolding on_some
-  duplicate_set {d = d} p q = rw (p, q) record { by = λ k v a b. record { is = λ sheet. duplicate_is sheet w h k v d; sound = sound_duplicate z d; fit = λ sheet a. fit_duplicate a d } }
+  duplicate_set {d = d} p q = rw (p, q) record { by = λ k v a b. record { is = λ sheet. duplicate_is sheet w h k v d; sound = sound_duplicate z d; fit = λ sheet a. fit_counts refl refl a } }
 
 -- ---- findings
 
@@ -124,4 +124,4 @@ ordinary_is sheet w h k v =
     ∙ sym (old_more (key_text k) (value_text v) _ (state_in sheet w h) ∙ ap (set_metadata (record { map = []; old = replicate (suc (length (state_in sheet w h).metadata.old)) blank_span })) (state_blank sheet w h)))
 
 pub ordinary_counted : {h : Held} → h.counts.old < 100000 → OrdinaryCounted h (with_old (h.counts.old + 1) h)
-ordinary_counted {h} l = record { by = λ k v. record { is = λ sheet w. ordinary_is sheet w h k v; sound = λ w z. sound_old z (h.counts.old + 1) (omega arith) }; fit = λ sheet w a. fit_old a (h.counts.old + 1) }
+ordinary_counted {h} l = record { by = λ k v. record { is = λ sheet w. ordinary_is sheet w h k v; sound = λ w z. sound_old z (h.counts.old + 1) (omega arith) }; fit = λ sheet w a. fit_counts refl refl a }

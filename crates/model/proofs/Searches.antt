@@ -327,3 +327,7 @@ module _ (i : Intermediate) (blocks : List Block) (sections : ℕ) {r : Option �
   pub section_resolved : i.target ≡ target_section → TargetFound i.relative i.value.size (section_indices sections) r → r ≡ resolve_intermediate_ref i blocks sections
   unfolding resolve_intermediate_ref candidates
   section_resolved t z = rw t z.is
+
+pub ruleset ahead_cases = (ahead_start, ahead_hit, ahead_step, ahead_text, ahead_end, none_of_zero)
+
+pub ruleset back_cases = (back_start, back_hit, back_step, back_text, back_end, none_of_zero)

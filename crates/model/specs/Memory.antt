@@ -147,19 +147,42 @@ first_held =
 
 -- ---- bounds
 
--- as many rows as the windows hold, and a pair for each row at most; what has no window is counted far below what a number holds
+-- what has no rows of components is counted no further than `most` says
+pub record AtMost (most c : Counts) : Type 0 where
+  pub findings : c.findings ≤ most.findings
+  pub here : c.here ≤ most.here
+  pub counter : c.counter ≤ most.counter
+  pub sections : c.sections ≤ most.sections
+  pub blocks : c.blocks ≤ most.blocks
+  pub items : c.items ≤ most.items
+  pub timers : c.timers ≤ most.timers
+  pub inline : c.inline ≤ most.inline
+  pub old : c.old ≤ most.old
+
+-- what the windows hold; what has no window is counted far below what a number holds
+abbrev pub most_counts : Counts
+most_counts =
+    record {
+      counter = 100000;
+      here = MOST_KINDS;
+      sections = 100000;
+      blocks = 100000;
+      items = 100000;
+      ingredients = MOST_INGREDIENTS;
+      cookware = MOST_COOKWARE;
+      timers = 100000;
+      inline = 100000;
+      ingredient_pairs = MOST_INGREDIENTS;
+      cookware_pairs = MOST_COOKWARE;
+      findings = MOST_FINDINGS;
+      old = 100000;
+    }
+
+-- as many rows as the windows hold, and a pair for each row at most
 pub record Room (c : Counts) : Type 0 where
   pub rows : (k : Kind) → components_counted k c ≤ room_of k
   pub pairs : (k : Kind) → pairs_counted k c ≤ components_counted k c
-  pub findings : c.findings ≤ MOST_FINDINGS
-  pub here : c.here ≤ MOST_KINDS
-  pub counter : c.counter ≤ 100000
-  pub sections : c.sections ≤ 100000
-  pub blocks : c.blocks ≤ 100000
-  pub items : c.items ≤ 100000
-  pub timers : c.timers ≤ 100000
-  pub inline : c.inline ≤ 100000
-  pub old : c.old ≤ 100000
+  pub others : AtMost most_counts c
 
 -- the first m pairs are of components below n
 pub record Below (pairs : List ℕ) (m n : ℕ) : Type 0 where

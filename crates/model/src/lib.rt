@@ -400,6 +400,7 @@ pub fn put_kind(kinds: &mut [u32], n: usize, step: bool)
 }
 
 // The step that is the value-th, counted back from the newest of n blocks.
+#[tactic(auto, using(crate::proofs::Searches::back_cases))]
 fn step_back(kinds: &[u32], n: usize, value: u32) -> Option<u32>
     requires { (n ≤ MOST_KINDS) × (n ≤ length kinds.now) }
     ensures { result ≡ nth value (step_indices (blocks_in kinds.now n)) }
@@ -420,6 +421,7 @@ fn step_back(kinds: &[u32], n: usize, value: u32) -> Option<u32>
 }
 
 // The step that is the value-th, counted from the first.
+#[tactic(auto, using(crate::proofs::Searches::ahead_cases))]
 fn step_ahead(kinds: &[u32], n: usize, value: u32) -> Option<u32>
     requires { (n ≤ MOST_KINDS) × (n ≤ length kinds.now) }
     ensures { result ≡ nth value (reverse (step_indices (blocks_in kinds.now n))) }

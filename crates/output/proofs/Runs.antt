@@ -10,25 +10,17 @@ use lib.Dec.{eqb, leb, ltb}
 use lib.ListN.{length, get_or, take, drop, set, take-append-drop, drop_of_length-le, length-set}
 use lib.Seq.{drop-cons, drop-drop, take-add, take-suc, take_all}
 use Rattle.rules.specs.Sheet.{escape_char, escape}
-use Rattle.rules.proofs.Basics.{and_left, and_right, and_both, by_order}
+use Rattle.rules.proofs.Basics.{and_left, and_right, and_both, by_order, and_assoc, and_true}
 use Rattle.output.specs.Put.{Put}
 use Rattle.output.specs.Runs.{is_plain, all_plain, PlainTo}
 use Rattle.output.proofs.Puts.{put_seq, one_in, put_none}
 use Rattle.output.proofs.Texts.{char_plain}
 
 -- ---- all bytes asked
-and_turn : (p r a : Bool) → ((p && r) && a) ≡ (p && (r && a))
-and_turn true r a = refl
-and_turn false r a = refl
-
-and_true : (p : Bool) → (p && true) ≡ p
-and_true true = refl
-and_true false = refl
-
 module _ (f : List ℕ) (i : ℕ) where
   pub all_turn : (p : Bool) {r b : Bool} → (p && all_plain (drop i f)) ≡ b → i < length f → r ≡ is_plain (get_or f i 0) → ((p && r) && all_plain (drop (i + 1) f)) ≡ b
   unfolding all_plain
-  all_turn p {r} e h q = and_turn p r (all_plain (drop (i + 1) f)) ∙ rw (q, add-one) (rw (drop-cons f i 0 h) at e)
+  all_turn p {r} e h q = and_assoc p r (all_plain (drop (i + 1) f)) ∙ rw (q, add-one) (rw (drop-cons f i 0 h) at e)
 
   pub all_end : {p b : Bool} → (p && all_plain (drop i f)) ≡ b → length f ≤ i → p ≡ b
   unfolding all_plain

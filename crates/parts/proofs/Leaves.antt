@@ -2,14 +2,13 @@
 use Rattle.std.proofs.Common.{◌≡◌, ℕ, ◌+◌, ◌-◌, ◌<◌, ◌≤◌, Bool, true, false, eqb, leb, List, [], ◌∷◌, length, get_or, take, drop, sym, refl, ap, ◌∙◌, arith, le-leb, leb-true}
 use Rattle.std.specs.Prelude.{Option, None, Some}
 use borrow.Author.Tests.{lt-leb}
-use Rattle.rules.specs.Basic.{pick, tab, minus, eq_list, is_some, on_some, on_first, split_at, word_in}
+use Rattle.rules.specs.Basic.{pick, tab, minus, eq_list, is_some, on_some, on_first, split_at}
 use Rattle.rules.specs.Utf8.{chars}
 use Rattle.rules.specs.Sheet.{fields_of, unescape, number_up_to, at_most, only_zero, digits_from}
 use Rattle.rules.specs.Read.{Fields, go_on, ◌>>=◌, give, saying, got_one, opt, field, content_of, read_content}
 use Rattle.rules.proofs.Basics.{pick_either, no_some, no_truth, some_inj}
 use Rattle.sheet.specs.Lines.{fields_from, field_at}
 use Rattle.sheet.proofs.Scans.{field_within, fields_next}
-use Rattle.sheet.proofs.Tests.{hit, miss, ends}
 use Rattle.parts.specs.declared.Dash.TheVariants as dash
 use Rattle.parts.specs.declared.Part.{Part}
 use Rattle.parts.specs.Views.{part_of, or_empty, bytes_in, content_in}
@@ -117,19 +116,6 @@ module _ (line : List ℕ) (at : ℕ) {f : List ℕ} (h : at ≤ length line) (e
   pub content_got_lem : w ≡ true → ContentRead line at (Some ((record { from = at; to = at + length f }), (at + length f + 1)))
   unfolding read_content
   content_got_lem q = leaf_content content_of h e (content_is q) (record { ordered = omega arith; ends = rw (sym e) at (field_within line at h); well = content_well q }) (rw (field_part line at h e))
-
--- ---- words
--- a table of two words
-module _ {A : Type 0} (f : List ℕ) (a b : List ℕ × A) where
-  pub two_first : {t : Bool} → t ≡ eq_list f a.0 → t ≡ true → Some a.1 ≡ word_in f (a ∷ b ∷ [])
-  two_first p q = hit f a (b ∷ []) refl p q
-
-  module _ {t : Bool} (p : t ≡ eq_list f a.0) (q : t ≡ false) {u : Bool} (l : u ≡ eq_list f b.0) where
-    pub two_second : u ≡ true → Some b.1 ≡ word_in f (a ∷ b ∷ [])
-    two_second k = hit f b [] (miss f a (b ∷ []) refl p q) l k
-
-    pub two_neither : u ≡ false → None ≡ word_in f (a ∷ b ∷ [])
-    two_neither k = ends f (miss f b [] (miss f a (b ∷ []) refl p q) l k)
 
 -- ---- opt
 module _ (line : List ℕ) (at : ℕ) where

@@ -92,10 +92,6 @@ module _ {View A : Type 0} {means : View → A} {Good : View → Type 0} {raw : 
   unfolding got_as IfGot IfWhole
   fails e = record { is = sym e; good = tt; whole = tt }
 
-  -- where `?` hands on that a part has none
-  pub failed : {o : Option (View × ℕ)} → o ≡ None → read (fields_from line at) ≡ None → ReadAt means Good raw read line at o
-  failed q e = rw q (fails e)
-
   -- of none
   module _ (p : ReadAt means Good raw read line at None) where
     pub ill : read (fields_from line at) ≡ None
@@ -134,3 +130,8 @@ module _ {View A : Type 0} {means : View → A} {Good : View → Type 0} {raw : 
     -- the last that holds contents
     pub ends : {B : Type 0} (f : A → Reader B) {b : B} {gs : Fields} → Reads (f (means v)) b [] (fields_from line n) gs → Reads (read >>= f) b (raw v) (fields_from line at) gs
     ends f q = record { is = step f q.is; among = rw append-nil at (among_both whole_of q.among) }
+
+-- a reader and what comes after it, as a choice
+pub goes_on : {A B : Type 0} (r : Reader A) (f : A → Reader B) (fs : Fields) → (r >>= f) fs ≡ go_on f (r fs)
+unfolding ◌>>=◌
+goes_on r f fs = refl

@@ -1,17 +1,14 @@
 -- What the readers answer: the rules' reading of the fields that are left.
-use Rattle.std.specs.Prelude.{◌≡◌, ℕ, ◌≤◌, Bool, List, [], ◌∷◌, Option, None, Some}
-use Rattle.rules.specs.Read.{Fields, Reader, give, opt, read_number, read_span, read_content, read_text, word, read_quantity}
-use Rattle.rules.specs.Words.{value_kinds, locks}
+use Rattle.std.specs.Prelude.{◌≡◌, ℕ, ◌≤◌, List, [], ◌∷◌, Option, None, Some}
+use Rattle.rules.specs.Read.{Fields, Reader, give, opt, read_number, read_span, read_content, read_text, read_quantity}
 use Rattle.sheet.specs.Lines.{fields_from}
 use Rattle.parts.specs.declared.Span.{Span}
 use Rattle.parts.specs.declared.TextView.{TextView}
 use Rattle.parts.specs.declared.Part.{Part}
-use Rattle.sheet.specs.declared.ValueKind.{ValueKind}
 use Rattle.parts.specs.declared.QuantityView.{QuantityView}
 use Rattle.parts.specs.declared.Dash.{Dash}
 use Rattle.parts.specs.declared.Dash.TheVariants as dash
 use Rattle.parts.specs.Views.{content_in, raw_part, raw_text, raw_opt_text, raw_quantity, raw_opt_quantity, PartWithin, span_in, SpanWithin, text_in, TextWithin, opt_text_in, OptTextWithin, quantity_in, QuantityWithin, opt_quantity_in, OptQuantityWithin}
-use Rattle.sheet.specs.Words.{kind_in}
 
 -- a view that was read and where the next field starts, or none: what the rules' reader has then read, and the fields that are left
 module _ {View A : Type 0} (means : View → A) (line : List ℕ) where
@@ -59,6 +56,14 @@ no_contents v = []
 abbrev pub Anything : {View : Type 0} → View → Type 0
 Anything v = Unit
 
+-- what holds no content and has no bounds, as a word of a table
+abbrev pub BareRead : {View A : Type 0} → (View → A) → Reader A → List ℕ → ℕ → Option (View × ℕ) → Type 0
+BareRead means read line at r = ReadAt means Anything no_contents read line at r
+
+-- a view that is what it stands for
+abbrev pub itself : {A : Type 0} → A → A
+itself a = a
+
 abbrev pub NumberRead : List ℕ → ℕ → Option (ℕ × ℕ) → Type 0
 NumberRead line at r = ReadAt (λ (n : ℕ). n) (λ (n : ℕ). n ≤ 65535) no_contents read_number line at r
 
@@ -73,12 +78,6 @@ TextRead line at r = ReadAt (text_in line) (TextWithin line) (raw_text line) rea
 
 abbrev pub OptTextRead : List ℕ → ℕ → Option (Option TextView × ℕ) → Type 0
 OptTextRead line at r = ReadAt (opt_text_in line) (OptTextWithin line) (raw_opt_text line) (opt read_text) line at r
-
-abbrev pub KindRead : List ℕ → ℕ → Option (ValueKind × ℕ) → Type 0
-KindRead line at r = ReadAt kind_in Anything no_contents (word value_kinds) line at r
-
-abbrev pub LockRead : List ℕ → ℕ → Option (Bool × ℕ) → Type 0
-LockRead line at r = ReadAt (λ (b : Bool). b) Anything no_contents (word locks) line at r
 
 abbrev pub QuantityRead : List ℕ → ℕ → Option (QuantityView × ℕ) → Type 0
 QuantityRead line at r = ReadAt (quantity_in line) (QuantityWithin line) (raw_quantity line) read_quantity line at r

@@ -4,13 +4,15 @@
 
 ghost use Rattle.std.specs.Prelude.{◌≡◌, ◌+◌, ◌<◌, ◌≤◌, [], ◌∷◌, length};
 ghost use Rattle.rules.specs.Basic.{tab, backslash, is_empty, eq_list, word_in};
-ghost use Rattle.rules.specs.Words.{locks};
+ghost use Rattle.rules.specs.Words.{value_kinds, locks};
+ghost use Rattle.rules.specs.Read.{word};
 ghost use Rattle.sheet.specs.Lines.{field_at};
 ghost use Rattle.sheet.specs.Runs.{Lacking};
+ghost use Rattle.sheet.specs.Words.{kind_in};
 ghost use Rattle.parts.specs.Views.{part_of};
 ghost use Rattle.parts.specs.Near.{figure_of, end_of, NearRead};
 ghost use Rattle.parts.specs.Generic.{WordReadBy, OptReadBy};
-ghost use Rattle.parts.specs.Got.{DashAt, NumberRead, SpanRead, ContentRead, TextRead, OptTextRead, KindRead, LockRead, QuantityRead, OptQuantityRead};
+ghost use Rattle.parts.specs.Got.{DashAt, NumberRead, SpanRead, ContentRead, TextRead, OptTextRead, BareRead, itself, QuantityRead, OptQuantityRead};
 
 use sheet::ValueKind;
 
@@ -191,6 +193,7 @@ fn near_number(line: &[u8], at: usize) -> Option<(u32, usize)>
     number_end(y, q, x + 1)
 }
 
+#[tactic(auto, using(crate::proofs::Sequence::goes_on), unfolding(rules::specs::Read::read_span, rules::specs::Read::go_on, crate::specs::Got::got_as, crate::specs::Got::IfGot, crate::specs::Got::IfWhole))]
 pub fn read_span(line: &[u8], at: usize) -> Option<(Span, usize)>
     ensures { SpanRead line.now at result }
 {
@@ -268,6 +271,7 @@ fn read_content(line: &[u8], at: usize) -> Option<(Part, usize)>
     Some((Part { from: at, to: i }, i + 1))
 }
 
+#[tactic(auto, using(crate::proofs::Sequence::goes_on), unfolding(rules::specs::Read::read_text, rules::specs::Read::go_on, crate::specs::Got::got_as, crate::specs::Got::IfGot, crate::specs::Got::IfWhole))]
 pub fn read_text(line: &[u8], at: usize) -> Option<(TextView, usize)>
     ensures { TextRead line.now at result }
 {
@@ -320,12 +324,13 @@ pub fn read_word<T, F: FnOnce(&[u8]) -> Option<T>>(
 }
 
 fn read_kind(line: &[u8], at: usize) -> Option<(ValueKind, usize)>
-    ensures { KindRead line.now at result }
+    ensures { BareRead kind_in (word value_kinds) line.now at result }
 {
     read_word(line, at, sheet::value_kind)
 }
 
 // The lock of a quantity: `l` or `-`.
+#[tactic(auto, unfolding(rules::specs::Basic::word_in))]
 fn lock_of(f: &[u8]) -> Option<bool>
     ensures { result ≡ word_in f.now locks }
 {
@@ -339,11 +344,12 @@ fn lock_of(f: &[u8]) -> Option<bool>
 }
 
 fn read_lock(line: &[u8], at: usize) -> Option<(bool, usize)>
-    ensures { LockRead line.now at result }
+    ensures { BareRead itself (word locks) line.now at result }
 {
     read_word(line, at, lock_of)
 }
 
+#[tactic(auto, using(crate::proofs::Sequence::goes_on), unfolding(rules::specs::Read::read_quantity, rules::specs::Read::go_on, crate::specs::Got::got_as, crate::specs::Got::IfGot, crate::specs::Got::IfWhole))]
 fn read_quantity(line: &[u8], at: usize) -> Option<(QuantityView, usize)>
     ensures { QuantityRead line.now at result }
 {

@@ -1,42 +1,42 @@
 -- The counts that hold before a line leave room for the line.
 use Prim.Native.Nat.{ℕ, ◌+◌, ◌≤◌, ◌<◌}
-use mathlib.Core.Path.{◌≡◌, refl, sym, ap, ◌∙◌}
+use mathlib.Core.Path.{◌≡◌, refl, ap, ◌∙◌}
 use mathlib.Core.List.{List}
-use mathlib.Core.Bool.{Bool, true, false, ◌||◌}
+use mathlib.Core.Bool.{Bool, false, ◌||◌}
 use native.Mathlib.Omega.{arith}
 use borrow.Author.Tests.{ltb-false}
 use lib.Dec.{ltb}
 use lib.ListN.{length, length-replicate}
 use lib.Seq.{length-slice}
-use Rattle.rules.proofs.Basics.{no_truth}
+use Rattle.rules.proofs.Basics.{or_left, or_right}
 use Rattle.events.specs.declared.EventView.{EventView}
 use Rattle.model.specs.Blank.{blank_span}
-use Rattle.model.specs.Memory.{state_of, state_in}
+use Rattle.model.specs.Memory.{state_of, state_in, AtMost}
+use Rattle.model.specs.declared.Counts.{Counts}
 use Rattle.model.specs.declared.Held.{Held}
 use Rattle.model.proofs.Windows.{content_counted}
 use Rattle.memory.proofs.Smalls.{over_in, over_is}
 use Rattle.pass.specs.Walks.{EventHere, Running}
 use Rattle.model.specs.declared.layout.TheConstants.{MOST_FINDINGS, MOST_KINDS}
 
-or_left : (a b : Bool) → (a || b) ≡ false → a ≡ false
-or_left true b e = e
-or_left false b e = refl
-
-or_right : (a b : Bool) → (a || b) ≡ false → b ≡ false
-or_right true b e = no_truth (sym e)
-or_right false b e = e
-
 -- no limit is passed, and few lines count for 3
-pub record Bounded (h : Held) : Type 0 where
-  pub timers : h.counts.timers ≤ 256
-  pub sections : h.counts.sections ≤ 128
-  pub blocks : h.counts.blocks ≤ 1024
-  pub items : h.counts.items ≤ 4096
-  pub inline : h.counts.inline ≤ 512
-  pub findings : h.counts.findings ≤ 1024
-  pub here : h.counts.here ≤ 1024
-  pub counter : h.counts.counter ≤ 1025
-  pub old : h.counts.old ≤ 65536
+abbrev pub limits : Counts
+limits =
+    record {
+      counter = 1025;
+      here = 1024;
+      sections = 128;
+      blocks = 1024;
+      items = 4096;
+      ingredients = 512;
+      cookware = 256;
+      timers = 256;
+      inline = 512;
+      ingredient_pairs = 512;
+      cookware_pairs = 256;
+      findings = 1024;
+      old = 65536;
+    }
 
 module _ (a b c d e f g i : Bool) (q : (a || b || c || d || e || f || g || i) ≡ false) where
   six : (a || b || c || d || e || f) ≡ false
@@ -71,7 +71,7 @@ module _ {sheet w : List ℕ} {h : Held} {n : ℕ} (r : Running sheet w h n) whe
   unfolding state_in state_of
   old_most = let e = length-replicate h.counts.old blank_span in omega (arith, e, r.counted.2)
 
-  pub bounded : n ≤ 65536 → Bounded h
+  pub bounded : n ≤ 65536 → AtMost limits h.counts
   unfolding over_in
   bounded l =
       let z =
@@ -98,7 +98,7 @@ module _ {sheet line : List ℕ} {at end : ℕ} {v : EventView} (z : EventHere s
   line_short = let e = ap length z.part ∙ length-slice at end sheet z.here.whole.most in omega (arith, e, z.here.whole.most, z.here.short)
 
   module _ {w : List ℕ} {h : Held} (r : Running sheet w h at) where
-    pub room : Bounded h
+    pub room : AtMost limits h.counts
     room = bounded r (omega (arith, z.here.whole.order, z.here.whole.most, z.here.short))
 
     pub room_blocks : (h.counts.here < MOST_KINDS) × (h.counts.blocks < 100000)

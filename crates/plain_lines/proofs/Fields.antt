@@ -37,23 +37,14 @@ module _ (line : List ℕ) {q : Option TextView} where
   unfolding OptTextField
   text_field e h = rw e at h
 
-  module _ {o₀ o : List ℕ} {at r : ℕ} where
-    pub text_absent : q ≡ None → Put (tabbed (codes "-" ∷ [])) o₀ at o r → Put (tabbed (opt_fields text_fields (opt_text_in line q))) o₀ at o r
-    unfolding opt_fields opt_text_in
-    text_absent e x = rw e x
+module _ {A : Type 0} (write : A → List (List ℕ)) {p : Option A} {o₀ o : List ℕ} {at r : ℕ} where
+  pub part_absent : p ≡ None → Put (tabbed (codes "-" ∷ [])) o₀ at o r → Put (tabbed (opt_fields write p)) o₀ at o r
+  unfolding opt_fields
+  part_absent e x = rw e x
 
-    pub text_present : {v : TextView} → q ≡ Some v → Put (tabbed (text_fields (text_in line v))) o₀ at o r → Put (tabbed (opt_fields text_fields (opt_text_in line q))) o₀ at o r
-    unfolding opt_fields opt_text_in
-    text_present e x = rw e x
-
-module _ (line : List ℕ) {q : Option QuantityView} {o₀ o : List ℕ} {at r : ℕ} where
-  pub quantity_absent : q ≡ None → Put (tabbed (codes "-" ∷ [])) o₀ at o r → Put (tabbed (opt_fields quantity_fields (opt_quantity_in line q))) o₀ at o r
-  unfolding opt_fields opt_quantity_in
-  quantity_absent e x = rw e x
-
-  pub quantity_present : {v : QuantityView} → q ≡ Some v → Put (tabbed (quantity_fields (quantity_in line v))) o₀ at o r → Put (tabbed (opt_fields quantity_fields (opt_quantity_in line q))) o₀ at o r
-  unfolding opt_fields opt_quantity_in
-  quantity_present e x = rw e x
+  pub part_present : {a : A} → p ≡ Some a → Put (tabbed (write a)) o₀ at o r → Put (tabbed (opt_fields write p)) o₀ at o r
+  unfolding opt_fields
+  part_present e x = rw e x
 
 -- ---- quantities
 

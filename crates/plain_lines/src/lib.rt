@@ -54,6 +54,7 @@ fn put_span(out: &mut [u8], at: usize, s: Span) -> usize
 }
 
 // The `text` line of a span and its source.
+#[tactic(auto, using(step_lines::proofs::Sources::span_inside))]
 pub fn source_line(rest: &mut [u8], text: &Utf8, span: Span) -> usize
     requires { is_good_span text.now.bytes.now (length text.now.bytes.now) (span_in span) ≡ true }
     ensures { Put (write_line (inside (text_event (source_at text.now.bytes.now (span_in span))))) rest.old 0 rest.new result }

@@ -48,6 +48,7 @@ fn of_component(c: events::ComponentEvent) -> ComponentView
     }
 }
 
+#[tactic(auto, unfolding(crate::specs::Recalls::view_inside))]
 fn of_inside(i: events::Inside) -> ComponentView
     ensures { result ≡ view_inside i }
 {
@@ -58,6 +59,7 @@ fn of_inside(i: events::Inside) -> ComponentView
     }
 }
 
+#[tactic(auto, unfolding(crate::specs::Recalls::view_in))]
 fn of_event(e: events::EventView) -> ComponentView
     ensures { result ≡ view_in e }
 {

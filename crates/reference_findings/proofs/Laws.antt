@@ -1,11 +1,11 @@
 -- One law for each way through.
 use Prim.Native.Nat.{ℕ}
 use mathlib.Core.Path.{◌≡◌, refl, ap, sym, ◌∙◌}
-use mathlib.Core.Bool.{Bool, true, false, ◌&&◌, ◌||◌, not}
+use mathlib.Core.Bool.{Bool, true, false, not}
 use mathlib.Core.List.{List, [], ◌∷◌, ◌++◌}
 use Rattle.std.specs.Prelude.{Option, None, Some}
 use Rattle.std.specs.Option as option
-use Rattle.rules.proofs.Basics.{no_some, some_inj}
+use Rattle.rules.proofs.Basics.{no_some, some_inj, and_true, and_false}
 use Rattle.rules.specs.Basic.{pick, is_some, on_some, when}
 use Rattle.rules.specs.Event as rules
 use Rattle.rules.specs.Finding.{Finding, diag, found}
@@ -40,14 +40,6 @@ same_found {same} {old} s e = sym (some_on hands_down same) ∙ ap is_some s.is 
 
 -- ---- modifiers
 
-and_false : (b : Bool) → (b && false) ≡ false
-and_false true = refl
-and_false false = refl
-
-and_true : (b : Bool) → (b && true) ≡ b
-and_true true = refl
-and_true false = refl
-
 module _ {k : Kind} {r : Bool} (d : Modifiers) where
   pub handed_ingredient : k ≡ Ingredient → r ≡ d.recipe → modifiers_in (record { recipe = r; reference = false; hidden = d.hidden; opt = d.opt; new = false }) ≡ both (modifiers_in d) (inherits (kind_of k))
   unfolding modifiers_in both inherits
@@ -56,31 +48,6 @@ module _ {k : Kind} {r : Bool} (d : Modifiers) where
   pub handed_cookware : k ≡ Cookware → r ≡ false → modifiers_in (record { recipe = r; reference = false; hidden = d.hidden; opt = d.opt; new = false }) ≡ both (modifiers_in d) (inherits (kind_of k))
   unfolding modifiers_in both inherits
   handed_cookware e f = rw (e, f, and_false d.recipe, and_false d.reference, and_true d.hidden, and_true d.opt, and_false d.new)
-
--- `&&` and `||` by their first operand
-module _ {a v : Bool} (b : Bool) where
-  pub and_then : a ≡ true → v ≡ b → v ≡ (a && b)
-  and_then t e = e ∙ rw t
-
-  pub and_else : a ≡ false → v ≡ a → v ≡ (a && b)
-  and_else t e = e ∙ rw t
-
-  pub or_then : a ≡ true → v ≡ a → v ≡ (a || b)
-  or_then t e = e ∙ rw t
-
-  pub or_else : a ≡ false → v ≡ b → v ≡ (a || b)
-  or_else t e = e ∙ rw t
-
-pub any_is : (a b : Modifiers) {p q r s : Bool} → p ≡ (a.recipe && not b.recipe) → q ≡ (p || (a.hidden && not b.hidden)) → r ≡ (q || (a.opt && not b.opt)) → s ≡ (r || (a.new && not b.new))
-    → s ≡ any_beyond (modifiers_in a) (with_ref (modifiers_in b))
-unfolding any_beyond with_ref modifiers_in
-any_is a b {p} {q} {r} {s} e f g h = h ∙ rw (g, f, e, and_false a.reference) (sides (a.recipe && not b.recipe) (a.hidden && not b.hidden) (a.opt && not b.opt) (a.new && not b.new))
-  where
-    sides : (x y z w : Bool) → (((x || y) || z) || w) ≡ (x || false || y || z || w)
-    sides true y z w = refl
-    sides false true z w = refl
-    sides false false true w = refl
-    sides false false false w = refl
 
 -- ---- 11 and 12
 

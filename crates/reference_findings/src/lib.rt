@@ -45,6 +45,7 @@ pub fn handed_down(kind: Kind, d: Modifiers) -> Modifiers
 }
 
 // Whether some of `a` but REF is not in `b`.
+#[tactic(auto, using(rules::proofs::Basics::and_false), unfolding(rules::specs::Model::any_beyond, rules::specs::Model::with_ref, components::specs::Views::modifiers_in))]
 fn any_beyond(a: Modifiers, b: Modifiers) -> bool
     ensures { result ≡ any_beyond (modifiers_in a) (with_ref (modifiers_in b)) }
 {

@@ -90,3 +90,7 @@ scan_to {b} {s} {at} {r} a = by_order at (length s) near far
 
     far : length s < at → Scan b s at r
     far h = let l : length s ≤ at = omega arith in record { from = a.from; clean = rw (drop_of_length-le s l, take-nil (r - at)) without_none }
+
+pub ruleset runs = (lacking_none, lacking_on)
+
+pub ruleset lack_cases = (lacks_none, lacks_hit, lacks_miss, lacks_whole)

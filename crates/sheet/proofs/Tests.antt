@@ -1,8 +1,7 @@
--- Comparing bytes, and one test of a word against a table.
+-- Comparing bytes.
 use Prim.Native.Nat.{ℕ, suc, ◌+◌, ◌≤◌, ◌<◌}
-use mathlib.Core.Path.{◌≡◌, refl, ap, sym, ◌∙◌}
+use mathlib.Core.Path.{◌≡◌, refl, ap}
 use mathlib.Core.Bool.{Bool, true, false}
-use Rattle.std.specs.Prelude.{Option, None, Some}
 use mathlib.Core.List.{List, [], ◌∷◌}
 use native.Mathlib.Numerals.{add-one}
 use native.Mathlib.Omega.{arith}
@@ -10,7 +9,7 @@ use borrow.Author.Tests.{eq-eqb, ne_eqb}
 use lib.Dec.{eqb}
 use lib.ListN.{length, get_or, drop, drop_of_length-le}
 use lib.Seq.{drop-cons}
-use Rattle.rules.specs.Basic.{pick, eq_list, word_in}
+use Rattle.rules.specs.Basic.{pick, eq_list}
 
 pub eq_length : (a b : List ℕ) → (length a ≡ length b → ⊥) → false ≡ eq_list a b
 unfolding eq_list
@@ -35,18 +34,3 @@ module _ (a b : List ℕ) (i : ℕ) {r : Bool} (l : length a ≡ length b) (e : 
   pub eq_end : length a ≤ i → true ≡ r
   unfolding eq_list
   eq_end h = let k : length b ≤ i = omega arith in simp (drop_of_length-le a h, drop_of_length-le b k) at e
-
--- o is what f stands for in the rest of a table
-module _ {A : Type 0} (f : List ℕ) (w : List ℕ × A) (es : List (List ℕ × A)) {o : Option A} {b : Bool} (e : word_in f (w ∷ es) ≡ o) (q : b ≡ eq_list f w.0) where
-  pub hit : b ≡ true → Some w.1 ≡ o
-  unfolding word_in
-  hit t = simp (sym q ∙ t) at e
-
-  pub miss : b ≡ false → word_in f es ≡ o
-  unfolding word_in
-  miss t = simp (sym q ∙ t) at e
-
--- a table of which nothing is left
-pub ends : {A : Type 0} (f : List ℕ) {o : Option A} → word_in f [] ≡ o → None ≡ o
-unfolding word_in
-ends f e = e

@@ -13,6 +13,7 @@ ghost use Rattle.sheet.specs.Numbers.{signed_in};
 ghost use Rattle.sheet.specs.Escapes.{Unescapes};
 
 // Whether the eight bytes at a place lack the byte b. All of them are looked at, which the compiler makes one comparison.
+#[tactic(auto, using(crate::proofs::Runs::lack_cases))]
 pub fn eight_lack(s: &[u8], at: usize, b: u8) -> bool
     requires { at + 8 ≤ length s.now }
     ensures { result ≡ lacks b s.now at 8 }
@@ -29,6 +30,7 @@ pub fn eight_lack(s: &[u8], at: usize, b: u8) -> bool
 }
 
 // Whether the sixteen bytes at a place lack the byte b, looked at in the same way.
+#[tactic(auto, using(crate::proofs::Runs::lack_cases))]
 pub fn sixteen_lack(s: &[u8], at: usize, b: u8) -> bool
     requires { at + 16 ≤ length s.now }
     ensures { result ≡ lacks b s.now at 16 }
@@ -45,6 +47,7 @@ pub fn sixteen_lack(s: &[u8], at: usize, b: u8) -> bool
 }
 
 // A place that no byte b stands before, from `at` on, by sixteen bytes a turn.
+#[tactic(auto, using(crate::proofs::Runs::runs))]
 fn past_sixteens(s: &[u8], at: usize, b: u8) -> usize
     requires { at ≤ length s.now }
     ensures { Lacking b s.now at result }
@@ -60,6 +63,7 @@ fn past_sixteens(s: &[u8], at: usize, b: u8) -> usize
 }
 
 // A place that no byte b stands before, from `at` on, by sixteen bytes a turn and then by eight.
+#[tactic(auto, using(crate::proofs::Runs::runs))]
 pub fn past_lacking(s: &[u8], at: usize, b: u8) -> usize
     ensures { Lacking b s.now at result }
 {
@@ -135,6 +139,7 @@ pub enum EventWord {
 }
 
 // The first field of a line: its kind of event.
+#[tactic(auto, unfolding(rules::specs::Basic::on_some, rules::specs::Basic::word_in, crate::specs::Words::event_word_in))]
 pub fn event_word(f: &[u8]) -> Option<EventWord>
     ensures { on_some event_word_in result ≡ word_in f.now event_words }
 {
@@ -178,6 +183,7 @@ pub enum BlockKind {
 }
 
 // The kind of a block that starts or ends.
+#[tactic(auto, unfolding(rules::specs::Basic::on_some, rules::specs::Basic::word_in, crate::specs::Words::block_in))]
 pub fn block_kind(f: &[u8]) -> Option<BlockKind>
     ensures { on_some block_in result ≡ word_in f.now block_kinds }
 {
@@ -198,6 +204,7 @@ pub enum ValueKind {
 }
 
 // The kind of a value.
+#[tactic(auto, unfolding(rules::specs::Basic::on_some, rules::specs::Basic::word_in, crate::specs::Words::kind_in))]
 pub fn value_kind(f: &[u8]) -> Option<ValueKind>
     ensures { on_some kind_in result ≡ word_in f.now value_kinds }
 {
@@ -220,6 +227,7 @@ pub enum ConfigKey {
 }
 
 // A config key, with its brackets.
+#[tactic(auto, using(rules::proofs::Ascii::word_chars), unfolding(rules::specs::Basic::on_some, rules::specs::Basic::word_in, rules::proofs::Ascii::all_ascii, crate::specs::Words::key_in))]
 pub fn config_key(f: &[u8]) -> Option<ConfigKey>
     ensures { on_some key_in result ≡ word_in (chars f.now) config_keys }
 {
@@ -244,6 +252,7 @@ pub enum Define {
 }
 
 // The value of a `[mode]` or `[define]` line.
+#[tactic(auto, using(rules::proofs::Ascii::word_chars), unfolding(rules::specs::Basic::on_some, rules::specs::Basic::word_in, rules::proofs::Ascii::all_ascii, crate::specs::Words::define_of))]
 pub fn define_mode(f: &[u8]) -> Option<Define>
     ensures { on_some define_of result ≡ word_in (chars f.now) define_words }
 {
@@ -275,6 +284,7 @@ pub enum Duplicate {
 }
 
 // The value of a `[duplicate]` line.
+#[tactic(auto, using(rules::proofs::Ascii::word_chars), unfolding(rules::specs::Basic::on_some, rules::specs::Basic::word_in, rules::proofs::Ascii::all_ascii, crate::specs::Words::duplicate_of))]
 pub fn duplicate_mode(f: &[u8]) -> Option<Duplicate>
     ensures { on_some duplicate_of result ≡ word_in (chars f.now) duplicate_words }
 {

@@ -9,6 +9,7 @@ use Rattle.rules.specs.Basic.{all}
 use Rattle.rules.specs.Utf8.{is_inside}
 use Rattle.rules.specs.Event.{Span}
 use Rattle.rules.specs.Answer.{is_good_span}
+use Rattle.rules.proofs.Basics.{and_assoc, and_true}
 use Rattle.parts.specs.declared.Span.{Span as View}
 use Rattle.parts.specs.Views.{span_in}
 use Rattle.spans.specs.Goods.{Goods}
@@ -34,14 +35,6 @@ module _ (text : List ℕ) (s : View) where
       span_is q p = simp (le-leb _ _ h, le-leb _ _ g, sym e ∙ q, p)
 
 -- ---- some spans
-and_assoc : (a b c : Bool) → ((a && b) && c) ≡ (a && (b && c))
-and_assoc true b c = refl
-and_assoc false b c = refl
-
-and_true : (a : Bool) → (a && true) ≡ a
-and_true true = refl
-and_true false = refl
-
 all_append : (f : Span → Bool) (xs ys : List Span) → all f (xs ++ ys) ≡ (all f xs && all f ys)
 unfolding all
 all_append f [] ys = refl

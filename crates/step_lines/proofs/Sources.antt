@@ -116,6 +116,9 @@ module _ (text : List ℕ) (s : Span) (g : is_good_span text (length text) (span
   pub span_end : s.end ≤ length text
   span_end = good.end
 
+  pub span_inside : (s.end ≤ length text) × (s.start ≤ s.end)
+  span_inside = (good.end, good.order)
+
   -- its source, written as it stands
   pub source_spell : is_utf8 text ≡ true → spell (source_text text (span_in s)) ≡ escape (take (s.end - s.start) (drop s.start text))
   unfolding source_text span_in

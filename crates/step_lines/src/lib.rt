@@ -261,6 +261,7 @@ pub fn text_piece(rest: &mut [u8], line: &[u8], body: TextView) -> usize
 }
 
 // The source of a span, escaped.
+#[tactic(auto, using(crate::proofs::Sources::span_inside))]
 pub fn source_piece(rest: &mut [u8], text: &Utf8, span: Span) -> usize
     requires { is_good_span text.now.bytes.now (length text.now.bytes.now) (span_in span) ≡ true }
     ensures { Put (spell (source_text text.now.bytes.now (span_in span))) rest.old 0 rest.new result }

@@ -32,7 +32,7 @@ use Rattle.model.specs.declared.Noted.{Noted}
 use Rattle.model.specs.declared.Held.{Held}
 use Rattle.memory.specs.Pushes.{FindingPushed}
 use Rattle.memory.proofs.Smalls.{with_inline_lem}
-use Rattle.memory.proofs.Bounds.{sound_inline, fit_inline}
+use Rattle.memory.proofs.Bounds.{sound_inline, fit_counts}
 use Rattle.blocks.specs.Lined.{ItemsPushed}
 use Rattle.blocks.proofs.Lines.{components_of, found_one, found_at, went_none}
 use Rattle.blocks.proofs.Fitting.{items_fit, items_sound}
@@ -79,7 +79,7 @@ module _ {n m : ℕ} (h : Held) {r : Held} (l : h.counts.inline + m ≤ 100000) 
   pieces_pushed =
       record {
         told = λ ps e f. record { is = pushed_is ps e f; sound = λ w z. items_sound p w (sound_inline z (h.counts.inline + m) l) };
-        fit = λ sheet w a. items_fit p sheet w (fit_inline a (h.counts.inline + m));
+        fit = λ sheet w a. items_fit p sheet w (fit_counts refl refl a);
       }
 
 pub pieces_pushed_at : {n m : ℕ} {h k r : Held} → h.counts.inline + m ≤ 100000 → k ≡ with_inline (h.counts.inline + m) h → ItemsPushed n k r → PiecesPushed n m h r

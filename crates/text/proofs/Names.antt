@@ -99,3 +99,9 @@ module _ (a b : List ℕ) (i j : Cursor) (p q : Option (ℕ × Cursor)) (ep : to
 pub fewer : (s : List ℕ) (i : Cursor) (p : Option (ℕ × Cursor)) → told s p ≡ rest s i → (x : ℕ) (k : Cursor) → p ≡ Some (x, k) → length (rest s k) < length (rest s i)
 unfolding told
 fewer s i p e x k h = omega (arith, ap length (rw h at e))
+
+pub ruleset emit_cases = (emit_1, emit_2, emit_3)
+
+pub ruleset next_cases = (next_0, next_1, next_2)
+
+pub ruleset rest_cases = (both_end, left_end, right_end, differ, fewer, agree)

@@ -313,3 +313,7 @@ module _ (s : List ℕ) (h : 2 ≤ length s) where
 
 pub sharp_seam : {a b : List ℕ} → StartsSs a → StartsSs b → Seam a b 2
 sharp_seam {a} {b} v w = same_front a b 2 (115 ∷ 115 ∷ []) v.long w.long v.is w.is
+
+pub ruleset pair_cases = (pair_same, pair_other, first_short_lem, first_other, first_three, second_short_lem, second_other, two_two, two_three, three_any)
+
+pub ruleset settled_cases = (settled_apart, settled_level, first_differs, first_past, second_differs, second_past, unclear_any)

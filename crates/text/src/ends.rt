@@ -35,6 +35,7 @@ pub(crate) fn last_of(s: &[u8], d: Dropped) -> Last
 }
 
 // The place after the last character that stays, with each character read from the start on.
+#[tactic(auto, using(content::proofs::Compare::sizes))]
 pub(crate) fn forward_end(s: &[u8], d: Dropped) -> usize
     ensures { EndAt (drops_of d) s.now result }
 {

@@ -38,6 +38,7 @@ fn is_dropped(d: Dropped, c: u32) -> bool
 }
 
 // The place of the first character that stays.
+#[tactic(auto, using(content::proofs::Compare::sizes))]
 pub fn start_of(s: &[u8], d: Dropped) -> usize
     ensures { StartAt (drops_of d) s.now result }
 {
@@ -248,6 +249,7 @@ pub fn start() -> Cursor
 }
 
 // The first of a folding's code points, with the others pending, before the text from at on.
+#[tactic(auto, using(crate::proofs::Names::emit_cases))]
 fn emit(f: Folded, at: usize) -> Option<(u32, Cursor)>
     ensures { result ≡ step_of f at }
 {
@@ -288,6 +290,7 @@ fn fresh(s: &[u8], at: usize) -> Option<(u32, Cursor)>
 }
 
 // The next folded code point.
+#[tactic(auto, using(crate::proofs::Names::next_cases))]
 pub fn next_folded(s: &[u8], c: Cursor) -> Option<(u32, Cursor)>
     ensures { told s.now result ≡ rest s.now c }
 {
@@ -313,6 +316,7 @@ pub fn next_folded(s: &[u8], c: Cursor) -> Option<(u32, Cursor)>
 }
 
 // Whether two fields have the same folding, their blanks collapsed: both folded as they are read.
+#[tactic(auto, using(crate::proofs::Names::rest_cases))]
 fn same_rest(a: &[u8], b: &[u8]) -> bool
     ensures { result ≡ same_name (kept_in a.now) (kept_in b.now) }
 {

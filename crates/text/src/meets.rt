@@ -24,6 +24,7 @@ pub(crate) enum Pair {
     Several,
 }
 
+#[tactic(auto, using(crate::proofs::Pairs::pair_cases))]
 pub(crate) fn paired(f: Folded, g: Folded) -> Pair
     ensures { result ≡ pair_of f g }
 {
@@ -78,6 +79,7 @@ fn following(s: &[u8], at: usize, z: u32) -> Next
 }
 
 // By the two, and one more character where one is to follow.
+#[tactic(auto, using(crate::proofs::Pairs::settled_cases))]
 pub(crate) fn meet_on(a: &[u8], i: usize, b: &[u8], j: usize, p: Pair) -> Meeting
     requires { (i ≤ length a.now) × (j ≤ length b.now) }
     ensures { Settled a.now i b.now j p result }

@@ -35,7 +35,7 @@ use Rattle.model.specs.Memory.{state_of, state_in, Sound}
 use Rattle.model.specs.Small.{with_timers}
 use Rattle.model.specs.declared.Held.{Held}
 use Rattle.memory.proofs.Smalls.{with_timers_lem}
-use Rattle.memory.proofs.Bounds.{sound_timers, fit_timers}
+use Rattle.memory.proofs.Bounds.{sound_timers, fit_counts}
 use Rattle.memory.specs.Reports.{Reported, nothing, more}
 use Rattle.memory.proofs.Reports.{reported_seq, reported_as, reported_is, reported_fit, reported_sound}
 use Rattle.checks.proofs.Laws.{nothing_found, one_found, none_found, said, textual_not}
@@ -158,7 +158,7 @@ module _ {h r : Held} (l : h.counts.timers < 100000) (p : ItemsPushed 1 (with_ti
   timer_pushed =
       record {
         told = λ t. record { is = pushed_is t; sound = λ w z. items_sound p w (sound_timers z (h.counts.timers + 1) (omega arith)) };
-        fit = λ sheet w a. items_fit p sheet w (fit_timers a (h.counts.timers + 1));
+        fit = λ sheet w a. items_fit p sheet w (fit_counts refl refl a);
       }
 
 pub timer_pushed_at : {h k r : Held} → h.counts.timers < 100000 → k ≡ with_timers (h.counts.timers + 1) h → ItemsPushed 1 k r → TimerPushed h r

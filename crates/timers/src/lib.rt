@@ -43,6 +43,7 @@ fn text_finding(kind: ValueKind, s: Span) -> Option<Noted>
 }
 
 // 22 where a unit is not of time, 23 where it is unknown.
+#[tactic(auto, unfolding(crate::specs::Timed::time_code, rules::specs::Basic::on_some, units::specs::Quantities::physical_in, rules::specs::Units::same_physical, rules::specs::Units::physical_number))]
 fn time_code(p: Option<Physical>) -> Option<u32>
     ensures { result ≡ time_code (on_some physical_in p) }
 {

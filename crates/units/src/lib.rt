@@ -17,6 +17,7 @@ pub enum Physical {
 }
 
 // Whether the second field of a line is the word of a physical quantity.
+#[tactic(auto, unfolding(rules::specs::Basic::is_some, rules::specs::Basic::word_in))]
 fn is_physical(f: &[u8]) -> bool
     ensures { result ≡ is_some (word_in f.now physical_words) }
 {

@@ -8,8 +8,9 @@ use lib.Dec.{leb, ltb, eqb}
 use lib.ListN.{length, get_or, get_or-eq_default}
 use borrow.Author.Tests.{ltb-true, ltb-false, le-leb, lt-leb, eq-eqb, ne_eqb, not-true, not-false}
 use Rattle.rules.specs.Basic.{pick}
+use Rattle.rules.proofs.Basics.{or_left, or_right, and_true, and_false}
 use Rattle.rules.specs.Utf8.{lowest, highest, second, later, sized, is_inside}
-use Rattle.std.specs.Prelude.{Option, None, Some}
+use Rattle.std.specs.Prelude.{None, Some}
 use Rattle.utf8.specs.Decoding.{char_with, decoded_as}
 
 pub byte_past : (s : List ℕ) (at : ℕ) → length s ≤ at → 0 ≡ get_or s at 0
@@ -54,27 +55,10 @@ module _ (a : ℕ) where
 
 -- ---- the second byte: outside of 0x80 to 0xbf it is none, and inside four first bytes have one bound of their own
 
-or_left : (t u : Bool) → (t || u) ≡ false → t ≡ false
-or_left true u e = e
-or_left false u e = refl
-
-or_right : (t u : Bool) → (t || u) ≡ false → u ≡ false
-or_right true true e = e
-or_right true false e = refl
-or_right false u e = e
-
 or_other : (t u : Bool) → (t || u) ≡ true → t ≡ false → u ≡ true
 or_other true true e f = refl
 or_other true false e f = sym f
 or_other false u e f = e
-
-and_true : (t : Bool) → (t && true) ≡ t
-and_true true = refl
-and_true false = refl
-
-and_false : (t : Bool) → (t && false) ≡ false
-and_false true = refl
-and_false false = refl
 
 lowest_least : (a : ℕ) → 0x80 ≤ lowest a
 unfolding lowest
@@ -203,3 +187,9 @@ three_none a b = go (second a b) refl
     go : (t : Bool) → t ≡ second a b → None ≡ decoded_as 3 (sized 3 a (b ∷ 0 ∷ []))
     go false e = three_fault a b false e 0 refl
     go true e = three_fault_2 a b true e 0 false (later_low 0 (omega arith)) refl refl
+
+pub ruleset second_cases = (second_out, second_e0, second_ed, second_f0, second_f4, second_else)
+
+pub ruleset three_cases = (three_fault, three_fault_2, three_char)
+
+pub ruleset four_cases = (four_fault, four_fault_2, four_fault_3, four_char)

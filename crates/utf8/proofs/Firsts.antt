@@ -108,3 +108,7 @@ module _ (s : List ℕ) (at : ℕ) (h : at < length s) where
 
   pub three_end : 224 ≤ get_or s at 0 → get_or s at 0 < 240 → length s ≤ at + 2 → None ≡ decoded_of (drop at s)
   three_end l m k = three_at (get_or s (at + 1) 0) refl None 0 (byte_past s (at + 2) k) l m (three_none (get_or s at 0) (get_or s (at + 1) 0))
+
+pub ruleset first_cases = (first_empty, first_one, first_low, first_two, first_three, first_four, first_high)
+
+pub ruleset wide_cases = (low_at, two_end, two_fault_at, two_char_at, three_end, three_at)

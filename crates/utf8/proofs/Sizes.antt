@@ -7,7 +7,7 @@ use lib.ListN.{length, get_or, drop}
 use Rattle.rules.specs.Utf8.{second, later}
 use Rattle.utf8.specs.declared.Char.{Char}
 use Rattle.std.specs.Prelude.{Option, None, Some}
-use Rattle.utf8.specs.Decoding.{char_with, decoded_of, decoded_size}
+use Rattle.utf8.specs.Decoding.{decoded_of, decoded_size}
 use Rattle.utf8.proofs.Bytes.{three_fault, three_fault_2, three_char}
 use Rattle.utf8.proofs.Firsts.{low_at, two_fault_at, two_char_at, three_at}
 
@@ -48,3 +48,5 @@ module _ (s : List ℕ) (at : ℕ) (h : at < length s) where
 
         pub three_size : not u ≡ false → 3 ≡ decoded_size (decoded_of (drop at s))
         three_size o = char_size (drop at s) (three_at s at h b eb _ c ec l m (three_char (get_or s at 0) b t et c u eu n o _ _ _ refl refl refl))
+
+pub ruleset size_cases = (low_size, two_miss, two_size, three_miss, three_miss_2, three_size, size_fault, size_char)

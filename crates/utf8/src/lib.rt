@@ -30,6 +30,7 @@ fn byte(s: &[u8], at: usize) -> u8
     0
 }
 
+#[tactic(auto, using(crate::proofs::Bytes::second_cases))]
 fn is_second(a: u8, b: u8) -> bool
     ensures { result ≡ second a b }
 {
@@ -70,6 +71,7 @@ fn two(a: u8, b: u8) -> Option<Char>
     })
 }
 
+#[tactic(auto, using(crate::proofs::Bytes::three_cases))]
 fn three(a: u8, b: u8, c: u8) -> Option<Char>
     ensures { result ≡ decoded_as 3 (sized 3 a (b ∷ c ∷ [])) }
 {
@@ -85,6 +87,7 @@ fn three(a: u8, b: u8, c: u8) -> Option<Char>
     })
 }
 
+#[tactic(auto, using(crate::proofs::Bytes::four_cases))]
 fn four(a: u8, b: u8, c: u8, d: u8) -> Option<Char>
     ensures { result ≡ decoded_as 4 (sized 4 a (b ∷ c ∷ d ∷ [])) }
 {
@@ -107,6 +110,7 @@ fn four(a: u8, b: u8, c: u8, d: u8) -> Option<Char>
 }
 
 // The character that s starts with.
+#[tactic(auto, using(crate::proofs::Firsts::first_cases))]
 fn first(s: &[u8]) -> Option<Char>
     ensures { result ≡ decoded_of s.now }
 {
@@ -147,6 +151,7 @@ fn decode(s: &[u8], at: usize) -> Option<Char>
 }
 
 // The same at a byte that is not ASCII: most characters there have two or three bytes.
+#[tactic(auto, using(crate::proofs::Firsts::wide_cases))]
 fn wide_at(s: &[u8], at: usize) -> Option<Char>
     requires { (at < length s.now) × (128 ≤ get_or s.now at 0) }
     ensures { result ≡ decoded_of (drop at s.now) }
@@ -180,6 +185,7 @@ fn wide_at(s: &[u8], at: usize) -> Option<Char>
 }
 
 // How many bytes the character takes that starts at a byte that is not ASCII; 0 where none does.
+#[tactic(auto, using(crate::proofs::Sizes::size_cases))]
 fn wide_size(s: &[u8], at: usize) -> usize
     requires { (at < length s.now) × (128 ≤ get_or s.now at 0) }
     ensures { result ≡ decoded_size (decoded_of (drop at s.now)) }

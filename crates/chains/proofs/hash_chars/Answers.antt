@@ -1,4 +1,3 @@
-use native.Mathlib.Omega.{arith}
 use mathlib.Core.Path.{refl}
 use Rattle.content.proofs.Compare.{chars_step, ascii_chars, chars_ending}
 use Rattle.chains.proofs.Hashing.{hash_starts, hash_on, hash_ends}
@@ -9,16 +8,6 @@ loop-i-init c = hash_starts _ _
 
 pub loop-i-preserved-then-a-lt128 : goal.loop-i-preserved-then-a-lt128
 loop-i-preserved-then-a-lt128 c = hash_on c.loop-i.invariant (ascii_chars c.loop-i-test.true refl c.if-a-lt128.true) c.mixed-h.ensures.0 c.mixed-h.ensures.1
-
-pub overflow_add-i-else-a-lt128 : goal.overflow_add-i-else-a-lt128
-overflow_add-i-else-a-lt128 c =
-    let k = chars_step c.loop-i-test.true c.char_at-c.ensures in
-    omega (arith, k.most)
-
-pub loop-i-smaller : goal.loop-i-smaller
-loop-i-smaller c =
-    let k = chars_step c.loop-i-test.true c.char_at-c.ensures in
-    omega (arith, k.most, k.least)
 
 pub loop-i-preserved : goal.loop-i-preserved
 loop-i-preserved c = hash_on c.loop-i.invariant (chars_step c.loop-i-test.true c.char_at-c.ensures) c.mixed-h-else-a-lt128.ensures.0 c.mixed-h-else-a-lt128.ensures.1

@@ -14,20 +14,8 @@ overflow_cast-a c = record { fits = omega (arith, plain_low _ c.is_plain.ensures
 pub loop-i-preserved-then-is_plain : goal.loop-i-preserved-then-is_plain
 loop-i-preserved-then-is_plain c = hash_on c.loop-i.invariant (plain_content c.loop-i-test.true refl (sym c.is_plain.ensures ∙ c.if-is_plain.true)) c.mixed-h.ensures.0 c.mixed-h.ensures.1
 
-pub overflow_add-i-then-a-ge128 : goal.overflow_add-i-then-a-ge128
-overflow_add-i-then-a-ge128 c = omega (arith, (content_on c.loop-i-test.true (wide_in _ _ c.loop-i-test.true c.if-a-ge128.true c.char_near-c.ensures)).most)
-
-pub loop-i-smaller-then-a-ge128 : goal.loop-i-smaller-then-a-ge128
-loop-i-smaller-then-a-ge128 c = let k = content_on c.loop-i-test.true (wide_in _ _ c.loop-i-test.true c.if-a-ge128.true c.char_near-c.ensures) in omega (arith, k.most, k.least)
-
 pub loop-i-preserved-then-a-ge128 : goal.loop-i-preserved-then-a-ge128
 loop-i-preserved-then-a-ge128 c = hash_on c.loop-i.invariant (content_on c.loop-i-test.true (wide_in _ _ c.loop-i-test.true c.if-a-ge128.true c.char_near-c.ensures)) c.mixed-h-then-a-ge128.ensures.0 c.mixed-h-then-a-ge128.ensures.1
-
-pub overflow_add-i-else-a-ge128 : goal.overflow_add-i-else-a-ge128
-overflow_add-i-else-a-ge128 c = omega (arith, (content_on c.loop-i-test.true c.char_in-c.ensures).most)
-
-pub loop-i-smaller : goal.loop-i-smaller
-loop-i-smaller c = let k = content_on c.loop-i-test.true c.char_in-c.ensures in omega (arith, k.most, k.least)
 
 pub loop-i-preserved : goal.loop-i-preserved
 loop-i-preserved c = hash_on c.loop-i.invariant (content_on c.loop-i-test.true c.char_in-c.ensures) c.mixed-h-else-a-ge128.ensures.0 c.mixed-h-else-a-ge128.ensures.1

@@ -13,16 +13,6 @@ overflow_cast-a c = record { fits = omega (arith, plain_low _ c.is_plain.ensures
 pub loop-i-preserved-then-is_plain : goal.loop-i-preserved-then-is_plain
 loop-i-preserved-then-is_plain c = hash_on c.loop-i.invariant (plain_kept c.loop-i-test.true refl (sym c.is_plain.ensures ∙ c.if-is_plain.true)) c.mixed-h.ensures.0 c.mixed-h.ensures.1
 
-pub overflow_add-i-else-is_plain : goal.overflow_add-i-else-is_plain
-overflow_add-i-else-is_plain c =
-    let k = kept_step c.kept_char-c.ensures in
-    omega (arith, k.most)
-
-pub loop-i-smaller : goal.loop-i-smaller
-loop-i-smaller c =
-    let k = kept_step c.kept_char-c.ensures in
-    omega (arith, k.most, k.least)
-
 pub loop-i-preserved : goal.loop-i-preserved
 loop-i-preserved c = hash_on c.loop-i.invariant (kept_step c.kept_char-c.ensures) c.mixed-h-else-is_plain.ensures.0 c.mixed-h-else-is_plain.ensures.1
 

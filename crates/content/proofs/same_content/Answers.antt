@@ -1,4 +1,3 @@
-use native.Mathlib.Omega.{arith}
 use Prim.Native.Nat.{◌-◌}
 use mathlib.Core.Path.{refl}
 use Rattle.content.proofs.Compare.{comparing, kept_step, chars_step, plain_kept, plain_chars, plain_on, compare_on, compare_differ, compare_longer, compare_end, kept_ending, chars_ending}
@@ -15,21 +14,6 @@ loop-i-preserved-then-same_plain c = plain_on c.loop-i.invariant c.same_plain.en
 
 pub returns-then-a-b : goal.returns-then-a-b
 returns-then-a-b c = compare_differ c.loop-i.invariant (kept_step c.kept_char-a.ensures) (chars_step c.if-w-j.false c.char_at-b.ensures) c.if-a-b.true
-
-pub overflow_add-i-else-same_plain : goal.overflow_add-i-else-same_plain
-overflow_add-i-else-same_plain c =
-    let k = kept_step c.kept_char-a.ensures in
-    omega (arith, k.most)
-
-pub overflow_add-j-else-same_plain : goal.overflow_add-j-else-same_plain
-overflow_add-j-else-same_plain c =
-    let k = chars_step c.if-w-j.false c.char_at-b.ensures in
-    omega (arith, k.most)
-
-pub loop-i-smaller : goal.loop-i-smaller
-loop-i-smaller c =
-    let k = kept_step c.kept_char-a.ensures in
-    omega (arith, k.most, k.least)
 
 pub loop-i-preserved : goal.loop-i-preserved
 loop-i-preserved c = compare_on c.loop-i.invariant (kept_step c.kept_char-a.ensures) (chars_step c.if-w-j.false c.char_at-b.ensures) c.if-a-b.false

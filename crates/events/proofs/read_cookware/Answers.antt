@@ -1,11 +1,7 @@
 use Rattle.rules.specs.Read.{read_cookware}
 use Rattle.events.specs.Views.{event_in, inside_in, EventWithin, InsideWithin, component_event_in, ComponentEventWithin}
-use Rattle.parts.proofs.Sequence.{gives, reads, failed, good_of, ends, stop}
+use Rattle.parts.proofs.Sequence.{gives, reads, good_of, ends}
 use Rattle.events.proofs.read_cookware.Goals as goal
-
-pub returns-in_err-component : goal.returns-in_err-component
-unfolding read_cookware
-returns-in_err-component c = failed c.from_residual.ensures (stop c.in_err-component.ensures _)
 
 pub returns : goal.returns
 unfolding read_cookware event_in inside_in EventWithin InsideWithin component_event_in ComponentEventWithin

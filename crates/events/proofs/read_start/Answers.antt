@@ -1,11 +1,7 @@
 use Rattle.rules.specs.Read.{read_start}
 use Rattle.events.specs.Views.{event_in, between_in, EventWithin, BetweenWithin}
-use Rattle.parts.proofs.Sequence.{gives, reads, failed, goes, stop}
+use Rattle.parts.proofs.Sequence.{gives, reads, goes}
 use Rattle.events.proofs.read_start.Goals as goal
-
-pub returns-in_err-kind : goal.returns-in_err-kind
-unfolding read_start
-returns-in_err-kind c = failed c.from_residual.ensures (stop c.in_err-kind.ensures _)
 
 pub returns : goal.returns
 unfolding read_start event_in between_in EventWithin BetweenWithin

@@ -9,7 +9,7 @@ pub loop-i-init : goal.loop-i-init
 loop-i-init c = list_starts c.begin-n.ensures
 
 pub finding-requires : goal.finding-requires
-finding-requires c = omega (arith, c.loop-i-test.true, c.args.stored.now.sound.room.findings)
+finding-requires c = omega (arith, c.loop-i-test.true, c.args.stored.now.sound.room.others.findings)
 
 pub loop-i-preserved : goal.loop-i-preserved
 loop-i-preserved c = list_on c.loop-i.invariant c.loop-i-test.true c.finding.ensures c.put_finding-n.ensures

@@ -1,10 +1,8 @@
-use native.Mathlib.Omega.{arith}
 use Prim.Native.Nat.{◌-◌}
 use borrow.Author.Tests.{not-true, not-false}
 use mathlib.Core.Path.{sym, ◌∙◌}
 use Rattle.inline.proofs.Wide.{solid_stops}
 use Rattle.inline.proofs.Scans.{going_start, going_stop, going_on, going_end}
-use Rattle.content.proofs.Chars.{content_step}
 use Rattle.rules.specs.Unicode.{is_white_space}
 use Rattle.inline.proofs.blanks_end.Goals as goal
 
@@ -16,12 +14,6 @@ returns-then-is_solid c = solid_stops c.loop-i.invariant c.loop-i-test.true c.is
 
 pub returns-then-not-is_white_space : goal.returns-then-not-is_white_space
 returns-then-not-is_white_space c = going_stop c.loop-i.invariant _ c.loop-i-test.true c.char_in-c.ensures (sym c.is_white_space.ensures ∙ not-true _ c.if-not-is_white_space.true-raw)
-
-pub overflow_add-i : goal.overflow_add-i
-overflow_add-i c = omega (arith, (content_step _ _ _ c.loop-i-test.true c.char_in-c.ensures).most)
-
-pub loop-i-smaller : goal.loop-i-smaller
-loop-i-smaller c = let k = content_step _ _ _ c.loop-i-test.true c.char_in-c.ensures in omega (arith, k.most, k.least)
 
 pub loop-i-preserved : goal.loop-i-preserved
 loop-i-preserved c = going_on c.loop-i.invariant _ c.loop-i-test.true c.char_in-c.ensures (sym c.is_white_space.ensures ∙ not-false _ c.if-not-is_white_space.false-raw)

@@ -1,8 +1,8 @@
 use native.Mathlib.Omega.{arith}
 use Prim.Native.Nat.{◌-◌}
-use Rattle.content.proofs.Chars.{content_step}
-use Rattle.inline.proofs.Scans.{going_start, going_stop, going_on, going_end, digit_stops, digit_none}
+use Rattle.inline.proofs.Scans.{going_start, going_stop, going_on, going_end, stops_at, goes_by}
 use Rattle.inline.proofs.Wide.{wide_passed}
+use Rattle.rules.specs.Inline.{is_no_digit}
 use Rattle.inline.proofs.next_digit.Goals as goal
 
 pub loop-i-init : goal.loop-i-init
@@ -20,18 +20,12 @@ pub loop-i-preserved-then-a-ge128 : goal.loop-i-preserved-then-a-ge128
 loop-i-preserved-then-a-ge128 c = (wide_passed c.loop-i.invariant c.loop-i-test.true c.if-a-ge128.true c.lead_size-i.ensures).still
 
 pub returns-then-is_digit : goal.returns-then-is_digit
-returns-then-is_digit c = going_stop c.loop-i.invariant _ c.loop-i-test.true c.char_in-c.ensures (digit_stops _ c.is_digit.ensures c.if-is_digit.true)
-
-pub overflow_add-i-else-a-ge128 : goal.overflow_add-i-else-a-ge128
-overflow_add-i-else-a-ge128 c = omega (arith, (content_step _ _ _ c.loop-i-test.true c.char_in-c.ensures).most)
-
-pub loop-i-smaller : goal.loop-i-smaller
-loop-i-smaller c =
-    let k = content_step _ _ _ c.loop-i-test.true c.char_in-c.ensures in
-    omega (arith, k.most, k.least)
+unfolding is_no_digit
+returns-then-is_digit c = going_stop c.loop-i.invariant _ c.loop-i-test.true c.char_in-c.ensures (stops_at c.is_digit.ensures c.if-is_digit.true)
 
 pub loop-i-preserved : goal.loop-i-preserved
-loop-i-preserved c = going_on c.loop-i.invariant _ c.loop-i-test.true c.char_in-c.ensures (digit_none _ c.is_digit.ensures c.if-is_digit.false)
+unfolding is_no_digit
+loop-i-preserved c = going_on c.loop-i.invariant _ c.loop-i-test.true c.char_in-c.ensures (goes_by c.is_digit.ensures c.if-is_digit.false)
 
 pub returns : goal.returns
 returns c = going_end c.loop-i.invariant c.loop-i-test.false

@@ -1,10 +1,8 @@
-use native.Mathlib.Omega.{arith}
 use Prim.Native.Nat.{◌-◌}
 use borrow.Author.Tests.{not-true, not-false}
 use mathlib.Core.Path.{sym, ◌∙◌}
 use Rattle.inline.proofs.Wide.{wide_stops}
 use Rattle.inline.proofs.Scans.{going_start, going_stop, going_on, going_end}
-use Rattle.content.proofs.Chars.{content_step}
 use Rattle.rules.specs.Inline.{is_digit_or_point}
 use Rattle.inline.proofs.number_end.Goals as goal
 
@@ -16,12 +14,6 @@ returns-then-s-i-ge128 c = wide_stops c.loop-i.invariant c.loop-i-test.true c.if
 
 pub returns-then-not-is_digit_or_point : goal.returns-then-not-is_digit_or_point
 returns-then-not-is_digit_or_point c = going_stop c.loop-i.invariant _ c.loop-i-test.true c.char_in-c.ensures (sym c.is_digit_or_point.ensures ∙ not-true _ c.if-not-is_digit_or_point.true-raw)
-
-pub overflow_add-i : goal.overflow_add-i
-overflow_add-i c = omega (arith, (content_step _ _ _ c.loop-i-test.true c.char_in-c.ensures).most)
-
-pub loop-i-smaller : goal.loop-i-smaller
-loop-i-smaller c = let k = content_step _ _ _ c.loop-i-test.true c.char_in-c.ensures in omega (arith, k.most, k.least)
 
 pub loop-i-preserved : goal.loop-i-preserved
 loop-i-preserved c = going_on c.loop-i.invariant _ c.loop-i-test.true c.char_in-c.ensures (sym c.is_digit_or_point.ensures ∙ not-false _ c.if-not-is_digit_or_point.false-raw)

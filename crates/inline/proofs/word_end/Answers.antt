@@ -1,8 +1,8 @@
 use native.Mathlib.Omega.{arith}
 use Prim.Native.Nat.{◌-◌}
-use Rattle.content.proofs.Chars.{content_step}
-use Rattle.inline.proofs.Scans.{going_start, going_stop, going_on, going_end, white_stops, white_none}
+use Rattle.inline.proofs.Scans.{going_start, going_stop, going_on, going_end, stops_at, goes_by}
 use Rattle.inline.proofs.Wide.{solid_passed, e3_passed}
+use Rattle.inline.specs.Scans.{is_not_white}
 use Rattle.inline.proofs.word_end.Goals as goal
 
 pub loop-i-init : goal.loop-i-init
@@ -29,17 +29,12 @@ pub loop-i-preserved-then-is_solid_e3 : goal.loop-i-preserved-then-is_solid_e3
 loop-i-preserved-then-is_solid_e3 c = (e3_passed c.loop-i.invariant c.loop-i-test.true c.is_solid_e3.ensures c.if-is_solid_e3.true).still
 
 pub returns-then-is_white_space : goal.returns-then-is_white_space
-returns-then-is_white_space c = going_stop c.loop-i.invariant _ c.loop-i-test.true c.char_in-c.ensures (white_stops _ c.is_white_space.ensures c.if-is_white_space.true)
-
-pub overflow_add-i-else-is_solid_e3 : goal.overflow_add-i-else-is_solid_e3
-overflow_add-i-else-is_solid_e3 c = omega (arith, (content_step _ _ _ c.loop-i-test.true c.char_in-c.ensures).most)
-
-pub loop-i-smaller : goal.loop-i-smaller
-loop-i-smaller c = let k = content_step _ _ _ c.loop-i-test.true c.char_in-c.ensures in
-    omega (arith, k.most, k.least)
+unfolding is_not_white
+returns-then-is_white_space c = going_stop c.loop-i.invariant _ c.loop-i-test.true c.char_in-c.ensures (stops_at c.is_white_space.ensures c.if-is_white_space.true)
 
 pub loop-i-preserved : goal.loop-i-preserved
-loop-i-preserved c = going_on c.loop-i.invariant _ c.loop-i-test.true c.char_in-c.ensures (white_none _ c.is_white_space.ensures c.if-is_white_space.false)
+unfolding is_not_white
+loop-i-preserved c = going_on c.loop-i.invariant _ c.loop-i-test.true c.char_in-c.ensures (goes_by c.is_white_space.ensures c.if-is_white_space.false)
 
 pub returns : goal.returns
 returns c = going_end c.loop-i.invariant c.loop-i-test.false

@@ -5,14 +5,5 @@ use Rattle.parts.proofs.past_plain.Goals as goal
 pub loop-i-init : goal.loop-i-init
 loop-i-init c = (c.past_sixteens-i.ensures.0.inside c.requires, c.past_sixteens-i.ensures.0, c.past_sixteens-i.ensures.1)
 
-pub returns-then-not-eight_lack : goal.returns-then-not-eight_lack
-returns-then-not-eight_lack c = (c.loop-i.invariant.1, c.loop-i.invariant.2)
-
-pub returns-then-not-eight_lack-2 : goal.returns-then-not-eight_lack-2
-returns-then-not-eight_lack-2 c = (c.loop-i.invariant.1, c.loop-i.invariant.2)
-
 pub loop-i-preserved : goal.loop-i-preserved
 loop-i-preserved c = (omega arith, lacking_on 8 c.loop-i.invariant.1 (omega arith) _ c.eight_lack.ensures c.if-not-eight_lack.false-raw, lacking_on 8 c.loop-i.invariant.2 (omega arith) _ c.eight_lack-in-loop-i.ensures c.if-not-eight_lack-2.false-raw)
-
-pub returns : goal.returns
-returns c = (c.loop-i.invariant.1, c.loop-i.invariant.2)

@@ -5,14 +5,5 @@ use Rattle.parts.proofs.past_sixteens.Goals as goal
 pub loop-i-init : goal.loop-i-init
 loop-i-init c = (c.requires, lacking_none _ _ _, lacking_none _ _ _)
 
-pub returns-then-not-sixteen_lack : goal.returns-then-not-sixteen_lack
-returns-then-not-sixteen_lack c = (c.loop-i.invariant.1, c.loop-i.invariant.2)
-
-pub returns-then-not-sixteen_lack-2 : goal.returns-then-not-sixteen_lack-2
-returns-then-not-sixteen_lack-2 c = (c.loop-i.invariant.1, c.loop-i.invariant.2)
-
 pub loop-i-preserved : goal.loop-i-preserved
 loop-i-preserved c = (omega arith, lacking_on 16 c.loop-i.invariant.1 (omega arith) _ c.sixteen_lack.ensures c.if-not-sixteen_lack.false-raw, lacking_on 16 c.loop-i.invariant.2 (omega arith) _ c.sixteen_lack-in-loop-i.ensures c.if-not-sixteen_lack-2.false-raw)
-
-pub returns : goal.returns
-returns c = (c.loop-i.invariant.1, c.loop-i.invariant.2)

@@ -1,19 +1,11 @@
 use Rattle.std.proofs.Common.{refl, arith}
 use Rattle.parts.specs.Views.{span_in}
 use Rattle.rules.specs.Read.{read_span}
-use Rattle.parts.proofs.Sequence.{gives, reads, failed, good_of, step, goes, stop}
+use Rattle.parts.proofs.Sequence.{gives, reads, good_of, goes}
 use Rattle.parts.proofs.read_span.Goals as goal
 
 pub near_number-requires-then-line-at-gt11 : goal.near_number-requires-then-line-at-gt11
 near_number-requires-then-line-at-gt11 c = omega (arith, c.in_ok-start.ensures.near _ _ refl)
-
-pub returns-in_err-start : goal.returns-in_err-start
-unfolding read_span
-returns-in_err-start c = failed c.from_residual.ensures (stop c.in_err-start.ensures.reads _)
-
-pub returns-in_err-end : goal.returns-in_err-end
-unfolding read_span
-returns-in_err-end c = failed c.from_residual-in_err-end.ensures (step c.in_ok-start.ensures.reads _ (stop c.in_err-end.ensures.reads _))
 
 pub returns-then-line-at-gt11 : goal.returns-then-line-at-gt11
 unfolding read_span span_in
@@ -21,14 +13,6 @@ returns-then-line-at-gt11 c =
     let p = c.in_ok-start.ensures.reads in
     let q = c.in_ok-end.ensures.reads in
     reads (goes p _ (goes q _ (gives _ _))) (record { start = good_of p; end = good_of q })
-
-pub returns-in_err-start-2 : goal.returns-in_err-start-2
-unfolding read_span
-returns-in_err-start-2 c = failed c.from_residual-in_err-start-2.ensures (stop c.in_err-start-2.ensures _)
-
-pub returns-in_err-end-2 : goal.returns-in_err-end-2
-unfolding read_span
-returns-in_err-end-2 c = failed c.from_residual-in_err-end-2.ensures (step c.in_ok-start-2.ensures _ (stop c.in_err-end-2.ensures _))
 
 pub returns : goal.returns
 unfolding read_span span_in

@@ -1,16 +1,6 @@
-use native.Mathlib.Omega.{arith}
-use Rattle.step_lines.proofs.Sources.{span_order, span_end, source_put}
+use Rattle.step_lines.proofs.Sources.{source_put}
 use Rattle.plain_lines.proofs.Lines as lines
 use Rattle.plain_lines.proofs.source_line.Goals as goal
-
-pub slice_bounds-put_escaped-count : goal.slice_bounds-put_escaped-count
-slice_bounds-put_escaped-count c = omega (arith, span_order _ _ c.requires, span_end _ _ c.requires)
-
-pub slice_bounds-put_escaped-start : goal.slice_bounds-put_escaped-start
-slice_bounds-put_escaped-start c = omega (arith, span_order _ _ c.requires, span_end _ _ c.requires)
-
-pub slice_bounds-put_escaped-end : goal.slice_bounds-put_escaped-end
-slice_bounds-put_escaped-end c = omega (arith, span_order _ _ c.requires, span_end _ _ c.requires)
 
 pub returns : goal.returns
 returns c = lines.source_line _ _ c.put_bytes-a.ensures c.put_span-b.ensures c.put_byte-c.ensures (source_put _ _ c.requires c.args.text.now.utf8 c.put_escaped-d.ensures) c.put_byte.ensures

@@ -1,6 +1,4 @@
-use native.Mathlib.Omega.{arith}
 use Prim.Native.Nat.{◌-◌}
-use Rattle.content.proofs.Chars.{content_step}
 use Rattle.text.proofs.Trims.{starting, start_end, start_here, start_on}
 use Rattle.text.proofs.start_of.Goals as goal
 
@@ -9,14 +7,6 @@ loop-at-init c = starting _ _
 
 pub returns-then-not-is_dropped : goal.returns-then-not-is_dropped
 returns-then-not-is_dropped c = start_here _ c.loop-at.invariant _ c.loop-at-test.true c.char_in-c.ensures c.is_dropped.ensures c.if-not-is_dropped.true-raw
-
-pub overflow_add-at : goal.overflow_add-at
-overflow_add-at c = omega (arith, (content_step _ _ _ c.loop-at-test.true c.char_in-c.ensures).most)
-
-pub loop-at-smaller : goal.loop-at-smaller
-loop-at-smaller c =
-    let k = content_step _ _ _ c.loop-at-test.true c.char_in-c.ensures in
-    omega (arith, k.most, k.least)
 
 pub loop-at-preserved : goal.loop-at-preserved
 loop-at-preserved c = start_on _ c.loop-at.invariant _ c.loop-at-test.true c.char_in-c.ensures c.is_dropped.ensures c.if-not-is_dropped.false-raw

@@ -1,4 +1,3 @@
-use native.Mathlib.Omega.{arith}
 use Rattle.unit_index.proofs.Searches.{bucket_of, seek_first, seek_below, seek_few, seek_less, line_in, content_gone, content_found, content_next}
 use Rattle.unit_index.proofs.find_named.Goals as goal
 
@@ -10,15 +9,6 @@ start_at-from-requires c = seek_few c.args.units.now.indexed.filled c.loop-p.inv
 
 pub line_at-u-requires : goal.line_at-u-requires
 line_at-u-requires c = rw c.start_at-from.ensures (line_in c.args.units.now.indexed.filled (seek_below c.args.units.now.indexed.filled c.loop-p.invariant c.loop-p-test.true))
-
-pub slice_bounds-same_content-count : goal.slice_bounds-same_content-count
-slice_bounds-same_content-count c = omega (arith, c.line_at-u.ensures.named)
-
-pub slice_bounds-same_content-start : goal.slice_bounds-same_content-start
-slice_bounds-same_content-start c = omega (arith, c.line_at-u.ensures.named, c.line_at-u.ensures.ended, c.line_at-u.ensures.within)
-
-pub slice_bounds-same_content-end : goal.slice_bounds-same_content-end
-slice_bounds-same_content-end c = omega (arith, c.line_at-u.ensures.ended, c.line_at-u.ensures.within)
 
 pub returns-then-same_content : goal.returns-then-same_content
 returns-then-same_content c = content_found c.args.units.now.indexed c.loop-p.invariant c.loop-p-test.true c.start_at-from.ensures c.line_at-u.ensures c.same_content.ensures c.if-same_content.true

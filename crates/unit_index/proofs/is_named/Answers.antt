@@ -1,4 +1,3 @@
-use native.Mathlib.Omega.{arith}
 use mathlib.Core.Path.{ap, sym, ◌∙◌}
 use Rattle.rules.specs.Basic.{eq_list}
 use Rattle.content.specs.Contents.{content_in}
@@ -10,15 +9,6 @@ start_at-from-requires c = line_few c.args.units.now.indexed.filled (linked_belo
 
 pub line_at-u-requires : goal.line_at-u-requires
 line_at-u-requires c = rw c.start_at-from.ensures (line_in c.args.units.now.indexed.filled (linked_below c.requires))
-
-pub slice_bounds-same_chars-count : goal.slice_bounds-same_chars-count
-slice_bounds-same_chars-count c = omega (arith, c.line_at-u.ensures.named)
-
-pub slice_bounds-same_chars-start : goal.slice_bounds-same_chars-start
-slice_bounds-same_chars-start c = omega (arith, c.line_at-u.ensures.named, c.line_at-u.ensures.ended, c.line_at-u.ensures.within)
-
-pub slice_bounds-same_chars-end : goal.slice_bounds-same_chars-end
-slice_bounds-same_chars-end c = omega (arith, c.line_at-u.ensures.ended, c.line_at-u.ensures.within)
 
 pub returns : goal.returns
 returns c = c.same_chars.ensures ∙ ap (eq_list (content_in c.args.name.now)) (sym (line_name c.args.units.now.indexed.filled (linked_below c.requires) c.start_at-from.ensures c.line_at-u.ensures))

@@ -1,27 +1,12 @@
-use native.Mathlib.Omega.{arith}
 use Prim.Native.Nat.{◌-◌}
 use Rattle.text.proofs.Trims.{ending, end_here, end_on, end_moves}
-use Rattle.content.proofs.Chars.{content_step}
 use Rattle.text.proofs.ends.forward_end.Goals as goal
 
 pub loop-at-init : goal.loop-at-init
 loop-at-init c = ending _ _
 
-pub overflow_add-at : goal.overflow_add-at
-overflow_add-at c = omega (arith, (content_step _ _ _ c.loop-at-test.true c.char_in-c.ensures).most)
-
-pub loop-at-smaller-then-not-is_dropped : goal.loop-at-smaller-then-not-is_dropped
-loop-at-smaller-then-not-is_dropped c =
-    let k = content_step _ _ _ c.loop-at-test.true c.char_in-c.ensures in
-    omega (arith, k.most, k.least)
-
 pub loop-at-preserved-then-not-is_dropped : goal.loop-at-preserved-then-not-is_dropped
 loop-at-preserved-then-not-is_dropped c = end_moves _ c.loop-at.invariant _ c.loop-at-test.true c.char_in-c.ensures c.is_dropped.ensures c.if-not-is_dropped.true-raw
-
-pub loop-at-smaller : goal.loop-at-smaller
-loop-at-smaller c =
-    let k = content_step _ _ _ c.loop-at-test.true c.char_in-c.ensures in
-    omega (arith, k.most, k.least)
 
 pub loop-at-preserved : goal.loop-at-preserved
 loop-at-preserved c = end_on _ c.loop-at.invariant _ c.loop-at-test.true c.char_in-c.ensures c.is_dropped.ensures c.if-not-is_dropped.false-raw
