@@ -12,7 +12,7 @@ use Rattle.rules.specs.Basic.{is_some, lf}
 use Rattle.rules.specs.Sheet.{more, lines}
 use Rattle.rules.specs.Event.{Event}
 use Rattle.rules.specs.Read.{parse_line}
-use Rattle.rules.specs.Input.{input_of, Context, context_of, Agrees, TextAgrees}
+use Rattle.rules.specs.Input.{Context, Agrees, TextAgrees}
 use Rattle.rules.specs.Finding.{Finding, only_parsed}
 use Rattle.rules.specs.Answer.{events, events_or, read_from, read_sheet}
 use Rattle.rules.specs.State.{State, first_state, over_limits, Walk, going, failed, refused}
@@ -112,7 +112,7 @@ first_limits = refl
 
 first_kept : (sheet w : List ℕ) → Sound w first_held → Kept sheet w first_held
 first_kept sheet w l =
-    let s = subst chained.SoundState (sym (first_state_lem sheet w)) (sound_blank first_state (chained.first_sound (context_of (input_of [] [] [] 0)))) in
+    let s = subst chained.SoundState (sym (first_state_lem sheet w)) (sound_blank first_state chained.first_sound) in
     record {
       sound = l;
       fit = first_fit sheet w;

@@ -107,6 +107,10 @@ unfolding table_of
 table_sound ingredient st s = s.0
 table_sound cookware st s = s.1
 
+pub first_sound : SoundState first_state
+unfolding first_state
+first_sound = (sound_none, sound_none)
+
 module _ (cx : Context) where
   pub by_name_sound : (k : Kind) (c : Component) (st : State) → Sound (table_of k st) → SoundMade (made_by_name cx.units cx.flags k c st)
   unfolding made_by_name made_with
@@ -145,10 +149,6 @@ module _ (cx : Context) where
       go (next after) t = state_sound after (λ k. line_related cx SoundAfter sound_onward st (next after) t k (table_sound k st s))
       go (stop n) (line_stops h) = h
       go (stop n) (line_chains k m h b) = no_truth (sym (made_sound k m st h (table_sound k st s)).to_is ∙ b)
-
-  pub first_sound : SoundState first_state
-  unfolding first_state
-  first_sound = (sound_none, sound_none)
 
   walk_sound : (es : List Event) → OnWalk SoundState NotChained (walk cx 1 (going first_state) es)
   walk_sound es = walk_keeps SoundState NotChained cx refl event_sound es 1 (going first_state) first_sound
