@@ -317,12 +317,13 @@ def main():
             todo.append((name, text))
     modules = [todo[i:i + o.per_module] for i in range(0, len(todo), o.per_module)]
     crates = [modules[i:i + o.per_crate] for i in range(0, len(modules), o.per_crate)]
-    write(os.path.join(WORK, "crates.txt"), "rules:\n" + "".join("cases%d: rules\n" % i for i in range(len(crates))))
     different, large = [], []
     started = time.time()
     equal = 0
     for i, crate in enumerate(crates):
         name = "cases%d" % i
+        # the crates of which nothing is written yet are not there
+        write(os.path.join(WORK, "crates.txt"), "rules:\n%s: rules\n" % name)
         while True:
             places = write_crate(name, crate)
             good, log = check(name)

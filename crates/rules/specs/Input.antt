@@ -2,7 +2,7 @@
 use Rattle.std.specs.Prelude.{ℕ, ◌≡◌, List}
 use Rattle.rules.specs.Units.{NamedUnit, read_units, units_or}
 
--- "an event sheet, the source text, a unit list and flags"
+-- the event sheet, the source text, the unit list and the flags
 pub record Input : Type 0 where
   pub sheet : List ℕ
   pub text : List ℕ
