@@ -1,12 +1,12 @@
 -- The parts of a case, one after the other.
-use Prim.Native.Nat.{ℕ, zero, suc, ◌+◌, ◌≤◌, ◌<◌}
-use mathlib.Core.Path.{◌≡◌, refl, ap, sym, ◌∙◌}
+use Prim.Native.Nat.{ℕ, zero, suc, ◌+◌, ◌≤◌}
+use mathlib.Core.Path.{◌≡◌, refl, sym}
 use mathlib.Core.Bool.{Bool, true, false}
 use mathlib.Core.List.{List, [], ◌∷◌}
 use Rattle.std.specs.Prelude.{Option, None, Some}
 use native.Mathlib.Omega.{arith}
 use lib.ListN.{length}
-use Rattle.rules.specs.Basic.{pick, eq_list}
+use Rattle.rules.specs.Basic.{eq_list}
 use Rattle.stored_cases.specs.declared.Place.{Place}
 use Rattle.stored_cases.specs.declared.NamedPart.{NamedPart}
 use Rattle.stored_cases.specs.declared.Case.{Case}

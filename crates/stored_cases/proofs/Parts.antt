@@ -13,7 +13,7 @@ use Rattle.rules.proofs.Basics.{no_some, no_truth, some_inj}
 use Rattle.stored_cases.specs.declared.Number.{Number}
 use Rattle.stored_cases.specs.declared.Place.{Place}
 use Rattle.stored_cases.specs.declared.NamedPart.{NamedPart}
-use Rattle.stored_cases.specs.Cases.{after_of, past_word, on_line, number_from, number_at, given, ended, part_at}
+use Rattle.stored_cases.specs.Cases.{after_of, number_from, number_at, given, ended, part_at}
 use Rattle.stored_cases.proofs.Words.{word_passed, on_line_within}
 
 -- ---- the byte after the bytes
