@@ -7,7 +7,7 @@ use Rattle.rules.specs.Read.{parse_line}
 use Rattle.rules.specs.Model.{Kind}
 use Rattle.rules.specs.State.{table_of, over_limits}
 use Rattle.rules.specs.Pass.{on_component}
-use Rattle.rules.proofs.Chained as chained
+use Rattle.rules.specs.Reference.{DefinedWithoutRef}
 use Rattle.events.specs.Views.{component_event_in}
 use Rattle.events.specs.declared.ComponentEvent.{ComponentEvent}
 use Rattle.model.specs.Blank.{blank_step}
@@ -27,7 +27,7 @@ pub record LineHere (sheet : List ℕ) (at end : ℕ) (e : Event) : Type 0 where
 pub record Kept (sheet w : List ℕ) (h : Held) : Type 0 where
   pub sound : Sound w h
   pub fit : AllFit sheet w h
-  pub definitions : (k : Kind) → chained.Sound (table_of k (state_in sheet w h))
+  pub definitions : (k : Kind) → DefinedWithoutRef (table_of k (state_in sheet w h))
   pub limits : over_limits (state_in sheet w h) ≡ false
 
 -- a component's line in a step, in every context that agrees with what is lent

@@ -10,11 +10,11 @@ use lib.ListN.{length, get_or, drop, length-drop, drop_of_length-le}
 use lib.Seq.{drop-drop, drop-cons}
 use borrow.Author.Tests.{ne_eqb}
 use Rattle.rules.specs.Sheet.{escaped}
-use Rattle.rules.specs.Utf8.{size_of, first_of, char_or, followers, chars_from, chars}
+use Rattle.rules.specs.Utf8.{size_of, first_of, char_or, followers, chars_from, chars, Scalar}
 use Rattle.rules.proofs.Basics.{pick_either, no_some}
 use Rattle.rules.proofs.Begins.{begins, first_some, one, size_1}
 use Rattle.rules.proofs.Chars.{skip_chars, fits, chars_ascii}
-use Rattle.rules.proofs.Scalars.{Scalar, char_scalar, low_scalar}
+use Rattle.rules.proofs.Scalars.{char_scalar, low_scalar}
 use Rattle.utf8.specs.declared.Char.{Char}
 use Rattle.utf8.specs.Reading.{char_of}
 use Rattle.utf8.specs.Decoding.{char_with}

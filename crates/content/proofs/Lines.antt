@@ -10,12 +10,12 @@ use lib.ListN.{length, get_or}
 use lib.Seq.{append_snoc}
 use borrow.Author.Tests.{eqb-true}
 use Rattle.rules.specs.Basic.{tab, lf, is_some, on_some, split_at}
-use Rattle.rules.specs.Sheet.{Lines, last, more, on_line, lines, fields_of, unescape}
+use Rattle.rules.specs.Sheet.{Lines, last, more, on_line, lines, fields_of, unescape, Without, without_none, without_more}
 use Rattle.rules.specs.Read.{content_of}
 use Rattle.rules.specs.Utf8.{is_utf8, chars}
 use Rattle.rules.proofs.Basics.{and_left, and_right, no_truth, pick_either}
 use Rattle.rules.proofs.Chars.{utf8_split}
-use Rattle.rules.proofs.Fields.{Without, without_none, without_more, without_both, without_left, without_right, split_one, split_more}
+use Rattle.rules.proofs.Fields.{without_both, without_left, without_right, split_one, split_more}
 use Rattle.sheet.specs.Lines.{fields_from, field_at}
 use Rattle.sheet.proofs.Scans.{fields_next}
 use Rattle.content.specs.Contents.{plain_of, content_in}

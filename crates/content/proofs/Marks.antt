@@ -5,11 +5,11 @@ use mathlib.Core.List.{List, [], ◌∷◌, ◌++◌}
 use mathlib.Core.Bool.{Bool, true, false, ◌&&◌}
 use Rattle.std.specs.Prelude.{Option, None, Some}
 use Rattle.rules.specs.Basic.{is_some}
-use Rattle.rules.specs.Sheet.{escaped, onto, unescape}
+use Rattle.rules.specs.Sheet.{escaped, onto, unescape, Without, without_more}
 use Rattle.rules.specs.Utf8.{is_utf8}
 use Rattle.rules.proofs.Basics.{and_left, and_right}
 use Rattle.rules.proofs.Chars.{chars_split, utf8_split}
-use Rattle.rules.proofs.Fields.{Without, without_more, without_left, without_right}
+use Rattle.rules.proofs.Fields.{without_left, without_right}
 use Rattle.rules.proofs.Escaped.{unescape_plain}
 use Rattle.content.specs.Contents.{pair_or, plain_of, content_in}
 use Rattle.content.specs.Parts.{Field}

@@ -11,8 +11,9 @@ use lib.Seq.{take_all, drop-append_seam}
 use borrow.Author.Tests.{ne_eqb}
 use Rattle.rules.specs.Basic.{pick, slash, is_empty, split_at, each, on_some}
 use Rattle.rules.specs.Model.{is_path, as_slash, parse_reference, name_of, path_of}
+use Rattle.rules.specs.Sheet.{Without, without_none, without_more}
 use Rattle.rules.proofs.Basics.{no_truth}
-use Rattle.rules.proofs.Fields.{Without, without_none, without_more, without_both}
+use Rattle.rules.proofs.Fields.{without_both}
 use Rattle.utf8.specs.declared.Char.{Char}
 use Rattle.content.specs.declared.NamePlace.{NamePlace}
 use Rattle.content.specs.Contents.{content_in, kept_in}

@@ -10,14 +10,13 @@ use borrow.Author.Tests.{eqb-true, eqb-false, ne_eqb}
 use Rattle.rules.specs.Ranges.{member}
 use Rattle.rules.specs.WhiteSpace.{white_space}
 use Rattle.rules.specs.Unicode.{is_white_space}
-use Rattle.rules.specs.Sheet.{escape, escape_char}
+use Rattle.rules.specs.Sheet.{escape, escape_char, Without, without_none, without_more}
 use Rattle.rules.specs.Text.{trim_start, trim_onto, trim_end, trim_matches, text_outer_trimmed, retain, text_trimmed}
-use Rattle.rules.specs.Utf8.{encode_char, encode}
+use Rattle.rules.specs.Utf8.{encode_char, encode, Scalar}
 use Rattle.rules.proofs.Basics.{pick_either, by_order, no_truth}
-use Rattle.rules.proofs.Fields.{Without, without_none, without_more}
 use Rattle.rules.proofs.Encodes.{encode_1}
 use Rattle.rules.proofs.Escaped.{Highs, highs_none, highs_more, encode_highs}
-use Rattle.rules.proofs.Scalars.{Scalar, Scalars, scalars_none, scalars_more}
+use Rattle.rules.proofs.Scalars.{Scalars, scalars_none, scalars_more}
 use Rattle.content.specs.Contents.{content_in, kept_in, spell}
 use Rattle.content.specs.Parts.{Field}
 use Rattle.content.proofs.Spells.{spell_cons, char_written, field_spell, content_scalars, escape_highs}

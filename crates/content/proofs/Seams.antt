@@ -18,6 +18,7 @@ use Rattle.rules.proofs.Begins.{second_later, second_ascii, later_ascii}
 use Rattle.rules.proofs.Chars.{fits}
 use Rattle.rules.proofs.Folds.{fold_name_append}
 use Rattle.content.specs.Contents.{pair_or, plain_of, content_in, kept_in}
+use Rattle.content.specs.Parts.{Opens}
 use Rattle.content.proofs.Plains.{plain_one, plain_pair, by_backslash, First, low, high, first}
 use Rattle.content.proofs.Kept.{retain_front, Skipping, skip_other, skip_end}
 
@@ -120,11 +121,6 @@ retain_join q (x ∷ xs) ys e = rw (retain_join x xs ys e) (go (eqb x 32 && eqb 
     go : (t : Bool) → pick t (retain x xs ++ retain 0 ys) (x ∷ (retain x xs ++ retain 0 ys)) ≡ pick t (retain x xs) (x ∷ retain x xs) ++ retain 0 ys
     go true = refl
     go false = refl
-
--- a rest that a character starts, which is no blank, or none
-pub record Opens (r : List ℕ) : Type 0 where
-  pub starts : later (get_or r 0 0) ≡ false
-  pub solid : get_or r 0 0 ≡ 32 → ⊥
 
 retain_opens : (r : List ℕ) → Opens r → retain 32 (content_in r) ≡ retain 0 (content_in r)
 unfolding kept_in

@@ -10,12 +10,12 @@ use lib.ListN.{length, take, drop, length-append}
 use lib.Seq.{take-append_seam, drop-append_seam}
 use borrow.Author.Tests.{ne_eqb, eqb-true, eqb-false}
 use Rattle.rules.specs.Basic.{pick, tab, lf, is_some}
-use Rattle.rules.specs.Sheet.{escaped, unescape, escape_char, escape}
-use Rattle.rules.specs.Utf8.{char_or, followers, is_utf8, encode_char, encode}
+use Rattle.rules.specs.Sheet.{escaped, unescape, escape_char, escape, Without}
+use Rattle.rules.specs.Utf8.{char_or, followers, is_utf8, encode_char, encode, Scalar}
 use Rattle.rules.proofs.Basics.{by_order, no_truth}
 use Rattle.rules.proofs.Begins.{one, begins_more, first_some, size_1}
-use Rattle.rules.proofs.Fields.{Without, escape_unescape, unescape_escape, escape_no_tab, escape_no_lf}
-use Rattle.rules.proofs.Scalars.{Scalar, Scalars, scalars_none, scalars_more, chars_scalars}
+use Rattle.rules.proofs.Fields.{escape_unescape, unescape_escape, escape_no_tab, escape_no_lf}
+use Rattle.rules.proofs.Scalars.{Scalars, scalars_none, scalars_more, chars_scalars}
 use Rattle.rules.proofs.Encodes.{Spelled, spelled, encode_1, encode_chars, chars_encode, utf8_encode}
 use Rattle.rules.proofs.Escaped.{Highs, highs_none, highs_more, encode_highs, utf8_escape, utf8_unescape}
 use Rattle.utf8.specs.Reading.{char_of}

@@ -10,8 +10,9 @@ use borrow.Author.Tests.{eqb-true, eqb-false, ne_eqb}
 use Rattle.rules.specs.Basic.{pick, codes, slash, is_empty, on_first, split_at, join_by, each}
 use Rattle.rules.specs.Model.{starts_with, is_path, as_slash, last_part, all_but_last, reference_parts, parse_reference}
 use Rattle.rules.specs.Text.{retain}
+use Rattle.rules.specs.Sheet.{Without, without_more}
 use Rattle.rules.proofs.Basics.{pick_either, no_truth}
-use Rattle.rules.proofs.Fields.{Without, without_more, split_one}
+use Rattle.rules.proofs.Fields.{split_one}
 use Rattle.content.specs.Names.{is_separator, separator_first}
 use Rattle.content.proofs.Kept.{retain_other, retain_keeps}
 

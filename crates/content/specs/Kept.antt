@@ -2,7 +2,7 @@
 use Rattle.std.specs.Prelude.{ℕ, ◌+◌, ◌≤◌, ◌<◌, ◌≡◌, List, ◌∷◌, length, drop}
 use Rattle.rules.specs.Basic.{blank}
 use Rattle.rules.specs.Text.{retain}
-use Rattle.rules.proofs.Scalars.{Scalar}
+use Rattle.rules.specs.Utf8.{Scalar}
 use Rattle.utf8.specs.declared.Char.{Char}
 use Rattle.content.specs.Contents.{content_in, kept_in}
 

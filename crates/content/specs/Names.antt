@@ -2,7 +2,7 @@
 use Rattle.std.specs.Prelude.{ℕ, ◌≤◌, ◌<◌, ◌≡◌, Bool, true, false, List, [], ◌∷◌, ◌++◌, eqb, length, take, drop, None, Some}
 use Rattle.rules.specs.Basic.{pick, slash, join_by, on_some, each}
 use Rattle.rules.specs.Model.{as_slash, parse_reference, name_of, path_of}
-use Rattle.rules.proofs.Fields.{Without}
+use Rattle.rules.specs.Sheet.{Without}
 use Rattle.content.specs.declared.NamePlace.{NamePlace}
 use Rattle.content.specs.Contents.{content_in, kept_in}
 use Rattle.content.specs.Parts.{CutAt}

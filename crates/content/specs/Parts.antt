@@ -1,9 +1,8 @@
 -- Parts of the fields of a sheet.
-use Rattle.std.specs.Prelude.{ℕ, ◌≡◌, true, List, ◌++◌, take, drop}
-use Rattle.rules.specs.Basic.{tab, lf, is_some}
-use Rattle.rules.specs.Sheet.{unescape}
-use Rattle.rules.specs.Utf8.{is_utf8}
-use Rattle.rules.proofs.Fields.{Without}
+use Rattle.std.specs.Prelude.{ℕ, ◌≡◌, true, false, List, ◌++◌, take, drop, get_or}
+use Rattle.rules.specs.Basic.{tab, lf, blank, is_some}
+use Rattle.rules.specs.Sheet.{unescape, Without}
+use Rattle.rules.specs.Utf8.{later, is_utf8}
 use Rattle.content.specs.Contents.{content_in}
 
 -- what any field of a sheet's line satisfies, and any part of it that is cut at characters
@@ -22,3 +21,8 @@ pub record Cut (p q : List ℕ) : Type 0 where
 -- a character of f starts at a place, or f ends there
 abbrev pub CutAt : List ℕ → ℕ → Type 0
 CutAt f at = Cut (take at f) (drop at f)
+
+-- a rest that a character starts, which is no blank, or none
+pub record Opens (r : List ℕ) : Type 0 where
+  pub starts : later (get_or r 0 0) ≡ false
+  pub solid : get_or r 0 0 ≡ blank → ⊥

@@ -8,12 +8,11 @@ use native.Mathlib.Numerals.{add-one}
 use lib.ListN.{length, take, drop}
 use lib.Seq.{slice}
 use Rattle.rules.specs.Basic.{lf, decimal}
-use Rattle.rules.specs.Sheet.{line_of}
+use Rattle.rules.specs.Sheet.{line_of, Without}
 use Rattle.rules.specs.Read.{parse_line}
 use Rattle.rules.specs.Model.{Kind, ingredient, cookware, target_of, Entry, set_relation, set_modifiers}
 use Rattle.rules.specs.Page.{target_word, relation_fields, ingredient_line, cookware_line, table_lines}
 use Rattle.rules.specs.State.{table_of}
-use Rattle.rules.proofs.Fields.{Without}
 use Rattle.output.specs.Put.{Put, tabbed}
 use Rattle.output.proofs.Puts.{put_seq, starts, ends_in}
 use Rattle.output.proofs.Texts.{put_fields, put_line}

@@ -8,7 +8,7 @@ ghost use Rattle.rules.specs.Read.{parse_line};
 ghost use Rattle.rules.specs.Model.{ingredient, cookware, is_ingredient, name_of, path_of, reference_in, definition, reference};
 ghost use Rattle.rules.specs.Page.{or_minus, target_word, relation_fields, table_lines};
 ghost use Rattle.rules.specs.State.{table_of};
-ghost use Rattle.rules.proofs.Fields.{Without};
+ghost use Rattle.rules.specs.Sheet.{Without};
 ghost use Rattle.output.specs.Put.{Put, tabbed};
 ghost use Rattle.content.specs.Contents.{kept_in};
 ghost use Rattle.content.specs.Parts.{Field};

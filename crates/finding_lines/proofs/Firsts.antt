@@ -4,12 +4,11 @@ use mathlib.Core.Path.{◌≡◌, refl, subst}
 use mathlib.Core.List.{List, [], ◌∷◌, ◌++◌}
 use Rattle.std.specs.Prelude.{Some}
 use Rattle.rules.specs.Basic.{tab, lf, each, join_by}
-use Rattle.rules.specs.Sheet.{escape, escape_char}
+use Rattle.rules.specs.Sheet.{escape, escape_char, Without}
 use Rattle.rules.specs.Words.{severe, mild}
 use Rattle.rules.specs.Event.{Event, meta_event, section_event, start_event, end_event, text_event, component_event, ingredient_event, cookware_event, timer_event, between, inside, parser_event}
 use Rattle.rules.specs.Read.{parse_line}
 use Rattle.rules.specs.Write.{event_fields, component_fields}
-use Rattle.rules.proofs.Fields.{Without}
 use Rattle.rules.proofs.Parsed.{line_text, line_text_lem}
 
 -- the first byte of an event's word, and the second

@@ -23,18 +23,12 @@ use Rattle.following.specs.declared.Follow.{Follow}
 use Rattle.following.specs.declared.Meta.{Meta}
 use Rattle.following.specs.declared.Meta.TheVariants.{Defines, Ordinary, Other}
 use Rattle.following.specs.Drawn.{follow_of, first_follow, opens_as}
-use Rattle.following.specs.Follow.{Follows, meta_of, meta_follow, section_follow, start_follow, close_follow, counter_after, count_component, component_follow, inside_follow, between_follow, next_follow, with_inline, Room}
+use Rattle.following.specs.Follow.{Follows, meta_of, meta_follow, section_follow, start_follow, close_follow, counter_after, count_component, component_follow, inside_follow, between_follow, next_follow, with_inline, Room, Counts}
 use Rattle.following.proofs.Betweens.{line_grows}
 use Rattle.following.proofs.Laws.{follows_first}
 use Rattle.sheet.specs.Words.{define_of}
 
 -- ---- counts: at most one more a line
-
-pub record Counts (n : ℕ) (f : Follow) : Type 0 where
-  pub counter : f.counter ≤ n
-  pub ingredients : f.ingredients ≤ n
-  pub cookware : f.cookware ≤ n
-  pub timers : f.timers ≤ n
 
 pub counts_more : {n : ℕ} {f : Follow} → Counts n f → Counts (suc n) f
 counts_more h = record { counter = omega arith; ingredients = omega arith; cookware = omega arith; timers = omega arith }

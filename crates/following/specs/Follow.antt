@@ -151,3 +151,10 @@ pub record Followed (flags : ℕ) (line : List ℕ) (e : EventView) (n : ℕ) (f
   pub by :
       (cx : Context) → cx.flags ≡ flags → (st st' : State) → on_event cx (event_in line e) st ≡ next st' → Follows st f
       → length st'.tables.inline ≡ f.inline + n → Follows st' r
+
+-- what the second walk counts is at most n: after n lines it is, as a line counts at most one more
+pub record Counts (n : ℕ) (f : Follow) : Type 0 where
+  pub counter : f.counter ≤ n
+  pub ingredients : f.ingredients ≤ n
+  pub cookware : f.cookware ≤ n
+  pub timers : f.timers ≤ n

@@ -13,9 +13,10 @@ use Rattle.rules.proofs.Folds.{fold_name_append}
 use Rattle.rules.proofs.SameChars.{eq_true}
 use Rattle.content.specs.Contents.{kept_in}
 use Rattle.content.specs.Readings.{plain_byte}
+use Rattle.content.specs.Parts.{Opens}
 use Rattle.content.proofs.Compare.{plain}
 use Rattle.content.proofs.Kept.{kept_none}
-use Rattle.content.proofs.Seams.{Opens, kept_join}
+use Rattle.content.proofs.Seams.{kept_join}
 use Rattle.letters.proofs.Ascii.{ascii_fold_lem}
 use Rattle.fronts.specs.Plain.{lowered}
 use Rattle.fronts.proofs.Plain.{plain_stands, case_apart}

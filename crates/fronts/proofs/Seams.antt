@@ -13,7 +13,8 @@ use Rattle.rules.proofs.Basics.{within_high, by_order}
 use Rattle.rules.proofs.Begins.{later_ascii}
 use Rattle.utf8.proofs.Firsts.{part_rest}
 use Rattle.content.specs.Contents.{kept_in}
-use Rattle.content.proofs.Seams.{Opens, names_join}
+use Rattle.content.specs.Parts.{Opens}
+use Rattle.content.proofs.Seams.{names_join}
 use Rattle.fronts.specs.Seams.{same_at, WordAt, Common, Seam}
 use Rattle.fronts.specs.Plain.{SameLetter}
 use Rattle.fronts.proofs.Plain.{letter_on}

@@ -5,7 +5,7 @@ ghost use Rattle.std.specs.Prelude.{◌≡◌, true, false, ◌||◌, ℕ, ◌+�
 ghost use Rattle.rules.specs.Basic.{within};
 ghost use Rattle.rules.specs.Unicode.{same_name};
 ghost use Rattle.content.specs.Contents.{kept_in};
-ghost use Rattle.content.proofs.Seams.{Opens};
+ghost use Rattle.content.specs.Parts.{Opens};
 ghost use Rattle.fronts.specs.Plain.{SameLetter};
 ghost use Rattle.fronts.specs.Seams.{same_at, WordAt, Common, Seam};
 ghost use Rattle.fronts.specs.Ends.{LastStart, BlankFrom};

@@ -6,11 +6,10 @@ use mathlib.Core.List.{List, [], ◌∷◌, ◌++◌}
 use Rattle.std.specs.Prelude.{Option, None, Some}
 use Rattle.rules.specs.Basic.{pick, lf, is_some}
 use Rattle.rules.specs.Utf8.{is_utf8}
-use Rattle.rules.specs.Sheet.{fields_of}
+use Rattle.rules.specs.Sheet.{fields_of, Without}
 use Rattle.rules.specs.Event.{Event}
 use Rattle.rules.specs.Read.{Fields, first_read, read_event, parse_line}
 use Rattle.rules.proofs.Basics.{no_truth}
-use Rattle.rules.proofs.Fields.{Without}
 use Rattle.content.specs.Parts.{Field}
 use Rattle.content.proofs.Lines.{Ready, AllReady, ready_none, ready_more, line_ready, ready_field}
 use Rattle.parts.specs.declared.Part.{Part}

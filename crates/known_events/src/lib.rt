@@ -4,7 +4,7 @@
 ghost use Rattle.std.specs.Prelude.{◌≡◌, true};
 ghost use Rattle.rules.specs.Basic.{lf, is_some};
 ghost use Rattle.rules.specs.Read.{parse_line};
-ghost use Rattle.rules.proofs.Fields.{Without};
+ghost use Rattle.rules.specs.Sheet.{Without};
 ghost use Rattle.known_events.specs.Known.{KnownEvent};
 
 use events::EventView;

@@ -7,8 +7,8 @@ use lib.ListN.{get_or, take, drop}
 use Rattle.rules.specs.Basic.{lf}
 use Rattle.rules.specs.Event.{Event, meta_event, section_event, start_event, between, inside, parser_event}
 use Rattle.rules.specs.Model.{MetaEntry}
+use Rattle.rules.specs.Sheet.{Without}
 use Rattle.rules.proofs.Basics.{some_inj}
-use Rattle.rules.proofs.Fields.{Without}
 use Rattle.events.specs.declared.EventView.{EventView}
 use Rattle.known_events.specs.Known.{KnownEvent}
 use Rattle.finding_lines.proofs.Firsts.{first_byte, line_begins}

@@ -6,7 +6,7 @@ use mathlib.Core.Logic.{∥∥₁_elim}
 use Rattle.std.proofs.Props as below
 use Rattle.std.specs.Coded.{coded_bool}
 use denote.Struct.Props.{≡_prop}
-use Rattle.rules.proofs.Fields.{Without, without_none, without_more}
+use Rattle.rules.specs.Sheet.{Without, without_none, without_more}
 use Rattle.meta_map.specs.Index.{Indexed}
 
 without_prop : (b : ℕ) (s : List ℕ) → IsProp (Without b s)

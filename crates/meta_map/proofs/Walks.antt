@@ -11,7 +11,7 @@ use lib.Dec.{ltb}
 use lib.ListN.{length, take, drop}
 use Rattle.rules.specs.Input.{Context}
 use Rattle.rules.specs.Basic.{lf, is_some, all}
-use Rattle.rules.specs.Sheet.{Lines, lines}
+use Rattle.rules.specs.Sheet.{Lines, lines, Without}
 use Rattle.rules.specs.Words.{define_key, duplicate_key, DefineMode, DuplicateMode}
 use Rattle.rules.specs.Event.{Text, Between, meta_event, section_event, start_event, Event, between, inside, parser_event, spans_of}
 use Rattle.rules.specs.Read.{parse_line}
@@ -23,7 +23,6 @@ use Rattle.rules.specs.Pass.{is_open, on_between, on_event, walk}
 use Rattle.rules.specs.Page.{table_lines, meta_line}
 use Rattle.rules.specs.Answer.{Reading, events, unread, events_or, with_event, is_good_span, read_line, read_from, read_sheet}
 use Rattle.rules.proofs.Basics.{pick_either}
-use Rattle.rules.proofs.Fields.{Without}
 use Rattle.rules.proofs.FaultWalk.{Takes, takes, walk_on}
 use Rattle.sheet.specs.Lines.{lines_from, LineAt}
 use Rattle.content.proofs.Lines.{line_without}

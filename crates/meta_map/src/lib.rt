@@ -5,7 +5,7 @@
 ghost use Rattle.std.specs.Prelude.{◌≡◌, ◌≤◌, ◌<◌, length, true};
 ghost use Rattle.rules.specs.Basic.{lf, is_some};
 ghost use Rattle.rules.specs.Read.{parse_line};
-ghost use Rattle.rules.proofs.Fields.{Without};
+ghost use Rattle.rules.specs.Sheet.{Without};
 ghost use Rattle.content.specs.Contents.{kept_in};
 ghost use Rattle.content.specs.Parts.{Field};
 ghost use Rattle.parts.specs.Views.{TextWithin};

@@ -6,7 +6,7 @@ use Rattle.rules.specs.Text.{retain}
 use Rattle.rules.specs.Event.{Event, inside, between, parser_event, Inside, component_event, text_event, end_event, ComponentEvent, ingredient_event, cookware_event, timer_event}
 use Rattle.rules.specs.Read.{content_of, parse_line}
 use Rattle.rules.specs.Model.{Kind, ingredient, cookware}
-use Rattle.rules.proofs.Fields.{Without}
+use Rattle.rules.specs.Sheet.{Without}
 use Rattle.model.specs.Rows.{row_on, entry_as}
 use Rattle.model.specs.Memory.{rows_in, count_of}
 use Rattle.model.specs.declared.Row.{Row}

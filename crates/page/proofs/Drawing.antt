@@ -23,9 +23,9 @@ use Rattle.reading.proofs.Passes.{Rest, rest_ends, rest_ended, First}
 use Rattle.following.specs.declared.Part.{Part}
 use Rattle.following.specs.declared.Follow.{Follow}
 use Rattle.following.specs.Drawn.{drawn, follow_of, first_follow, quantities_added, added, appended}
-use Rattle.following.specs.Follow.{Room}
+use Rattle.following.specs.Follow.{Room, Counts}
 use Rattle.following.proofs.Laws.{drawn_first, drawn_next, follows_first}
-use Rattle.following.proofs.Walking.{Counts, Walking, Went, walking_first, walking_next, walking_ends}
+use Rattle.following.proofs.Walking.{Walking, Went, walking_first, walking_next, walking_ends}
 use Rattle.page_parts.specs.Drawing.{tracked}
 use Rattle.page.specs.declared.walk.Turn.{Turn}
 use Rattle.page.specs.Walk.{view, LineReady, TurnTaken, PassInputs, PartDrawn}

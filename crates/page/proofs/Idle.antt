@@ -13,8 +13,8 @@ use Rattle.rules.specs.Words.{severe, mild}
 use Rattle.rules.specs.Event.{Event, meta_event, section_event, start_event, end_event, text_event, component_event, ComponentEvent, ingredient_event, cookware_event, timer_event, between, inside, parser_event}
 use Rattle.rules.specs.Units.{NamedUnit}
 use Rattle.rules.specs.Read.{parse_line}
+use Rattle.rules.specs.Sheet.{Without}
 use Rattle.rules.proofs.Basics.{no_truth}
-use Rattle.rules.proofs.Fields.{Without}
 use Rattle.output.proofs.Texts.{text_is}
 use Rattle.model.specs.declared.Open.{Open}
 use Rattle.model.specs.declared.Open.TheVariants as block
@@ -24,8 +24,8 @@ use Rattle.following.specs.declared.Follow.{Follow}
 use Rattle.following.specs.declared.Part.{Part}
 use Rattle.following.specs.declared.Part.TheVariants.{Sections, Timers, Inline, Old}
 use Rattle.following.specs.Drawn.{timer_adds, timers_add, inline_add, quantities_added, old_add, added}
-use Rattle.following.specs.Follow.{section_follow, start_follow, close_follow, count_component, component_follow, inside_follow, between_follow, next_follow, with_inline}
-use Rattle.following.proofs.Walking.{Counts, counts_more, next_counts}
+use Rattle.following.specs.Follow.{section_follow, start_follow, close_follow, count_component, component_follow, inside_follow, between_follow, next_follow, with_inline, Counts}
+use Rattle.following.proofs.Walking.{counts_more, next_counts}
 use Rattle.page_parts.specs.Drawing.{tracked}
 use Rattle.page.specs.declared.walk.Turn.{Turn}
 use Rattle.page.specs.Walk.{view, is_aside, is_idle_by, is_idle, LineTaken, TurnTaken}

@@ -8,12 +8,11 @@ use native.Mathlib.Omega.{arith}
 use lib.Dec.{ltb}
 use lib.ListN.{length, take, drop}
 use Rattle.rules.specs.Basic.{pick, all, is_some, lf}
-use Rattle.rules.specs.Sheet.{Lines, lines}
+use Rattle.rules.specs.Sheet.{Lines, lines, Without}
 use Rattle.rules.specs.Event.{Event, spans_of}
 use Rattle.rules.specs.Read.{parse_line}
 use Rattle.rules.specs.Answer.{Reading, events, unread, with_event, is_good_span, read_line, read_from}
 use Rattle.sheet.specs.Lines.{lines_from, LineAt}
-use Rattle.rules.proofs.Fields.{Without}
 use Rattle.rules.proofs.Basics.{no_truth}
 use Rattle.content.proofs.Lines.{line_without}
 use Rattle.reading.proofs.Passes.{Rest, First}

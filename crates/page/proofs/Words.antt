@@ -6,7 +6,7 @@ use lib.ListN.{length}
 use Rattle.rules.specs.Input.{Context}
 use Rattle.rules.specs.Event.{Event}
 use Rattle.rules.specs.State.{State, table_of, over_limits}
-use Rattle.rules.proofs.Chained as chained
+use Rattle.rules.specs.Reference.{DefinedWithoutRef}
 use Rattle.model.proofs.Windows.{SameWords, front_same, same_state, same_sound, same_fit}
 use Rattle.model.specs.declared.Held.{Held}
 use Rattle.meta_map.specs.Maps.{WordsIndexed}
@@ -20,7 +20,7 @@ module _ (sheet w₀ w : List ℕ) (h : Held) (v : SameWords w₀ w) where
       record {
         sound = same_sound v k.sound;
         fit = same_fit v k.fit;
-        definitions = λ x. subst (λ (s : State). chained.Sound (table_of x s)) (sym (same_state v sheet h)) (k.definitions x);
+        definitions = λ x. subst (λ (s : State). DefinedWithoutRef (table_of x s)) (sym (same_state v sheet h)) (k.definitions x);
         limits = ap over_limits (same_state v sheet h) ∙ k.limits;
       }
 

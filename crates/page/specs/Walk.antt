@@ -9,14 +9,13 @@ use Rattle.rules.specs.Read.{parse_line}
 use Rattle.rules.specs.State.{State, first_state, going}
 use Rattle.rules.specs.Pass.{walk}
 use Rattle.rules.specs.Answer.{events_or, is_good_span, read_sheet}
-use Rattle.rules.proofs.Fields.{Without}
+use Rattle.rules.specs.Sheet.{Without}
 use Rattle.output.specs.Put.{Put}
 use Rattle.following.specs.Drawn.{quantities_added, added, drawn}
-use Rattle.following.specs.Follow.{next_follow, with_inline, Room}
+use Rattle.following.specs.Follow.{next_follow, with_inline, Room, Counts}
 use Rattle.following.specs.declared.Follow.{Follow}
 use Rattle.following.specs.declared.Part.{Part}
 use Rattle.following.specs.declared.Part.TheVariants.{Sections, Timers, Inline, Old}
-use Rattle.following.proofs.Walking.{Counts}
 use Rattle.sheet.specs.declared.Define.TheVariants as define
 use Rattle.model.specs.declared.Open.TheVariants as block
 use Rattle.page_parts.specs.Drawing.{tracked}

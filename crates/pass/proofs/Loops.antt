@@ -9,7 +9,7 @@ use native.Mathlib.Numerals.{add-one}
 use lib.ListN.{length, get_or, take, drop, length-drop}
 use lib.Seq.{get_or-drop, length-take-le}
 use Rattle.rules.specs.Basic.{is_some, lf}
-use Rattle.rules.specs.Sheet.{more, lines}
+use Rattle.rules.specs.Sheet.{more, lines, Without}
 use Rattle.rules.specs.Event.{Event}
 use Rattle.rules.specs.Read.{parse_line}
 use Rattle.rules.specs.Input.{Context, Agrees, TextAgrees}
@@ -18,7 +18,6 @@ use Rattle.rules.specs.Answer.{events, events_or, read_from, read_sheet}
 use Rattle.rules.specs.State.{State, first_state, over_limits, Walk, going, failed, refused}
 use Rattle.rules.specs.Pass.{parser_findings, is_error_event, step, walk, finish, parse_events}
 use Rattle.rules.proofs.Chained as chained
-use Rattle.rules.proofs.Fields.{Without}
 use Rattle.refusals.specs.Told.{number_of}
 use Rattle.refusals.specs.declared.Reason.{Reason}
 use Rattle.refusals.specs.declared.Refusal.{Refusal}

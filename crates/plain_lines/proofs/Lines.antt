@@ -5,7 +5,7 @@ use Rattle.std.specs.Prelude.{None, Some}
 use mathlib.Core.List.{List, [], ◌∷◌, ◌++◌}
 use Rattle.rules.specs.Basic.{codes, tab, lf, join_by, each}
 use Rattle.rules.specs.Utf8.{encode}
-use Rattle.rules.specs.Sheet.{escape_char, escape, line_of}
+use Rattle.rules.specs.Sheet.{escape_char, escape, line_of, Without}
 use Rattle.rules.specs.Words.{text_kind}
 use Rattle.rules.specs.Event.{Span, Component, ComponentEvent, Event, start_event, end_event, text_event, component_event, ingredient_event, cookware_event, between, inside, component_span}
 use Rattle.rules.specs.Read.{parse_line}
@@ -13,7 +13,6 @@ use Rattle.rules.specs.Model.{ingredient, cookware}
 use Rattle.rules.specs.Pass.{source_text}
 use Rattle.rules.specs.Write.{opt_fields, span_fields, text_fields, named_fields, block_kind_field, component_fields, event_fields, write_line}
 use Rattle.rules.specs.Plain.{mark_ref, in_plain_text}
-use Rattle.rules.proofs.Fields.{Without}
 use Rattle.rules.proofs.Parsed.{parse_writes}
 use Rattle.output.specs.Put.{Put, tabbed}
 use Rattle.output.proofs.Puts.{put_seq}

@@ -8,7 +8,7 @@ use native.Mathlib.Omega.{arith}
 use lib.Dec.{ltb}
 use lib.ListN.{length, take, drop}
 use Rattle.rules.specs.Basic.{pick, is_some, all, lf}
-use Rattle.rules.specs.Sheet.{Lines, lines}
+use Rattle.rules.specs.Sheet.{Lines, lines, Without}
 use Rattle.rules.specs.Event.{Event, spans_of}
 use Rattle.rules.specs.Input.{Context}
 use Rattle.rules.specs.Read.{parse_line}
@@ -16,7 +16,6 @@ use Rattle.rules.specs.Model.{Kind, ingredient, cookware}
 use Rattle.rules.specs.State.{State}
 use Rattle.rules.specs.Plain.{sheet_of}
 use Rattle.rules.specs.Answer.{Reading, events, unread, with_event, events_or, is_good_span, read_line, read_from, read_sheet}
-use Rattle.rules.proofs.Fields.{Without}
 use Rattle.refusals.specs.Told.{number_of, number_told}
 use Rattle.refusals.specs.declared.Reason.{Reason}
 use Rattle.output.proofs.Puts.{keeps}

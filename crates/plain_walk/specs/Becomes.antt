@@ -6,7 +6,7 @@ use Rattle.rules.specs.Event.{start_event, end_event, text_event, component_even
 use Rattle.rules.specs.Read.{parse_line}
 use Rattle.rules.specs.Plain.{sheet_of}
 use Rattle.rules.specs.Answer.{is_good_span}
-use Rattle.rules.proofs.Fields.{Without}
+use Rattle.rules.specs.Sheet.{Without}
 use Rattle.output.specs.Put.{Put}
 use Rattle.parts.specs.Views.{span_in}
 use Rattle.components.specs.Views.{component_in}

@@ -11,10 +11,9 @@ use lib.ListN.{length, get_or, drop, drop_of_length-le}
 use lib.Seq.{drop-cons}
 use Rattle.std.specs.Prelude.{None, Some}
 use Rattle.rules.specs.Basic.{pick, tab, split_at, on_first, on_some, eq_list, word_in}
-use Rattle.rules.specs.Sheet.{fields_of}
+use Rattle.rules.specs.Sheet.{fields_of, Without, without_none, without_more}
 use Rattle.rules.specs.Words.{event_words}
 use Rattle.rules.proofs.Basics.{no_truth, no_some, some_inj}
-use Rattle.rules.proofs.Fields.{Without, without_none, without_more}
 use Rattle.sheet.specs.Lines.{fields_from, field_at}
 use Rattle.sheet.specs.Words.{event_word_in}
 use Rattle.sheet.specs.declared.EventWord.{EventWord}

@@ -5,7 +5,7 @@ ghost use Rattle.std.specs.Prelude.{◌≡◌, true, ◌+◌, ◌≤◌, length,
 ghost use Rattle.rules.specs.Basic.{lf, is_some};
 ghost use Rattle.rules.specs.Read.{parse_line};
 ghost use Rattle.rules.specs.Model.{ingredient};
-ghost use Rattle.rules.proofs.Fields.{Without};
+ghost use Rattle.rules.specs.Sheet.{Without};
 ghost use Rattle.sheet.specs.Lines.{fields_from};
 ghost use Rattle.model.specs.Fits.{is_of_kind};
 ghost use Rattle.recall.specs.Recalls.{blank_view, view_of, view_inside, view_in, Recalled, QuantityRecalled};

@@ -1,10 +1,10 @@
 -- Demand 3 of the program: from the contract of `plain_form` and the rules' theorem `plain_form_holds`.
-use Prim.Native.Nat.{ℕ, ◌≤◌}
+use Prim.Native.Nat.{ℕ, ◌≤◌, ◌<◌}
 use mathlib.Core.Path.{◌≡◌, refl, sym, subst, ◌∙◌}
 use mathlib.Core.Bool.{Bool, true, false}
 use mathlib.Core.List.{List}
 use Rattle.std.specs.Prelude.{Result}
-use borrow.Author.Tests.{le-leb, leb-true}
+use borrow.Author.Tests.{le-leb, leb-true, lt-leb}
 use lib.Dec.{leb}
 use lib.ListN.{length}
 use Rattle.rules.specs.Basic.{pick}
@@ -45,7 +45,7 @@ module _ (i : Input) (m : Lent) (w b o : List ℕ) (r : Result ℕ Refusal) (p :
   rule = rules-proofs.plain_form_holds i
 
   answers : answer_of r o ≡ lent_to m (plain_form i)
-  answers = p.is ∙ plain_lent i m
+  answers = p.is ∙ rule.lent m
 
   handed : (form : List ℕ) → answer_of r o ≡ answered form → Lends (is_short m) m.room (plain_form i) form
   handed form q = lends (is_short m) m.room (plain_form i) form (sym answers ∙ q)
@@ -58,6 +58,13 @@ module _ (i : Input) (m : Lent) (w b o : List ℕ) (r : Result ℕ Refusal) (p :
 
   declines : (n l : ℕ) → is_short m ≡ false → Declined i n l → answer_of r o ≡ declined n l
   declines n l s d = answers ∙ rw (s, (rule.otherwise n l).back d)
+
+  short_answer : is_short m ≡ true → answer_of r o ≡ declined 1 0
+  short_answer s = answers ∙ rw s
+
+  narrow_answer : (form : List ℕ) → Demanded i form → is_short m ≡ false → m.room < length form → answer_of r o ≡ declined 20 0
+  unfolding hand_out
+  narrow_answer form d s h = answers ∙ rw (s, (rule.exactly form).back d, lt-leb m.room (length form) h)
 
   own_form : (form : List ℕ) → answer_of r o ≡ answered form → plain_answer (with_sheet form i) m ≡ answered form
   own_form form q =
@@ -89,4 +96,7 @@ module _ (i : Input) (m : Lent) (w b o : List ℕ) (r : Result ℕ Refusal) (p :
         plain = λ form q. rule.plain form (handed form q).2;
         same = same_page;
         own = own_form;
+        lent = answers;
+        short = short_answer;
+        narrow = narrow_answer;
       }

@@ -1,12 +1,12 @@
 -- Demand 3 of the program: what `plain_form` hands out, in the words of the rules' `PlainForm`. proofs/Demand3.antt proves
 -- it of every answer that meets the contract of `plain_form`.
-use Rattle.std.specs.Prelude.{ℕ, ◌≤◌, ◌≡◌, List, false, length, Result}
+use Rattle.std.specs.Prelude.{ℕ, ◌≤◌, ◌<◌, ◌≡◌, List, true, false, length, Result}
 use Rattle.rules.specs.Input.{Input, with_sheet}
 use Rattle.rules.specs.State.{State}
 use Rattle.rules.specs.Page.{recipe_part, recipe_page}
 use Rattle.rules.specs.Answer as rules
 use Rattle.rules.specs.Answer.{answered, declined, Lent, is_short, hand_out, collect_answer, plain_answer, events_of}
-use Rattle.rules.specs.PlainForm.{Iff, EveryLine, IsPlain, Demanded, Declined}
+use Rattle.rules.specs.PlainForm.{plain_form, lent_to, Iff, EveryLine, IsPlain, Demanded, Declined}
 use Rattle.refusals.specs.declared.Refusal.{Refusal}
 use Rattle.answers.specs.Answers.{answer_of}
 
@@ -36,3 +36,10 @@ module _ (i : Input) (m : Lent) (o : List ℕ) (r : Result ℕ Refusal) where
     pub same : (form : List ℕ) → Hands form → (m' : Lent) → is_short m' ≡ false → SameCollected form i m'
     -- 6. its own plain form, with the same memory, is itself
     pub own : (form : List ℕ) → Hands form → plain_answer (with_sheet form i) m ≡ answered form
+    -- 7. "Where the form would be handed out but too little room is lent, 1 or 20 answers in its place.": the answer is that with
+    -- memory enough, as far as the memory goes
+    pub lent : answer_of r o ≡ lent_to m (plain_form i)
+    -- so 1 with work memory too short
+    pub short : is_short m ≡ true → answer_of r o ≡ declined 1 0
+    -- and 20 where a form that the demand hands out is longer than the output
+    pub narrow : (form : List ℕ) → Demanded i form → is_short m ≡ false → m.room < length form → answer_of r o ≡ declined 20 0

@@ -12,13 +12,12 @@ use Rattle.rules.specs.Input.{Input, Context, context_of}
 use Rattle.rules.specs.Event.{Event}
 use Rattle.rules.specs.Finding.{Finding}
 use Rattle.rules.specs.Model.{Kind, ingredient, cookware, Entry}
-use Rattle.rules.specs.Reference.{entry_at}
+use Rattle.rules.specs.Reference.{entry_at, own_references}
 use Rattle.rules.specs.State.{Tables, State, set_kept, table_of, report, Outcome, recipe, no_recipe, refusal}
 use Rattle.rules.specs.Pass.{is_empty_section, close_section, ended, parse_events}
 use Rattle.rules.specs.Answer.{words_needed, bytes_needed, is_short, events_of}
 use Rattle.rules.proofs.Basics.{pick_either, no_some, and_left, and_right}
 use Rattle.rules.proofs.Referrers.{Linked, walk_linked}
-use Rattle.rules.proofs.LinkedRecipe.{own_references}
 use Rattle.refusals.specs.Told.{number_of}
 use Rattle.refusals.specs.declared.Reason.TheVariants.{NoRoom}
 use Rattle.refusals.specs.declared.Refusal.{Refusal}

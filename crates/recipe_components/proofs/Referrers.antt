@@ -11,14 +11,14 @@ use lib.ListN.{length, get_or, length-append}
 use lib.Seq.{get_or_at, get_or-append-add}
 use Rattle.rules.specs.Input.{Input}
 use Rattle.rules.specs.Basic.{pick}
-use Rattle.rules.specs.Model.{Kind, ingredient, cookware, Relation, definition, reference, Entry}
-use Rattle.rules.specs.Reference.{entry_at, is_definition, referrers}
+use Rattle.rules.specs.Model.{Kind, ingredient, cookware, Relation, definition, reference, Entry, is_own}
+use Rattle.rules.specs.Reference.{entry_at, is_definition, referrers, is_own_reference, own_references}
 use Rattle.rules.specs.State.{State, table_of, Outcome, recipe}
 use Rattle.rules.specs.Answer.{words_needed, collection}
 use Rattle.rules.proofs.Basics.{pick_either, no_truth}
 use Rattle.rules.proofs.SimWalk.{no_recipe_lem}
-use Rattle.rules.proofs.Referrers.{is_own, Linked, refers_own, own_referrers}
-use Rattle.rules.proofs.LinkedRecipe.{collection_linked, is_own_reference, own_references}
+use Rattle.rules.proofs.Referrers.{Linked, refers_own, own_referrers}
+use Rattle.rules.proofs.LinkedRecipe.{collection_linked}
 use Rattle.model.specs.Rows.{referrers_in, referrers_from}
 use Rattle.model.proofs.Searches.{referrers_oldest}
 use Rattle.component_records.specs.declared.Component.{Component}

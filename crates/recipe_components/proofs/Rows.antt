@@ -8,11 +8,10 @@ use native.Mathlib.Omega.{arith}
 use lib.ListN.{length, get_or, take, drop}
 use lib.Seq.{take-take}
 use Rattle.rules.specs.Basic.{pick}
-use Rattle.rules.specs.Model.{Kind, ingredient, cookware, to_step, to_section, reference, target_of, Entry, set_relation, set_modifiers}
-use Rattle.rules.specs.Reference.{entry_at, is_definition}
+use Rattle.rules.specs.Model.{Kind, ingredient, cookware, to_step, to_section, reference, target_of, Entry, set_relation, set_modifiers, is_own}
+use Rattle.rules.specs.Reference.{entry_at, is_definition, is_own_reference, own_references}
 use Rattle.rules.proofs.Basics.{no_truth, some_inj}
-use Rattle.rules.proofs.Referrers.{is_own, own_target, Linked, DefinedAt, entry_below}
-use Rattle.rules.proofs.LinkedRecipe.{is_own_reference, own_references}
+use Rattle.rules.proofs.Referrers.{own_target, Linked, DefinedAt, entry_below}
 use Rattle.model.specs.Rows.{row_of, row_on, modifiers_in, relation_as, relation_in, entry_as, entry_in, entries_in}
 use Rattle.model.specs.Fits.{Fits, EachRow}
 use Rattle.model.specs.declared.Target.TheVariants.{Ingredient, Step, Section}

@@ -6,13 +6,11 @@ use Rattle.rules.specs.Basic.{pick, on_some}
 use Rattle.rules.specs.Text.{retain}
 use Rattle.rules.specs.Event.{Modifiers}
 use Rattle.rules.specs.Read.{content_of, parse_line}
-use Rattle.rules.specs.Model.{Kind, ingredient, cookware, to_ingredient, to_cookware, to_step, to_section, Relation, definition, reference, Entry, entry_of, set_relation, set_modifiers}
-use Rattle.rules.specs.Reference.{entry_at}
+use Rattle.rules.specs.Model.{Kind, ingredient, cookware, to_ingredient, to_cookware, to_step, to_section, Relation, definition, reference, Entry, entry_of, set_relation, set_modifiers, is_own}
+use Rattle.rules.specs.Reference.{entry_at, own_references}
 use Rattle.rules.specs.State.{State, table_of, Outcome, recipe, no_recipe, refusal}
 use Rattle.rules.specs.Input.{Input}
 use Rattle.rules.specs.Answer.{words_needed, collection, work_after}
-use Rattle.rules.proofs.Referrers.{is_own}
-use Rattle.rules.proofs.LinkedRecipe.{own_references}
 use Rattle.refusals.specs.Told.{told_of}
 use Rattle.refusals.specs.declared.Refusal.{Refusal}
 use Rattle.model.specs.Rows.{component_of_line}

@@ -10,16 +10,12 @@ use Rattle.rules.specs.Input.{Context}
 use Rattle.rules.specs.Event.{Component, Intermediate, Event}
 use Rattle.rules.specs.Modes.{Modes}
 use Rattle.rules.specs.Model.{Kind, ingredient, cookware, with_ref, Relation, definition, reference, Entry, entry_with, entry_of, set_relation, set_modifiers}
-use Rattle.rules.specs.Reference.{Earlier, fits, same_name_in, same_name_of, treat_as_reference, refers_to, as_referring, referred_by, set_referenced_from, is_definition}
+use Rattle.rules.specs.Reference.{Earlier, fits, same_name_in, same_name_of, treat_as_reference, refers_to, as_referring, referred_by, set_referenced_from, is_definition, DefinedWithoutRef, defined_none, defined_more}
 use Rattle.rules.specs.State.{State, first_state, table_of, Step, next, stop, going, refused}
 use Rattle.rules.specs.Components.{Made, new_entry, found_same, made_with, made_by_name, made_intermediate, make_ingredient, referred, pushed, refers_to_reference}
 use Rattle.rules.specs.Pass.{on_event, walk}
 use Rattle.rules.proofs.Basics.{pick_either, no_some, no_truth, some_inj}
 use Rattle.rules.proofs.TableSteps.{MadeBy, by_name, by_place, TablesAfter, line_stops, line_chains, event_tables, OnStep, OnWalk, walk_keeps, Onward, line_related}
-
-pub data Sound : List Entry → Type 0 where
-  sound_none : Sound []
-  sound_more : {e : Entry} {es : List Entry} → (e.modifiers.ref ≡ false → is_definition e.relation ≡ true) → Sound es → Sound (e ∷ es)
 
 fits_unmarked : (f : List ℕ) (a o : Bool) (e : Entry) → fits f a o e ≡ true → e.modifiers.ref ≡ false
 unfolding fits
@@ -29,10 +25,10 @@ fits_unmarked f a o e q = go e.modifiers.ref refl
     go true p = no_truth (rw p at q)
     go false p = p
 
-pub found_definition : {es : List Entry} (f : List ℕ) (a o : Bool) (d : Earlier) → Sound es → same_name_in f a o es ≡ Some d → is_definition d.entry.relation ≡ true
+pub found_definition : {es : List Entry} (f : List ℕ) (a o : Bool) (d : Earlier) → DefinedWithoutRef es → same_name_in f a o es ≡ Some d → is_definition d.entry.relation ≡ true
 unfolding same_name_in
-found_definition f a o d sound_none q = no_some q
-found_definition f a o d (sound_more {e} {es} h s) q = go (found_definition f a o d s) (fits f a o e) refl
+found_definition f a o d defined_none q = no_some q
+found_definition f a o d (defined_more {e} {es} h s) q = go (found_definition f a o d s) (fits f a o e) refl
   where
     go : (same_name_in f a o es ≡ Some d → is_definition d.entry.relation ≡ true) → (b : Bool) → fits f a o e ≡ b → is_definition d.entry.relation ≡ true
     go ih true p =
@@ -45,13 +41,13 @@ unfolding referred_by is_definition
 referrer_kept n (definition b by) = refl
 referrer_kept n (reference t j) = refl
 
-set_sound : {es : List Entry} (i n : ℕ) → Sound es → Sound (set_referenced_from i n es)
+set_sound : {es : List Entry} (i n : ℕ) → DefinedWithoutRef es → DefinedWithoutRef (set_referenced_from i n es)
 unfolding set_referenced_from set_relation
-set_sound i n sound_none = sound_none
-set_sound i n (sound_more {e} {es} h s) =
-    pick_either Sound (eqb i (length es)) _ _ (λ b. sound_more (λ q. referrer_kept n e.relation ∙ h q) s) (λ b. sound_more h (set_sound i n s))
+set_sound i n defined_none = defined_none
+set_sound i n (defined_more {e} {es} h s) =
+    pick_either DefinedWithoutRef (eqb i (length es)) _ _ (λ b. defined_more (λ q. referrer_kept n e.relation ∙ h q) s) (λ b. defined_more h (set_sound i n s))
 
-referred_sound : {es : List Entry} (o : Option Earlier) → Sound es → Sound (referred o es)
+referred_sound : {es : List Entry} (o : Option Earlier) → DefinedWithoutRef es → DefinedWithoutRef (referred o es)
 unfolding referred
 referred_sound None s = s
 referred_sound (Some d) s = set_sound d.index _ s
@@ -75,7 +71,7 @@ unfolding as_referring set_relation set_modifiers with_ref
 entry_sound k new None h q = h
 entry_sound k new (Some d) h q = no_truth (sym q)
 
-to_sound : (m : Modes) (new : Entry) (es : List Entry) (o : Option Earlier) → Sound es → refers_to m new (found_same new es) ≡ o → refers_to_reference o ≡ false
+to_sound : (m : Modes) (new : Entry) (es : List Entry) (o : Option Earlier) → DefinedWithoutRef es → refers_to m new (found_same new es) ≡ o → refers_to_reference o ≡ false
 unfolding refers_to_reference found_same same_name_of
 to_sound m new es None s q = refl
 to_sound m new es (Some d) s q = rw (found_definition _ _ _ d s (refers_same m new _ d q))
@@ -84,12 +80,12 @@ new_definition : (k : Kind) (c : Component) (st : State) → is_definition (new_
 unfolding new_entry entry_of entry_with is_definition
 new_definition k c st = refl
 
-pushed_sound : (m : Made) (es : List Entry) → SoundMade m → Sound es → Sound (pushed m es)
+pushed_sound : (m : Made) (es : List Entry) → SoundMade m → DefinedWithoutRef es → DefinedWithoutRef (pushed m es)
 unfolding pushed
-pushed_sound m es h s = sound_more h.entry_is (referred_sound m.refers_to s)
+pushed_sound m es h s = defined_more h.entry_is (referred_sound m.refers_to s)
 
 abbrev pub SoundState : State → Type 0
-SoundState st = Sound st.tables.ingredients × Sound st.tables.cookware
+SoundState st = DefinedWithoutRef st.tables.ingredients × DefinedWithoutRef st.tables.cookware
 
 -- no line is refused with 18
 abbrev NotChained : ℕ → Type 0
@@ -98,21 +94,21 @@ NotChained n = eqb n 18 ≡ false
 abbrev pub SoundStep : Step → Type 0
 SoundStep s = OnStep SoundState NotChained s
 
-pub state_sound : (st : State) → ((k : Kind) → Sound (table_of k st)) → SoundState st
+pub state_sound : (st : State) → ((k : Kind) → DefinedWithoutRef (table_of k st)) → SoundState st
 unfolding table_of
 state_sound st s = (s ingredient, s cookware)
 
-pub table_sound : (k : Kind) (st : State) → SoundState st → Sound (table_of k st)
+pub table_sound : (k : Kind) (st : State) → SoundState st → DefinedWithoutRef (table_of k st)
 unfolding table_of
 table_sound ingredient st s = s.0
 table_sound cookware st s = s.1
 
 pub first_sound : SoundState first_state
 unfolding first_state
-first_sound = (sound_none, sound_none)
+first_sound = (defined_none, defined_none)
 
 module _ (cx : Context) where
-  pub by_name_sound : (k : Kind) (c : Component) (st : State) → Sound (table_of k st) → SoundMade (made_by_name cx.units cx.flags k c st)
+  pub by_name_sound : (k : Kind) (c : Component) (st : State) → DefinedWithoutRef (table_of k st) → SoundMade (made_by_name cx.units cx.flags k c st)
   unfolding made_by_name made_with
   by_name_sound k c st s =
       record { entry_is = entry_sound k (new_entry k c st) _ (new_definition k c st); to_is = to_sound st.modes (new_entry k c st) (table_of k st) _ s refl }
@@ -122,17 +118,17 @@ module _ (cx : Context) where
   unfolding make_ingredient made_intermediate set_relation new_entry entry_of entry_with refers_to_reference
   intermediate_sound c i st r = record { entry_is = λ q. no_truth (sym q ∙ r); to_is = refl }
 
-  made_sound : (k : Kind) (m : Made) (st : State) → MadeBy cx st k m → Sound (table_of k st) → SoundMade m
+  made_sound : (k : Kind) (m : Made) (st : State) → MadeBy cx st k m → DefinedWithoutRef (table_of k st) → SoundMade m
   made_sound k m st h s = by st k m h s
     where
-      by : (st : State) (k : Kind) (m : Made) → MadeBy cx st k m → Sound (table_of k st) → SoundMade m
+      by : (st : State) (k : Kind) (m : Made) → MadeBy cx st k m → DefinedWithoutRef (table_of k st) → SoundMade m
       by st k m (by_name x c) s = by_name_sound x c st s
       by st k m (by_place c i r) s = intermediate_sound c i st r
 
   -- ---- every line, and the walk
 
   abbrev SoundAfter : Kind → List Entry → List Entry → Type 0
-  SoundAfter k es fs = Sound es → Sound fs
+  SoundAfter k es fs = DefinedWithoutRef es → DefinedWithoutRef fs
 
   sound_onward : Onward cx SoundAfter
   sound_onward =
@@ -154,7 +150,7 @@ module _ (cx : Context) where
   walk_sound es = walk_keeps SoundState NotChained cx refl event_sound es 1 (going first_state) first_sound
 
   -- in every state that the pass reaches, an entry without REF is a definition
-  pub pass_sound : (es : List Event) (st : State) → walk cx 1 (going first_state) es ≡ going st → (k : Kind) → Sound (table_of k st)
+  pub pass_sound : (es : List Event) (st : State) → walk cx 1 (going first_state) es ≡ going st → (k : Kind) → DefinedWithoutRef (table_of k st)
   pass_sound es st q k = table_sound k st (subst (OnWalk SoundState NotChained) q (walk_sound es))
 
   -- no walk is refused with 18

@@ -8,11 +8,11 @@ use lib.Dec.{ltb}
 use lib.ListN.{length, take}
 use lib.Seq.{drop-append_seam}
 use borrow.Author.Tests.{ltb-true, ltb-false, lt-ltb, le-ltb}
-use Rattle.rules.specs.Utf8.{size_of, second, later, chars_from, chars, is_utf8, encode_char, encode}
+use Rattle.rules.specs.Utf8.{size_of, second, later, chars_from, chars, is_utf8, encode_char, encode, Scalar}
 use Rattle.rules.proofs.Basics.{pick_either, by_order}
 use Rattle.rules.proofs.Begins.{Begins, one, two, three, four, begins_more, size_1, size_2, size_3, size_4, second_yes, second_from, second_to, low_at, later_yes, later_from, later_to}
 use Rattle.rules.proofs.Chars.{well_from, well_utf8, chars_begins, well_begins, starts, skip_chars, skip_well}
-use Rattle.rules.proofs.Scalars.{Scalar, Scalars, scalars_none, scalars_more, scalar_low}
+use Rattle.rules.proofs.Scalars.{Scalars, scalars_none, scalars_more, scalar_low}
 
 -- ---- the bytes of a scalar value
 

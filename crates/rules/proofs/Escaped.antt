@@ -7,11 +7,11 @@ use Rattle.std.specs.Prelude.{Option, None, Some}
 use native.Mathlib.Omega.{arith}
 use lib.Dec.{eqb, ltb}
 use borrow.Author.Tests.{ltb-true, eqb-true, eqb-false, ne_eqb}
-use Rattle.rules.specs.Utf8.{is_utf8, encode_char, encode}
+use Rattle.rules.specs.Utf8.{is_utf8, encode_char, encode, Scalar}
 use Rattle.rules.specs.Sheet.{escaped, onto, unescape, escape_char, escape}
 use Rattle.rules.proofs.Basics.{pick_either, by_order, no_some, some_inj}
 use Rattle.rules.proofs.Chars.{well_utf8, utf8_none, utf8_ascii}
-use Rattle.rules.proofs.Scalars.{Scalar, Scalars, scalars_none, scalars_more, chars_scalars}
+use Rattle.rules.proofs.Scalars.{Scalars, scalars_none, scalars_more, chars_scalars}
 use Rattle.rules.proofs.Encodes.{spelled, spelled_well, encode_1, encode_chars}
 
 -- bytes beyond ASCII

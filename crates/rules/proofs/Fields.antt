@@ -7,13 +7,8 @@ use Rattle.std.specs.Prelude.{Option, None, Some}
 use lib.Dec.{eqb}
 use borrow.Author.Tests.{eqb-true}
 use Rattle.rules.specs.Basic.{tab, lf, backslash, on_first, split_at, join_by, each}
-use Rattle.rules.specs.Sheet.{Lines, last, more, on_line, lines, fields_of, escaped, onto, unescape, escape_char, escape, line_of}
+use Rattle.rules.specs.Sheet.{Without, without_none, without_more, Lines, last, more, on_line, lines, fields_of, escaped, onto, unescape, escape_char, escape, line_of}
 use Rattle.rules.proofs.Basics.{pick_either, no_some, some_inj}
-
--- no b among these
-pub data Without (b : ℕ) : List ℕ → Type 0 where
-  without_none : Without b []
-  without_more : {c : ℕ} {s : List ℕ} → eqb c b ≡ false → Without b s → Without b (c ∷ s)
 
 pub without_both : {b : ℕ} {s t : List ℕ} → Without b s → Without b t → Without b (s ++ t)
 without_both without_none h = h

@@ -8,11 +8,10 @@ use lib.Dec.{eqb}
 use borrow.Author.Tests.{eqb-true}
 use Rattle.rules.specs.Basic.{pick, codes, tab, lf, minus, eq_list, each}
 use Rattle.rules.specs.Utf8.{is_utf8}
-use Rattle.rules.specs.Sheet.{escape_char, escape}
+use Rattle.rules.specs.Sheet.{escape_char, escape, Without}
 use Rattle.rules.specs.Read.{Fields, Reader, go_on, ◌>>=◌, give, saying, got_one, opt, field}
 use Rattle.rules.specs.Write.{opt_fields}
 use Rattle.rules.proofs.Basics.{no_some, no_truth, some_inj}
-use Rattle.rules.proofs.Fields.{Without}
 
 -- the fields of a line as its bytes have them
 abbrev pub raw : Fields → Fields

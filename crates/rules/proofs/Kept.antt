@@ -10,7 +10,7 @@ use lib.ListN.{length}
 use borrow.Author.Tests.{eqb-true, ltb-false, le-ltb}
 use Rattle.rules.specs.Input.{Context}
 use Rattle.rules.specs.Basic.{lf, is_empty, all}
-use Rattle.rules.specs.Sheet.{Lines, last, more, on_line, lines}
+use Rattle.rules.specs.Sheet.{Lines, last, more, on_line, lines, Without}
 use Rattle.rules.specs.Words.{step_kind, text_kind}
 use Rattle.rules.specs.Event.{Span, Component, Intermediate, ComponentEvent, ingredient_event, cookware_event, timer_event, Between, meta_event, section_event, start_event, Inside, end_event, text_event, component_event, Event, between, inside, parser_event, component_span, named_spans, component_spans, spans_of}
 use Rattle.rules.specs.Read.{parse_line}
@@ -22,7 +22,7 @@ use Rattle.rules.specs.Pass.{step}
 use Rattle.rules.specs.Plain.{traced, mark_ref, marked_if, unless_listed, marked_component, in_plain_step, is_mode_key, plain_between, in_plain_text, plain_inside, plain_event, plain_events, trace_from, sheet_of}
 use Rattle.rules.specs.Answer.{Reading, events, unread, with_event, is_good_span, read_line, read_from, read_sheet}
 use Rattle.rules.proofs.Basics.{pick_either, and_left, and_both}
-use Rattle.rules.proofs.Fields.{Without, EachLine, each_more, lines_without, lines_line}
+use Rattle.rules.proofs.Fields.{EachLine, each_more, lines_without, lines_line}
 use Rattle.rules.proofs.Given.{raw, Good}
 use Rattle.rules.proofs.TakenLine.{empty_is}
 use Rattle.rules.proofs.TakenEvent.{GoodParts, GoodInside, GoodEvent}

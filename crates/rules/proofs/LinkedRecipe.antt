@@ -10,8 +10,8 @@ use lib.ListN.{length}
 use Rattle.rules.specs.Input.{Input, Context, context_of}
 use Rattle.rules.specs.Basic.{pick, is_some}
 use Rattle.rules.specs.Event.{Event}
-use Rattle.rules.specs.Model.{Kind, ingredient, cookware, Relation, definition, reference, Entry, set_relation}
-use Rattle.rules.specs.Reference.{Earlier, entry_at, referred_by, set_referenced_from, is_definition}
+use Rattle.rules.specs.Model.{Kind, ingredient, cookware, Relation, definition, reference, Entry, set_relation, is_own}
+use Rattle.rules.specs.Reference.{Earlier, entry_at, referred_by, set_referenced_from, is_definition, is_own_reference, own_references}
 use Rattle.rules.specs.State.{State, first_state, set_kept, table_of, report, over_limits, going, Outcome, recipe}
 use Rattle.rules.specs.Components.{Made, referred, pushed}
 use Rattle.rules.specs.Pass.{is_open, is_empty_section, close_section, walk, ended, unless_over, finish, parse_events}
@@ -21,7 +21,7 @@ use Rattle.rules.proofs.Basics.{pick_either, no_some, no_truth, some_inj}
 use Rattle.rules.proofs.SimWalk.{Went, went}
 use Rattle.rules.proofs.Order.{collected, collected_is}
 use Rattle.rules.proofs.TableSteps.{Onward, walk_related}
-use Rattle.rules.proofs.Referrers.{is_own, Linked, MadeLinked, made_definition, made_elsewhere, made_reference, own_target, made_linked, walk_linked}
+use Rattle.rules.proofs.Referrers.{Linked, MadeLinked, made_definition, made_elsewhere, made_reference, own_target, made_linked, walk_linked}
 
 -- ---- every recipe
 
@@ -56,16 +56,6 @@ unfolding is_accepted
 collection_linked i st q = recipe_linked (context_of i) (events_of i) st (sym (collected_is i (collected i (ap is_accepted q))) ∙ q)
 
 -- ---- how many refer
-
-unfoldable pub is_own_reference : Kind → Relation → Bool
-is_own_reference k (definition in_step by) = false
-is_own_reference k (reference t j) = is_own k t
-
-module _ (k : Kind) where
-  -- the references to an entry of their own table
-  unfoldable pub own_references : List Entry → ℕ
-  own_references [] = 0
-  own_references (e ∷ es) = pick (is_own_reference k e.relation) 1 0 + own_references es
 
 unfoldable pub referrers_of : Relation → ℕ
 referrers_of (definition in_step by) = length by

@@ -9,9 +9,9 @@ use native.Mathlib.Nat.{pow-suc}
 use lib.Dec.{eqb, leb, ltb}
 use borrow.Author.Tests.{ltb-true, ltb-false, leb-true, eqb-true, eqb-false, lt-ltb, le-ltb, le-leb, ne_eqb}
 use Rattle.rules.specs.Basic.{pick, tab, lf, backslash, minus, is_digit, digits, decimal}
-use Rattle.rules.specs.Sheet.{digits_from, at_most, only_zero, number_up_to, escape}
+use Rattle.rules.specs.Sheet.{digits_from, at_most, only_zero, number_up_to, escape, Without, without_none, without_more}
 use Rattle.rules.proofs.Basics.{pick_either, no_some, some_inj, within_from, within_to}
-use Rattle.rules.proofs.Fields.{Without, without_none, without_more, without_both, escape_plain}
+use Rattle.rules.proofs.Fields.{without_both, escape_plain}
 
 -- ---- the digits of a number, from the last one
 

@@ -7,13 +7,13 @@ use Rattle.std.specs.Prelude.{Option, None, Some}
 use native.Mathlib.Omega.{arith}
 use Rattle.rules.specs.Basic.{pick, tab, lf, each, split_at, join_by}
 use Rattle.rules.specs.Utf8.{is_utf8}
-use Rattle.rules.specs.Sheet.{fields_of, escape, line_of}
+use Rattle.rules.specs.Sheet.{fields_of, escape, line_of, Without, without_more}
 use Rattle.rules.specs.Words.{EventWord, event_words}
 use Rattle.rules.specs.Event.{Event}
 use Rattle.rules.specs.Read.{Fields, go_on, ◌>>=◌, give, no_more, word, read_after, read_event, first_read, parse_line}
 use Rattle.rules.specs.Write.{event_fields, write_line}
 use Rattle.rules.proofs.Basics.{no_some, some_inj, and_left, and_right, and_both}
-use Rattle.rules.proofs.Fields.{Without, without_more, without_left, without_right, AllWithout, all_none, all_more, split_join, join_split, split_without}
+use Rattle.rules.proofs.Fields.{without_left, without_right, AllWithout, all_none, all_more, split_join, join_split, split_without}
 use Rattle.rules.proofs.Chars.{utf8_split}
 use Rattle.rules.proofs.Given.{raw, Good, good_none, good_more, good_right, Gave, Writes}
 use Rattle.rules.proofs.TakenEvent.{GoodEvent, TakenEvent, word_field, word_fields, gives_event_word, gives_after}

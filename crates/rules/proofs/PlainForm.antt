@@ -28,6 +28,7 @@ use Rattle.rules.proofs.FaultWalk.{Every, every_lines, lines_every, clear_trace,
 use Rattle.rules.proofs.Order.{InOrder, form_order, collected_is, collected}
 use Rattle.rules.proofs.Collected.{recipe_yields, failed_yields, FirstError, first_error, error_at}
 use Rattle.rules.proofs.Warnings.{plain_parsers}
+use Rattle.rules.proofs.Lending.{plain_lent}
 
 not_answered : {P : Type 0} {n l : ℕ} {f : List ℕ} → declined n l ≡ answered f → P
 not_answered q = absurd (let z : ◌≡◌ {A = ℕ} 0 1 = cc in omega arith)
@@ -366,6 +367,7 @@ plain_form_holds i =
       accepted = of_form i (λ f. is_accepted (collection (with_sheet f i)) ≡ true) (form_accepted i);
       same = of_form i (λ f. SamePage (collection (with_sheet f i)) (collection i)) (form_page_lem i);
       own = of_form i (λ f. plain_form (with_sheet f i) ≡ answered f) (own_answer i);
+      lent = plain_lent i;
     }
 
 -- beside it: a form keeps the sheet's `warning` lines, in order

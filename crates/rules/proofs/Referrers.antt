@@ -12,7 +12,7 @@ use Rattle.rules.specs.Input.{Context}
 use Rattle.rules.specs.Basic.{pick, on_some}
 use Rattle.rules.specs.Words.{IntermediateTarget, target_step, target_section}
 use Rattle.rules.specs.Event.{Component, Intermediate, Event}
-use Rattle.rules.specs.Model.{Kind, ingredient, cookware, Target, to_ingredient, to_cookware, to_step, to_section, target_of, Relation, definition, reference, Entry, entry_with, entry_of, set_relation, set_modifiers}
+use Rattle.rules.specs.Model.{Kind, ingredient, cookware, Target, to_ingredient, to_cookware, to_step, to_section, target_of, Relation, definition, reference, Entry, entry_with, entry_of, set_relation, set_modifiers, is_own}
 use Rattle.rules.specs.Reference.{Earlier, same_name_of, entry_at, refers_to, as_referring, referred_by, set_referenced_from, is_definition}
 use Rattle.rules.specs.Checks.{intermediate_target, intermediate_relation}
 use Rattle.rules.specs.State.{State, first_state, table_of, going}
@@ -24,16 +24,6 @@ use Rattle.rules.proofs.Chained.{refers_same}
 use Rattle.rules.proofs.TableSteps.{MadeBy, by_name, by_place, Onward, walk_related}
 
 -- ---- the entries that refer to an entry of their own table
-
-unfoldable pub is_own : Kind → Target → Bool
-is_own ingredient to_ingredient = true
-is_own ingredient to_cookware = false
-is_own ingredient to_step = false
-is_own ingredient to_section = false
-is_own cookware to_ingredient = false
-is_own cookware to_cookware = true
-is_own cookware to_step = false
-is_own cookware to_section = false
 
 module _ (k : Kind) (d : ℕ) where
   unfoldable pub refers_own : Relation → Bool

@@ -8,14 +8,9 @@ use native.Mathlib.Omega.{arith}
 use lib.Dec.{eqb, leb, ltb}
 use borrow.Author.Tests.{ltb-true, ltb-false, leb-false, eqb-true, eqb-false, le-leb}
 use Rattle.rules.specs.Basic.{within}
-use Rattle.rules.specs.Utf8.{second, first_of, char_or, followers, chars_from, chars}
+use Rattle.rules.specs.Utf8.{Scalar, second, first_of, char_or, followers, chars_from, chars}
 use Rattle.rules.proofs.Basics.{no_truth, within_low, within_high}
 use Rattle.rules.proofs.Begins.{Begins, one, two, three, four, begins, low_at, high_at}
-
--- a scalar value: a code point that is no surrogate
-pub record Scalar (c : ℕ) : Type 0 where
-  pub top : c < 1114112
-  pub gap : within 55296 57343 c ≡ false
 
 pub data Scalars : List ℕ → Type 0 where
   scalars_none : Scalars []

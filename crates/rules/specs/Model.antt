@@ -98,6 +98,17 @@ unfoldable pub target_of : Kind → Target
 target_of ingredient = to_ingredient
 target_of cookware = to_cookware
 
+-- whether what a reference of the kind means is an entry of its own table
+unfoldable pub is_own : Kind → Target → Bool
+is_own ingredient to_ingredient = true
+is_own ingredient to_cookware = false
+is_own ingredient to_step = false
+is_own ingredient to_section = false
+is_own cookware to_ingredient = false
+is_own cookware to_cookware = true
+is_own cookware to_step = false
+is_own cookware to_section = false
+
 -- `ComponentRelation`, `IngredientRelation`
 pub data Relation : Type 0 where
   -- whether it is defined in a step (not in components mode), and the indices that refer to it, newest first

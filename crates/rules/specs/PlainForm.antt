@@ -51,8 +51,7 @@ form_bytes i = sheet_of (plain_events (context_of i) (trace_from (context_of i) 
 abbrev pub plain_form : Input → Answer
 plain_form i = plain_answer i enough
 
--- what it answers with other memory (proofs/Lending.antt): "Where the form would be handed out but too little room is lent, 1 or 20
--- answers in its place."
+-- what it answers with other memory: 1 where work memory is too short, 20 where the output is too short for the form
 abbrev pub fitted : ℕ → Answer → Answer
 fitted room (answered bytes) = hand_out room bytes
 fitted room (declined n l) = declined n l
@@ -121,3 +120,6 @@ module _ (i : Input) where
     pub same : (form : List ℕ) → HandedOut form → SamePage (collection (with_sheet form i)) (collection i)
     -- 6. its own plain form is itself
     pub own : (form : List ℕ) → HandedOut form → plain_form (with_sheet form i) ≡ answered form
+    -- 7. all this is with memory enough. "Where the form would be handed out but too little room is lent, 1 or 20 answers in its
+    -- place.", and a sheet that is declined is so by its own number, but for 1
+    pub lent : (m : Lent) → plain_answer i m ≡ lent_to m (plain_form i)

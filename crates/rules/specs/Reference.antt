@@ -1,10 +1,10 @@
 -- What a new component refers to (`resolve_reference`, `set_referenced_from`).
-use Rattle.std.specs.Prelude.{ℕ, List, [], ◌∷◌, ◌++◌, reverse, Bool, true, false, ◌&&◌, ◌||◌, not, eqb, length, Option, None, Some}
+use Rattle.std.specs.Prelude.{ℕ, ◌+◌, ◌≡◌, List, [], ◌∷◌, ◌++◌, reverse, Bool, true, false, ◌&&◌, ◌||◌, not, eqb, length, Option, None, Some}
 use Rattle.rules.specs.Basic.{pick, eq_list, is_some, when}
 use Rattle.rules.specs.Unicode.{fold_name}
 use Rattle.rules.specs.Finding.{Finding, diag, found}
 use Rattle.rules.specs.Event.{Modifiers}
-use Rattle.rules.specs.Model.{Kind, both, either, any_beyond, with_ref, inherits, target_of, Relation, definition, reference, Entry, set_relation, set_modifiers}
+use Rattle.rules.specs.Model.{Kind, both, either, any_beyond, with_ref, inherits, target_of, is_own, Relation, definition, reference, Entry, set_relation, set_modifiers}
 use Rattle.rules.specs.Modes.{Modes, is_steps, is_reference}
 
 -- ---- the same-name search
@@ -102,3 +102,21 @@ is_definition (reference t j) = false
 unfoldable pub referrers : Relation → List ℕ
 referrers (definition in_step by) = reverse by
 referrers (reference t j) = []
+
+-- what the pass keeps of a table: an entry without REF is a definition, so no search finds a reference
+pub data DefinedWithoutRef : List Entry → Type 0 where
+  defined_none : DefinedWithoutRef []
+  defined_more : {e : Entry} {es : List Entry} → (e.modifiers.ref ≡ false → is_definition e.relation ≡ true) → DefinedWithoutRef es
+      → DefinedWithoutRef (e ∷ es)
+
+-- ---- how many refer to an entry of their own table
+
+unfoldable pub is_own_reference : Kind → Relation → Bool
+is_own_reference k (definition in_step by) = false
+is_own_reference k (reference t j) = is_own k t
+
+module _ (k : Kind) where
+  -- the references to an entry of their own table
+  unfoldable pub own_references : List Entry → ℕ
+  own_references [] = 0
+  own_references (e ∷ es) = pick (is_own_reference k e.relation) 1 0 + own_references es

@@ -1,5 +1,5 @@
 -- Lines, fields, escapes, numbers, over bytes (document 01, "The event sheet").
-use Rattle.std.specs.Prelude.{ℕ, ◌+◌, ◌-◌, ◌*◌, List, [], ◌∷◌, ◌++◌, Bool, true, false, eqb, leb, Option, None, Some}
+use Rattle.std.specs.Prelude.{ℕ, ◌+◌, ◌-◌, ◌*◌, ◌≡◌, List, [], ◌∷◌, ◌++◌, Bool, true, false, eqb, leb, Option, None, Some}
 use Rattle.rules.specs.Basic.{pick, codes, tab, lf, backslash, minus, is_digit, each, split_at, join_by, decimal}
 
 -- "UTF-8 lines, each ended by LF": the lines of some bytes, and what stands after the last LF
@@ -14,6 +14,11 @@ on_line b (more l ls) = more (b ∷ l) ls
 unfoldable pub lines : List ℕ → Lines
 lines [] = last []
 lines (b ∷ r) = pick (eqb b lf) (more [] (lines r)) (on_line b (lines r))
+
+-- no b among these: no LF in a line, no tab in a field
+pub data Without (b : ℕ) : List ℕ → Type 0 where
+  without_none : Without b []
+  without_more : {c : ℕ} {s : List ℕ} → eqb c b ≡ false → Without b s → Without b (c ∷ s)
 
 -- "fields parted by tab": the fields of a line, still escaped
 unfoldable pub fields_of : List ℕ → List (List ℕ)

@@ -1,6 +1,11 @@
 -- Well-formed UTF-8 (the Unicode Standard, table 3-7), the code points of a text, and their bytes.
-use Rattle.std.specs.Prelude.{ℕ, zero, suc, pred, ◌+◌, ◌*◌, ◌/◌, ◌%◌, Bool, ◌&&◌, not, List, [], ◌∷◌, ◌++◌, leb, ltb, eqb, get_or, Option, None, Some}
+use Rattle.std.specs.Prelude.{ℕ, zero, suc, pred, ◌+◌, ◌*◌, ◌/◌, ◌%◌, ◌<◌, ◌≡◌, Bool, false, ◌&&◌, not, List, [], ◌∷◌, ◌++◌, leb, ltb, eqb, get_or, Option, None, Some}
 use Rattle.rules.specs.Basic.{pick, within, is_some}
+
+-- a scalar value: a code point that is no surrogate
+pub record Scalar (c : ℕ) : Type 0 where
+  pub top : c < 0x110000
+  pub gap : within 0xd800 0xdfff c ≡ false
 
 -- ---- table 3-7
 

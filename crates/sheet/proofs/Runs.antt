@@ -10,8 +10,8 @@ use lib.Dec.{eqb}
 use lib.ListN.{length, get_or, drop_of_length-le}
 use lib.Seq.{take-nil}
 use Rattle.rules.specs.Basic.{pick}
+use Rattle.rules.specs.Sheet.{without_none}
 use Rattle.rules.proofs.Basics.{no_truth, by_order}
-use Rattle.rules.proofs.Fields.{without_none}
 use Rattle.sheet.specs.Runs.{lacks, Lacking}
 use Rattle.sheet.proofs.Scans.{Scan, scan_starts, scan_more}
 

@@ -11,8 +11,8 @@ use lib.Dec.{eqb}
 use lib.ListN.{length, get_or, take, drop, take-append-drop, length-append, length-drop}
 use lib.Seq.{drop-cons, take-suc, take_all, drop-drop, get_or-drop, drop-append-add}
 use Rattle.rules.specs.Basic.{tab, lf, split_at}
-use Rattle.rules.specs.Sheet.{lines, fields_of}
-use Rattle.rules.proofs.Fields.{Without, without_none, without_more, without_both, split_one, split_more, lines_more, lines_last}
+use Rattle.rules.specs.Sheet.{lines, fields_of, Without, without_none, without_more}
+use Rattle.rules.proofs.Fields.{without_both, split_one, split_more, lines_more, lines_last}
 use Rattle.sheet.specs.Lines.{lines_from, LineAt, fields_from, field_at}
 
 -- no b from `at` to i

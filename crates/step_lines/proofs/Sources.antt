@@ -8,12 +8,12 @@ use borrow.Author.Tests.{leb-true}
 use lib.Dec.{leb}
 use lib.ListN.{length, get_or, take, drop, length-append, length-drop}
 use lib.Seq.{get_or-append-add, get_or-drop, take_at, drop_at}
-use Rattle.rules.specs.Utf8.{size_of, encode_char, encode, chars, later, is_inside, is_utf8}
+use Rattle.rules.specs.Utf8.{size_of, encode_char, encode, chars, later, is_inside, is_utf8, Scalar}
 use Rattle.rules.specs.Sheet.{escape}
 use Rattle.rules.specs.Answer.{is_good_span}
 use Rattle.rules.specs.Pass.{source_text}
 use Rattle.rules.proofs.Basics.{by_order, no_truth, and_left, and_right}
-use Rattle.rules.proofs.Scalars.{Scalar, Scalars, scalars_none, scalars_more, chars_scalars}
+use Rattle.rules.proofs.Scalars.{Scalars, scalars_none, scalars_more, chars_scalars}
 use Rattle.rules.proofs.Encodes.{Spelled, spelled, encode_chars, utf8_encode}
 use Rattle.rules.proofs.Begins.{begins_more}
 use Rattle.rules.proofs.Insides.{begins_laters}

@@ -12,11 +12,11 @@ use Rattle.rules.specs.Basic.{pick, blank, each}
 use Rattle.rules.specs.Model.{as_slash}
 use Rattle.rules.specs.Text.{retain}
 use Rattle.rules.specs.Sheet.{escape, escape_char}
-use Rattle.rules.specs.Utf8.{encode, encode_char}
+use Rattle.rules.specs.Utf8.{encode, encode_char, Scalar}
 use Rattle.rules.proofs.Basics.{and_left, and_right, by_order}
 use Rattle.rules.proofs.Encodes.{encode_1}
 use Rattle.rules.proofs.Escaped.{Highs, highs_none, highs_more, encode_highs}
-use Rattle.rules.proofs.Scalars.{Scalar, Scalars, scalars_none, scalars_more}
+use Rattle.rules.proofs.Scalars.{Scalars, scalars_none, scalars_more}
 use Rattle.content.specs.Contents.{kept_in, spell}
 use Rattle.content.specs.Parts.{Field}
 use Rattle.content.proofs.Kept.{retain_front, retain_other, retain_keeps, retain_blank}

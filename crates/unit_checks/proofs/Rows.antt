@@ -13,8 +13,8 @@ use Rattle.rules.specs.Model.{Kind, ingredient, is_ingredient, amount_of, Source
 use Rattle.rules.specs.Reference.{entry_at}
 use Rattle.rules.specs.Checks.{is_defined_in_step}
 use Rattle.rules.specs.State.{table_of}
+use Rattle.rules.specs.Sheet.{Without}
 use Rattle.rules.proofs.Basics.{no_truth}
-use Rattle.rules.proofs.Fields.{Without}
 use Rattle.parts.specs.Views.{opt_quantity_in}
 use Rattle.components.specs.declared.ComponentView.{ComponentView}
 use Rattle.components.specs.Views.{component_in}

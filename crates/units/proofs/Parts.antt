@@ -9,10 +9,10 @@ use borrow.Author.Tests.{le-leb, lt-leb}
 use lib.ListN.{length}
 use Rattle.rules.specs.Basic.{pick, tab, is_empty, is_some, word_in, join_by}
 use Rattle.rules.specs.Utf8.{first_fault, is_utf8, chars}
-use Rattle.rules.specs.Sheet.{fields_of}
+use Rattle.rules.specs.Sheet.{fields_of, Without}
 use Rattle.rules.specs.Units.{PhysicalQuantity, physical_words, NamedUnit, named_unit, unit_of_fields, unit_of}
 use Rattle.rules.proofs.Basics.{no_some, some_inj, and_left}
-use Rattle.rules.proofs.Fields.{Without, AllWithout, all_more, join_split, split_without}
+use Rattle.rules.proofs.Fields.{AllWithout, all_more, join_split, split_without}
 use Rattle.rules.proofs.Chars.{utf8_split}
 use Rattle.utf8.proofs.Steps.{valid_utf8, fault_utf8}
 use Rattle.sheet.specs.Lines.{fields_from, field_at}

@@ -11,10 +11,10 @@ use lib.ListN.{length, get_or, drop, length-append, length-drop, drop_of_length-
 use lib.Seq.{drop-drop, drop-append-add, get_or-drop, get_or-append-add, take_at}
 use Rattle.rules.specs.Basic.{codes, tab, lf, eq_list, is_empty, is_some, word_in}
 use Rattle.rules.specs.Utf8.{is_utf8, chars}
-use Rattle.rules.specs.Sheet.{Lines, last, more, on_line, lines, fields_of}
+use Rattle.rules.specs.Sheet.{Lines, last, more, on_line, lines, fields_of, Without}
 use Rattle.rules.specs.Units.{PhysicalQuantity, volume, mass, len, temperature, time, physical_words, NamedUnit, unit_of, with_unit, units_of, units_or}
 use Rattle.rules.proofs.Basics.{pick_either, no_some, no_truth, some_inj}
-use Rattle.rules.proofs.Fields.{Without, split_more}
+use Rattle.rules.proofs.Fields.{split_more}
 use Rattle.rules.proofs.SameChars.{eq_true}
 use Rattle.sheet.specs.Lines.{fields_from, field_at}
 use Rattle.units.specs.declared.Physical.{Physical}

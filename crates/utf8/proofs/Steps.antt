@@ -8,9 +8,9 @@ use native.Mathlib.Omega.{arith}
 use lib.ListN.{length, drop, length-drop}
 use lib.Seq.{drop-drop}
 use Rattle.rules.specs.Basic.{is_some}
-use Rattle.rules.specs.Utf8.{first_of, first_fault, is_utf8, followers, chars_from, chars}
+use Rattle.rules.specs.Utf8.{first_of, first_fault, is_utf8, followers, chars_from, chars, Scalar}
 use Rattle.rules.proofs.Chars.{skip_chars, fits}
-use Rattle.rules.proofs.Scalars.{Scalar, char_scalar}
+use Rattle.rules.proofs.Scalars.{char_scalar}
 use Rattle.utf8.specs.declared.Char.{Char}
 use Rattle.utf8.specs.Reading.{char_of}
 
