@@ -1,7 +1,8 @@
 #!/usr/bin/env python3
-"""generate.py [--check]: writes every file that is made from others (the tables of data/unicode; the rules); with
---check it writes nothing and fails where a file is not what would be written. The tables themselves are checked first:
-form, order, counts, and that folding twice equals folding once."""
+"""generate.py [--check]: writes every file that is made from others (Unicode's files in data/unicode; the rules); with
+--check it writes nothing and fails where a file is not what would be written. Unicode's files are checked first: their
+SHA-256 against data/unicode/README.md; order, counts, and that folding twice equals folding once."""
+import hashlib
 import os
 import re
 import sys
@@ -11,11 +12,32 @@ DATA = os.path.join(HERE, "data", "unicode")
 LAST = 0x10FFFF
 
 
-def ranges(name, count):
+def sums():
+    text = open(os.path.join(DATA, "README.md"), encoding="utf-8").read()
+    return {name: told for told, name in re.findall(r"^ +([0-9a-f]{64})  (\S+)$", text, re.M)}
+
+
+def published(name):
+    """The fields of each line of one of Unicode's files, without comments."""
+    data = open(os.path.join(DATA, name), "rb").read()
+    if hashlib.sha256(data).hexdigest() != sums().get(name):
+        sys.exit("data/unicode/%s has not the SHA-256 that data/unicode/README.md says" % name)
+    lines = (line.split("#")[0].strip() for line in data.decode("utf-8").split("\n"))
+    return [[field.strip() for field in line.split(";")] for line in lines if line]
+
+
+def ranges(name, properties, count):
+    """The code points that have one of these properties, as maximal ranges in ascending order."""
+    found = []
+    for codes, *values in published(name):
+        if values[0] in properties:
+            ends = [int(x, 16) for x in codes.split("..")]
+            found.append((ends[0], ends[-1]))
     rows = []
-    for line in open(os.path.join(DATA, name), encoding="ascii"):
-        start, end = (int(x, 16) for x in line.rstrip("\n").split(".."))
-        assert start <= end <= LAST and (not rows or rows[-1][1] + 1 < start), line
+    for start, end in sorted(found):
+        assert start <= end <= LAST and (not rows or rows[-1][1] < start), (name, start)
+        if rows and rows[-1][1] + 1 == start:
+            start = rows.pop()[0]
         rows.append((start, end))
     assert len(rows) == count, (name, len(rows))
     return rows
@@ -23,13 +45,13 @@ def ranges(name, count):
 
 def foldings(name, count):
     rows = []
-    for line in open(os.path.join(DATA, name), encoding="ascii"):
-        key, status, mapping = line.rstrip("\n").split("; ")
-        to = [int(x, 16) for x in mapping.split(" ")]
-        assert status in "CF" and 1 <= len(to) <= 3 and 0 not in to, line
-        assert len(to) == 1 or status == "F", line
-        key = int(key, 16)
-        assert not rows or rows[-1][0] < key, line
+    for key, status, mapping, _ in published(name):
+        assert status in ("C", "F", "S", "T"), (name, key)
+        if status in ("S", "T"):
+            continue
+        key, to = int(key, 16), [int(x, 16) for x in mapping.split(" ")]
+        assert 1 <= len(to) <= 3 and 0 not in to and (len(to) == 1 or status == "F"), (name, key)
+        assert not rows or rows[-1][0] < key, (name, key)
         rows.append((key, to))
     assert len(rows) == count, (name, len(rows))
     keys = {k for k, _ in rows}
@@ -37,10 +59,10 @@ def foldings(name, count):
     return rows
 
 
-WHITE = ranges("White_Space-16.0.0.txt", 10)
-ALPHA = ranges("Alphabetic-16.0.0.txt", 757)
-NUMERIC = ranges("Numeric-16.0.0.txt", 144)
-FOLDING = foldings("CaseFolding-16.0.0-CF.txt", 1557)
+WHITE = ranges("PropList.txt", ["White_Space"], 10)
+ALPHA = ranges("DerivedCoreProperties.txt", ["Alphabetic"], 757)
+NUMERIC = ranges("DerivedGeneralCategory.txt", ["Nd", "Nl", "No"], 144)
+FOLDING = foldings("CaseFolding.txt", 1557)
 
 
 # ---- definitions
