@@ -41,10 +41,12 @@ use Rattle.model.specs.declared.Open.TheVariants.{Nothing, Step as StepBlock, Te
 use Rattle.model.specs.declared.Noted.{Noted}
 use Rattle.model.specs.declared.Held.{Held}
 use Rattle.model.proofs.Blanks.{blank_report}
+use Rattle.model.proofs.Writes.{writes_none, writes_on}
 use Rattle.memory.specs.Pushes.{FindingPushed, BlockKept, SectionBegun, is_open_block}
 use Rattle.memory.proofs.Smalls.{state_blank, with_block_lem}
 use Rattle.memory.proofs.Endings.{open_as}
 use Rattle.memory.proofs.Bounds.{sound_block, sound_items, fit_counts}
+use Rattle.memory.proofs.Writes.{finding_writes, block_writes}
 use Rattle.refusals.specs.declared.Reason.{Reason}
 use Rattle.refusals.specs.declared.Reason.TheVariants.{OtherEnd, ComponentInText as in_text}
 use Rattle.refusals.specs.Told.{number_of}
@@ -125,7 +127,7 @@ section_done (Some t) e s = section_as (Some t) s (λ line. sym e)
 -- ---- findings
 
 pub went_told : {f : State → State} {w : List ℕ} {h₀ h : Held} → Told f h₀ h → Sound w h₀ → ((sheet : List ℕ) → AllFit sheet w h₀ → AllFit sheet w h) → Went f w h₀ w h
-went_told {w = w} g z a = record { is = λ sheet. g.is sheet w; sound = g.sound w z; fit = a }
+went_told {w = w} g z a = record { is = λ sheet. g.is sheet w; sound = g.sound w z; fit = a; writes = writes_none }
 
 -- one finding after what f does
 pub went_found : {f : State → State} {w₀ w₁ w : List ℕ} {h₀ h₁ h : Held} {x : Noted} {d : Finding} → Went f w₀ h₀ w₁ h₁ → FindingPushed w₁ h₁ x w h → finding_of x ≡ d → Went (λ st. report (d ∷ []) (f st)) w₀ h₀ w h
@@ -134,11 +136,12 @@ went_found {f} {w₀} {w₁} {h₀ = h₀} {h₁ = h₁} {d = d} g p e =
       is = λ sheet. p.is sheet ∙ (ap (λ (y : Finding). report (y ∷ []) (state_in sheet w₁ h₁)) e ∙ (ap (report (d ∷ [])) (g.is sheet) ∙ sym (blank_report (d ∷ []) (f (state_in sheet w₀ h₀)))));
       sound = p.sound;
       fit = λ sheet a. p.fit sheet (g.fit sheet a);
+      writes = writes_on g.writes (finding_writes p);
     }
 
 -- nothing is done
 pub went_none : {w : List ℕ} {h : Held} → Sound w h → Went (λ st. st) w h w h
-went_none {w} {h} z = record { is = λ sheet. sym (state_blank sheet w h); sound = z; fit = λ sheet a. a }
+went_none {w} {h} z = record { is = λ sheet. sym (state_blank sheet w h); sound = z; fit = λ sheet a. a; writes = writes_none }
 
 pub found_one : {w₀ w : List ℕ} {h₀ h : Held} {x : Noted} {d : Finding} → Sound w₀ h₀ → FindingPushed w₀ h₀ x w h → finding_of x ≡ d → Went (report (d ∷ [])) w₀ h₀ w h
 found_one z p e = went_found (went_none z) p e
@@ -212,6 +215,7 @@ text_kept {w₀} {h₀ = h₀} k =
       is = λ sheet. keep_is k (text_block []) refl sheet ∙ ap (λ (n : ℕ). blank (keep_block (text_block []) n (state_in sheet w₀ h₀))) (sym (counter_of sheet w₀ h₀));
       sound = k.sound;
       fit = k.fit;
+      writes = block_writes k;
     }
 
 close_kept : (st : State) → is_components st.modes.define ≡ false → close_step [] st ≡ keep_block (step_block st.place.step_counter []) (suc st.place.step_counter) st
@@ -238,7 +242,7 @@ module _ {w₀ w : List ℕ} {h₀ h : Held} {b : Bool} (e : b ≡ is_components
       g ∙ ap blank (sym (close_kept (state_in sheet w₀ h₀) (components_of sheet w₀ h₀ e t)))
 
   pub step_kept : b ≡ false → BlockKept w₀ h₀ 1 (h₀.counts.counter + 1) w h → Went (close_step []) w₀ h₀ w h
-  step_kept t k = record { is = step_kept_is t k; sound = k.sound; fit = k.fit }
+  step_kept t k = record { is = step_kept_is t k; sound = k.sound; fit = k.fit; writes = block_writes k }
 
 module _ {w : List ℕ} {h₀ h : Held} {b : Bool} (e : b ≡ is_components (define_of h₀.define)) where
   pub step_dropped : b ≡ true → Sound w h₀ → h ≡ with_block Nothing h₀ → Went (close_step []) w h₀ w h
@@ -249,56 +253,57 @@ module _ {w : List ℕ} {h₀ h : Held} {b : Bool} (e : b ≡ is_components (def
         is = λ sheet. block_is sheet w h₀ Nothing no_block refl ∙ ap blank (sym (close_dropped (state_in sheet w h₀) (components_of sheet w h₀ e t)));
         sound = sound_block z Nothing;
         fit = λ sheet a. fit_counts refl refl a;
+        writes = writes_none;
       }
 
 -- ---- lines in a block
 
 pub stepped : {f : State → State} {w₀ w : List ℕ} {h₀ h : Held} → Went f w₀ h₀ w h → Stepped (λ st. next (f st)) w₀ h₀ w (Ok h)
 unfolding step_in SoundStep FitStep blank_step
-stepped g = record { is = λ sheet. ap next (g.is sheet); sound = g.sound; fit = g.fit }
+stepped g = record { is = λ sheet. ap next (g.is sheet); sound = g.sound; fit = g.fit; writes = g.writes }
 
-pub stopped : {w₀ w : List ℕ} {h₀ : Held} (r : Reason) → Stepped (λ st. stop (number_of r)) w₀ h₀ w (Err r)
+pub stopped : {w : List ℕ} {h₀ : Held} (r : Reason) → Stepped (λ st. stop (number_of r)) w h₀ w (Err r)
 unfolding step_in SoundStep FitStep blank_step
-stopped r = record { is = λ sheet. refl; sound = tt; fit = λ sheet a. tt }
+stopped r = record { is = λ sheet. refl; sound = tt; fit = λ sheet a. tt; writes = writes_none }
 
-module _ {w₀ w : List ℕ} {h₀ : Held} {k : BlockKind} where
-  pub step_ended : {h : Held} → k ≡ block.Step → Went (close_step []) w₀ h₀ w h → StepEnded k w₀ h₀ w (Ok h)
+module _ {w₀ : List ℕ} {h₀ : Held} {k : BlockKind} where
+  pub step_ended : {w : List ℕ} {h : Held} → k ≡ block.Step → Went (close_step []) w₀ h₀ w h → StepEnded k w₀ h₀ w (Ok h)
   unfolding in_step_block block_in
   step_ended e g = rw e record { at = λ cx. stepped g }
 
-  pub step_refused : k ≡ block.Text → StepEnded k w₀ h₀ w (Err OtherEnd)
+  pub step_refused : k ≡ block.Text → StepEnded k w₀ h₀ w₀ (Err OtherEnd)
   unfolding in_step_block block_in
   step_refused e = rw e record { at = λ cx. stopped OtherEnd }
 
-module _ {w₀ w : List ℕ} {h₀ : Held} {e : Inside} where
-  pub text_ended : {h : Held} (k : BlockKind) → e ≡ inside.End k → k ≡ block.Text → Went (close_text []) w₀ h₀ w h → InTextBlock e w₀ h₀ w (Ok h)
+module _ {w₀ : List ℕ} {h₀ : Held} {e : Inside} where
+  pub text_ended : {w : List ℕ} {h : Held} (k : BlockKind) → e ≡ inside.End k → k ≡ block.Text → Went (close_text []) w₀ h₀ w h → InTextBlock e w₀ h₀ w (Ok h)
   unfolding in_text_block inside_in block_in
   text_ended k p q g = rw (p, q) record { at = λ line. stepped g }
 
-  pub text_refused : (k : BlockKind) → e ≡ inside.End k → k ≡ block.Step → InTextBlock e w₀ h₀ w (Err OtherEnd)
+  pub text_refused : (k : BlockKind) → e ≡ inside.End k → k ≡ block.Step → InTextBlock e w₀ h₀ w₀ (Err OtherEnd)
   unfolding in_text_block inside_in block_in
   text_refused k p q = rw (p, q) record { at = λ line. stopped OtherEnd }
 
-  pub text_component : (c : ComponentEvent) → e ≡ inside.Component c → InTextBlock e w₀ h₀ w (Err in_text)
+  pub text_component : (c : ComponentEvent) → e ≡ inside.Component c → InTextBlock e w₀ h₀ w₀ (Err in_text)
   unfolding in_text_block inside_in
   text_component c p = rw p record { at = λ line. stopped in_text }
 
-  pub mode_ended : {h : Held} (k : BlockKind) → e ≡ inside.End k → Went (close_text []) w₀ h₀ w h → InTextMode e w₀ h₀ w (Ok h)
+  pub mode_ended : {w : List ℕ} {h : Held} (k : BlockKind) → e ≡ inside.End k → Went (close_text []) w₀ h₀ w h → InTextMode e w₀ h₀ w (Ok h)
   unfolding in_text_mode inside_in
   mode_ended k p g = rw p record { at = λ text line. stepped g }
 
-  pub mode_component : {h : Held} (c : ComponentEvent) → e ≡ inside.Component c → ComponentInText c w₀ h₀ w h → InTextMode e w₀ h₀ w (Ok h)
+  pub mode_component : {w : List ℕ} {h : Held} (c : ComponentEvent) → e ≡ inside.Component c → ComponentInText c w₀ h₀ w h → InTextMode e w₀ h₀ w (Ok h)
   unfolding in_text_mode inside_in
   mode_component c p g = rw p record { at = λ text line. stepped (g.at text line) }
 
 module _ {w : List ℕ} {h₀ h : Held} {e : Inside} (z : Sound w h₀) (t : TextView) (p : e ≡ inside.Text t) where
   pub text_more : h ≡ with_block TextBlock h₀ → InTextBlock e w h₀ w (Ok h)
   unfolding in_text_block inside_in blank_open open_of
-  text_more q = rw (p, q) record { at = λ line. stepped (record { is = λ sheet. block_is sheet w h₀ TextBlock _ refl; sound = sound_block z TextBlock; fit = λ sheet a. fit_counts refl refl a }) }
+  text_more q = rw (p, q) record { at = λ line. stepped (record { is = λ sheet. block_is sheet w h₀ TextBlock _ refl; sound = sound_block z TextBlock; fit = λ sheet a. fit_counts refl refl a; writes = writes_none }) }
 
   pub mode_more : h ≡ with_block TextMode h₀ → InTextMode e w h₀ w (Ok h)
   unfolding in_text_mode inside_in blank_open open_of
-  mode_more q = rw (p, q) record { at = λ text line. stepped (record { is = λ sheet. block_is sheet w h₀ TextMode _ refl; sound = sound_block z TextMode; fit = λ sheet a. fit_counts refl refl a }) }
+  mode_more q = rw (p, q) record { at = λ text line. stepped (record { is = λ sheet. block_is sheet w h₀ TextMode _ refl; sound = sound_block z TextMode; fit = λ sheet a. fit_counts refl refl a; writes = writes_none }) }
 
 -- ---- the span of a component
 
@@ -324,5 +329,5 @@ pub mode_found : {w₀ w : List ℕ} {h₀ h₁ h : Held} {x : Noted} {s : Span}
 unfolding component_in_text blank_open open_of
 mode_found {w₀} {h₀ = h₀} {x = x} z s q p e =
     record {
-      at = λ text line. went_found (record { is = λ sheet. block_is sheet w₀ h₀ TextMode _ refl; sound = sound_block z TextMode; fit = λ sheet a. fit_counts refl refl a }) (rw q at p) (rw (s.is line) at e);
+      at = λ text line. went_found (record { is = λ sheet. block_is sheet w₀ h₀ TextMode _ refl; sound = sound_block z TextMode; fit = λ sheet a. fit_counts refl refl a; writes = writes_none }) (rw q at p) (rw (s.is line) at e);
     }

@@ -1,6 +1,6 @@
 -- What a line of the sheet leaves in work memory: the state that memory stands for is the rules' state after the line, blank
 -- where memory keeps nothing.
-use Rattle.std.specs.Prelude.{ℕ, ◌≡◌, List, [], Bool, length, Option, Result, Ok, Err}
+use Rattle.std.specs.Prelude.{ℕ, ◌≡◌, List, [], Bool, false, is_err, length, Option, Result, Ok, Err}
 use Rattle.rules.specs.Event as rules
 use Rattle.rules.specs.Model.{Item}
 use Rattle.rules.specs.State.{State, set_block, Step, next, stop}
@@ -16,6 +16,7 @@ use Rattle.events.specs.declared.Inside.{Inside}
 use Rattle.model.specs.Blank.{blank, blank_step}
 use Rattle.model.specs.Memory.{state_in, Sound}
 use Rattle.model.specs.Fits.{AllFit}
+use Rattle.model.specs.Writes.{Writes}
 use Rattle.model.specs.declared.Open.{Open}
 use Rattle.model.specs.declared.Open.TheVariants.{Step as StepBlock, Text as TextBlock}
 use Rattle.model.specs.declared.Held.{Held}
@@ -29,18 +30,20 @@ pub record Told (f : State → State) (h₀ h : Held) : Type 0 where
   pub is : (sheet w : List ℕ) → state_in sheet w h ≡ blank (f (state_in sheet w h₀))
   pub sound : (w : List ℕ) → Sound w h₀ → Sound w h
 
--- the same where the words may change; rows go on pointing into the sheet
+-- the same where the words may change: rows go on pointing into the sheet, and words past those of the state stay
 pub record Went (f : State → State) (w₀ : List ℕ) (h₀ : Held) (w : List ℕ) (h : Held) : Type 0 where
   pub is : (sheet : List ℕ) → state_in sheet w h ≡ blank (f (state_in sheet w₀ h₀))
   pub sound : Sound w h
   pub fit : (sheet : List ℕ) → AllFit sheet w₀ h₀ → AllFit sheet w h
+  pub writes : Writes w₀ w false
 
--- what a line leaves where the rules may refuse: the small state, or why it is refused
+-- what a line leaves where the rules may refuse: the small state, or why it is refused; what the small state then is, is the
+-- program's choice
 abbrev pub left : Held → Result (Unit {0}) Reason → Result Held Reason
 left h (Ok u) = Ok h
 left h (Err r) = Err r
 
--- the same where the rules may refuse
+-- the same where the rules may refuse: then nothing is written
 unfoldable pub step_in : List ℕ → List ℕ → Result Held Reason → Step
 step_in sheet w (Ok h) = next (state_in sheet w h)
 step_in sheet w (Err r) = stop (number_of r)
@@ -57,6 +60,7 @@ pub record Stepped (f : State → Step) (w₀ : List ℕ) (h₀ : Held) (w : Lis
   pub is : (sheet : List ℕ) → step_in sheet w r ≡ blank_step (f (state_in sheet w₀ h₀))
   pub sound : SoundStep w r
   pub fit : (sheet : List ℕ) → AllFit sheet w₀ h₀ → FitStep sheet w r
+  pub writes : Writes w₀ w (is_err r)
 
 -- ---- the lines
 

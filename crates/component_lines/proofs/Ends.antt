@@ -21,6 +21,7 @@ use Rattle.events.specs.declared.ComponentEvent.TheVariants as event
 use Rattle.model.specs.Blank.{blank_step}
 use Rattle.model.specs.Memory.{state_in}
 use Rattle.model.specs.declared.Held.{Held}
+use Rattle.model.proofs.Writes.{writes_none}
 use Rattle.blocks.specs.Lined.{step_in, SoundStep, FitStep}
 use Rattle.refusals.specs.declared.Reason.{Reason}
 use Rattle.refusals.specs.Told.{number_told}
@@ -58,7 +59,7 @@ pub cookware_done : {units : List ℕ} {flags : ℕ} {sheet line : List ℕ} {v 
     → NamedDone (units_or (read_units units)) flags cookware sheet line v w₀ h₀ w h → ComponentDone units flags sheet line (event.Cookware v) w₀ h₀ w (Ok h)
 unfolding on_component make_cookware component_event_in SoundStep FitStep
 cookware_done {line = line} {v} z q =
-    record { at = λ cx a. made_step cookware _ (by_name_to cx cookware (component_in line v) z) (named_pushed a q); sound = q.is.sound; fit = q.is.fit }
+    record { at = λ cx a. made_step cookware _ (by_name_to cx cookware (component_in line v) z) (named_pushed a q); sound = q.is.sound; fit = q.is.fit; writes = q.is.writes }
 
 -- ---- 15 and 16
 
@@ -69,7 +70,7 @@ fault_of_lem line v f = f.is (component_in line v) refl
 module _ (units : List ℕ) (flags : ℕ) (sheet line : List ℕ) (v : ComponentView) (i : Option Intermediate) (w₀ : List ℕ) (h₀ : Held) where
   pub ingredient_refused : {r : Reason} → Faulted v.modifiers.reference i (Err r) → ComponentDone units flags sheet line (event.Ingredient v i) w₀ h₀ w₀ (Err r)
   unfolding on_component component_event_in unless_fault step_in blank_step SoundStep FitStep
-  ingredient_refused f = record { at = λ cx a. rw (fault_of_lem line v f); sound = tt; fit = tt }
+  ingredient_refused f = record { at = λ cx a. rw (fault_of_lem line v f); sound = tt; fit = tt; writes = writes_none }
 
   module _ {u : Unit {0}} (f : Faulted v.modifiers.reference i (Ok u)) where
     goes_on : (s : Step) → unless_fault (intermediate_fault (component_in line v) (opt_intermediate_in i)) s ≡ s
@@ -90,6 +91,7 @@ module _ (units : List ℕ) (flags : ℕ) (sheet line : List ℕ) (v : Component
             at = λ cx a. ingredient_made cx (rw t (by_name_to cx ingredient (component_in line v) z)) (rw t (named_pushed a q));
             sound = q.is.sound;
             fit = q.is.fit;
+            writes = q.is.writes;
           }
 
       pub ingredient_intermediate : (x : Intermediate) → i ≡ Some x → IntermediateDone sheet line v x w₀ h₀ w h → ComponentDone units flags sheet line (event.Ingredient v i) w₀ h₀ w (Ok h)
@@ -100,4 +102,5 @@ module _ (units : List ℕ) (flags : ℕ) (sheet line : List ℕ) (v : Component
             at = λ cx a. ingredient_made cx (rw t (intermediate_to cx (component_in line v) (intermediate_in x) (state_in sheet w₀ h₀))) (rw t (q.is cx));
             sound = p.sound;
             fit = p.fit;
+            writes = p.writes;
           }

@@ -33,6 +33,7 @@ use Rattle.lookup.specs.declared.NamePart.{NamePart}
 use Rattle.memory.specs.Reports.{Reported}
 use Rattle.memory.proofs.Reports.{reported_as, reported_fit}
 use Rattle.memory.proofs.Frames.{reported_framed}
+use Rattle.memory.proofs.Writes.{reported_writes, component_writes}
 use Rattle.timers.specs.Timed.{LockChecked}
 use Rattle.intermediate.specs.Intermediates.{ModifiersReported, Resolved, Related}
 use Rattle.intermediate.proofs.Laws.{intermediate_reported}
@@ -45,6 +46,7 @@ use Rattle.component_lines.proofs.Places.{row_fits}
 use Rattle.component_lines.proofs.Rooms.{roomy_kept}
 use Rattle.sheet.specs.Words.{define_of}
 use Rattle.model.specs.Kinds.{room_of}
+use Rattle.model.proofs.Writes.{writes_on}
 
 -- ---- the row and its item
 
@@ -68,11 +70,12 @@ items_ready {k} {h₀ = h₀} {to = to} r a = omega (arith, r.items, ap (λ (x :
 
 pub pushed_done : (k : Kind) (sheet : List ℕ) (m : Made) {w₀ w₁ w : List ℕ} {h₀ h₁ h : Held} {row : Row} {to : Option ℕ} → Reported m.findings w₀ h₀ w₁ h₁ → AllFit sheet w₀ h₀ → RowPut k w₁ h₁ row to w h
     → Fits k sheet row → entry_as k sheet row [] ≡ m.entry → to ≡ on_some (λ (d : Earlier). d.index) m.refers_to → MadePushed k m sheet w₀ h₀ w h
-pushed_done k sheet m {w = w} r a q f ee ef =
+pushed_done k sheet m {w = w} {to = to} r a q f ee ef =
     record {
       is = component_pushed k sheet m r q.added q.items ee ef;
       sound = component_sound q.added q.items;
       fit = items_fit q.items sheet w (q.added.fit sheet (reported_fit r sheet a) f);
+      writes = writes_on (reported_writes r) (component_writes k to q.added);
     }
 
 -- ---- intermediate references

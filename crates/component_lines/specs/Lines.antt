@@ -1,5 +1,5 @@
 -- What an `ingredient` or `cookware` line of a step leaves in work memory.
-use Rattle.std.specs.Prelude.{ℕ, ◌≤◌, ◌≡◌, false, List, [], length, Some, Result}
+use Rattle.std.specs.Prelude.{ℕ, ◌≤◌, ◌≡◌, false, List, [], length, Some, Result, is_err}
 use Rattle.std.proofs.Math.Seq.{slice}
 use Rattle.rules.specs.Event.{Event}
 use Rattle.rules.specs.Input.{Context, Agrees}
@@ -14,6 +14,7 @@ use Rattle.model.specs.Blank.{blank_step}
 use Rattle.model.specs.Memory.{state_in, Sound}
 use Rattle.model.specs.Fits.{WholeLine, AllFit}
 use Rattle.model.specs.declared.Held.{Held}
+use Rattle.model.specs.Writes.{Writes}
 use Rattle.blocks.specs.Lined.{step_in, SoundStep, FitStep}
 use Rattle.refusals.specs.declared.Reason.{Reason}
 
@@ -35,3 +36,4 @@ pub record ComponentDone (units : List ℕ) (flags : ℕ) (sheet line : List ℕ
   pub at : (cx : Context) → Agrees units flags cx → step_in sheet w r ≡ blank_step (on_component cx (component_event_in line c) [] (state_in sheet w₀ h₀))
   pub sound : SoundStep w r
   pub fit : FitStep sheet w r
+  pub writes : Writes w₀ w (is_err r)

@@ -32,6 +32,7 @@ use Rattle.reference_findings.specs.Reports.{SameAs}
 use Rattle.blocks.specs.Lined.{ItemsPushed}
 use Rattle.new_rows.specs.Rows.{RowMade}
 use Rattle.model.specs.declared.layout.TheConstants.{MOST_ROWS}
+use Rattle.model.specs.Writes.{Writes}
 
 -- ---- the line
 
@@ -116,6 +117,7 @@ pub record MadePushed (k : Kind) (m : Made) (sheet w₀ : List ℕ) (h₀ : Held
   pub is : state_in sheet w h ≡ blank (push_component k m [] (state_in sheet w₀ h₀))
   pub sound : Sound w h
   pub fit : AllFit sheet w h
+  pub writes : Writes w₀ w false
 
 -- all that is found at an intermediate reference; the entry does not matter
 pub record IntermediateReported (v : ComponentView) (i : Intermediate) (target : Option ℕ) (w₀ : List ℕ) (h₀ : Held) (w : List ℕ) (h : Held) : Type 0 where

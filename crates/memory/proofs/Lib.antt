@@ -7,3 +7,4 @@ pub mod Endings
 pub mod Reports
 pub mod Frames
 pub mod Reading
+pub mod Writes

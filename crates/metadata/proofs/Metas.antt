@@ -25,6 +25,7 @@ use Rattle.model.specs.Memory.{state_of, state_in, Sound}
 use Rattle.model.specs.Small.{with_define, with_duplicate, with_old}
 use Rattle.model.specs.declared.Noted.{Noted}
 use Rattle.model.specs.declared.Held.{Held}
+use Rattle.model.proofs.Writes.{writes_none}
 use Rattle.memory.specs.Pushes.{FindingPushed}
 use Rattle.memory.proofs.Smalls.{state_blank, with_define_lem, with_duplicate_lem, with_old_lem}
 use Rattle.memory.proofs.Bounds.{sound_define, sound_duplicate, sound_old, fit_counts}
@@ -73,11 +74,11 @@ module _ (sheet w : List ℕ) (h : Held) (k v : rules.Text) where
 module _ {w : List ℕ} {h r : Held} {key value : Span} (z : Sound w h) where
   pub define_set : {m : Option Define} {d : Define} → m ≡ Some d → r ≡ with_define d h → DefineSet key value m w h w r
   unfolding on_some
-  define_set {d = d} p q = rw (p, q) record { by = λ k v a b. record { is = λ sheet. define_is sheet w h k v d; sound = sound_define z d; fit = λ sheet a. fit_counts refl refl a } }
+  define_set {d = d} p q = rw (p, q) record { by = λ k v a b. record { is = λ sheet. define_is sheet w h k v d; sound = sound_define z d; fit = λ sheet a. fit_counts refl refl a; writes = writes_none } }
 
   pub duplicate_set : {m : Option Duplicate} {d : Duplicate} → m ≡ Some d → r ≡ with_duplicate d h → DuplicateSet key value m w h w r
   unfolding on_some
-  duplicate_set {d = d} p q = rw (p, q) record { by = λ k v a b. record { is = λ sheet. duplicate_is sheet w h k v d; sound = sound_duplicate z d; fit = λ sheet a. fit_counts refl refl a } }
+  duplicate_set {d = d} p q = rw (p, q) record { by = λ k v a b. record { is = λ sheet. duplicate_is sheet w h k v d; sound = sound_duplicate z d; fit = λ sheet a. fit_counts refl refl a; writes = writes_none } }
 
 -- ---- findings
 
@@ -112,7 +113,7 @@ pub unknown_noted : {w₀ w : List ℕ} {h r : Held} {key : Span} {x : Noted} �
 unfolding on_key
 unknown_noted {w₀} {h = h} z p f =
     record {
-      by = λ k v a. went_found (record { is = λ sheet. sym (old_same (key_text k) (value_text v) (state_in sheet w₀ h) ∙ state_blank sheet w₀ h); sound = z; fit = λ sheet a. a }) p (f ∙ ap (found 2) (sym a));
+      by = λ k v a. went_found (record { is = λ sheet. sym (old_same (key_text k) (value_text v) (state_in sheet w₀ h) ∙ state_blank sheet w₀ h); sound = z; fit = λ sheet a. a; writes = writes_none }) p (f ∙ ap (found 2) (sym a));
     }
 
 ordinary_is : (sheet w : List ℕ) (h : Held) (k v : rules.Text) → state_in sheet w (with_old (h.counts.old + 1) h) ≡ blank (on_key ordinary k v (state_in sheet w h))

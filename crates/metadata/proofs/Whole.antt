@@ -40,7 +40,7 @@ unfolding text_in
 text_span line v = refl
 
 went_as : {f g : State → State} {w₀ w : List ℕ} {h₀ h : Held} → Went f w₀ h₀ w h → ((st : State) → f st ≡ g st) → Went g w₀ h₀ w h
-went_as p e = record { is = λ sheet. p.is sheet ∙ ap blank (e _); sound = p.sound; fit = p.fit }
+went_as p e = record { is = λ sheet. p.is sheet ∙ ap blank (e _); sound = p.sound; fit = p.fit; writes = p.writes }
 
 meta_is : (flags : ℕ) (k v : rules.Text) (key : modes.Key) → pick (has_modes flags) (key_of (key_text k)) modes.ordinary ≡ key → (st : State) → on_key key k v st ≡ on_metadata flags k v st
 unfolding on_metadata

@@ -7,3 +7,4 @@ pub mod Searches
 pub mod Parts
 pub mod Entries
 pub mod Ends
+pub mod Writes

@@ -5,3 +5,4 @@ pub mod Small
 pub mod Searches
 pub mod Fits
 pub mod Kinds
+pub mod Writes

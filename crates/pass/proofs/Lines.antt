@@ -51,9 +51,10 @@ use Rattle.pass.specs.Walks.{EventHere, Running, LineDone, InStep, inside_now, I
 use Rattle.pass.proofs.Rooms.{line_short, room}
 use Rattle.parts.specs.declared.QuantityView.{QuantityView}
 use Rattle.model.specs.declared.layout.TheConstants.{MOST_FINDINGS}
+use Rattle.model.proofs.Writes.{writes_none}
 
 pub line_done : {f : State → Step} {sheet w₀ w : List ℕ} {h₀ : Held} {r : Result Held Reason} → Stepped f w₀ h₀ w r → AllFit sheet w₀ h₀ → LineDone f sheet w₀ h₀ w r
-line_done {sheet = sheet} p a = record { is = p.is sheet; sound = p.sound; fit = p.fit sheet a }
+line_done {sheet = sheet} p a = record { is = p.is sheet; sound = p.sound; fit = p.fit sheet a; writes = p.writes }
 
 -- the view by another name
 pub here_as : {sheet line : List ℕ} {at end : ℕ} {v : EventView} (u : EventView) → v ≡ u → EventHere sheet line at end v → EventHere sheet line at end u
@@ -85,7 +86,7 @@ component_done p e k = rw (p, e) k
 
 pub timer_done : {units : List ℕ} {flags : ℕ} {sheet line w₀ w : List ℕ} {c : ComponentEvent} {h₀ k : Held} (s : Span) (n : Option TextView) (q : Option QuantityView) → c ≡ component.Timer s n q → AllFit sheet w₀ h₀ → TimerDone (units_or (read_units units)) flags line n q w₀ h₀ w k → ComponentDone units flags sheet line c w₀ h₀ w (Ok k)
 unfolding step_in SoundStep FitStep blank_step on_component component_event_in
-timer_done {sheet = sheet} s n q e a p = rw e record { at = λ cx x. ap next (rw (x.same_units, x.same_flags) (p.went.is sheet)); sound = p.went.sound; fit = p.went.fit sheet a }
+timer_done {sheet = sheet} s n q e a p = rw e record { at = λ cx x. ap next (rw (x.same_units, x.same_flags) (p.went.is sheet)); sound = p.went.sound; fit = p.went.fit sheet a; writes = p.went.writes }
 
 -- ---- lines in a step
 
@@ -100,7 +101,7 @@ module _ {units : List ℕ} {flags : ℕ} {sheet line w₀ w : List ℕ} {e : In
 
   pub step_component : {r : Result Held Reason} (c : ComponentEvent) → e ≡ inside.Component c → ComponentDone units flags sheet line c w₀ h₀ w r → InStep units flags sheet line e w₀ h₀ w r
   unfolding inside_in in_step_block
-  step_component c q p = rw q record { at = λ cx x. record { is = p.at cx x; sound = p.sound; fit = p.fit } }
+  step_component c q p = rw q record { at = λ cx x. record { is = p.at cx x; sound = p.sound; fit = p.fit; writes = p.writes } }
 
 pub text_ready : {sheet line w : List ℕ} {at end : ℕ} {h : Held} {e : Inside} (v : TextView) → e ≡ inside.Text v → EventHere sheet line at end (event.Inside e) → Running sheet w h at
     → TextWithin line v × Field (part_of line v.content) × (h.counts.findings < MOST_FINDINGS) × (h.counts.items + length line < 100000) × (h.counts.inline + length line < 100000)
@@ -125,6 +126,7 @@ module _ {units : List ℕ} {flags : ℕ} {sheet line w₀ w : List ℕ} {e : In
           is = (p cx x).is ∙ sym (ap (λ (b : state.Open). blank_step (on_inside cx (inside_in line e) b (state_in sheet w₀ h₀))) (block_now sheet w₀ h₀ ∙ ap open_of q));
           sound = (p cx x).sound;
           fit = (p cx x).fit;
+          writes = (p cx x).writes;
         };
       }
 
@@ -140,10 +142,10 @@ module _ {units : List ℕ} {flags : ℕ} {sheet line w₀ w : List ℕ} {e : In
   unfolding on_inside open_of
   inside_mode q a p = inside_as TextMode q (λ cx x. line_done (p.at cx.text line) a)
 
-  -- 12
-  pub inside_none : h₀.block ≡ Nothing → AllFit sheet w₀ h₀ → InsideDone units flags sheet line e w₀ h₀ w (Err InNoBlock)
-  unfolding on_inside open_of
-  inside_none q a = inside_as Nothing q (λ cx x. line_done (stopped InNoBlock) a)
+-- 12
+pub inside_none : {units : List ℕ} {flags : ℕ} {sheet line w : List ℕ} {e : Inside} {h : Held} → h.block ≡ Nothing → AllFit sheet w h → InsideDone units flags sheet line e w h w (Err InNoBlock)
+unfolding on_inside open_of
+inside_none q a = inside_as Nothing q (λ cx x. line_done (stopped InNoBlock) a)
 
 -- ---- lines between blocks
 
@@ -195,19 +197,19 @@ between_ready b q z r =
     let m = room z r in
     (rw q at z.within, omega (arith, m.findings), omega (arith, m.old), omega (arith, m.sections))
 
-module _ {units : List ℕ} {flags : ℕ} {sheet line w₀ w : List ℕ} {v : EventView} {h₀ : Held} where
-  -- 11
-  pub event_open : {o : Bool} (b : Between) → v ≡ event.Between b → OpenNow h₀ o → o ≡ true → EventDone units flags sheet line v w₀ h₀ w (Err InOpenBlock)
-  unfolding on_event event_in step_in blank_step SoundStep FitStep
-  event_open b q p t = rw q record { at = λ cx x. record { is = rw (sym (p.is sheet w₀) ∙ t); sound = tt; fit = tt } }
+-- 11
+pub event_open : {units : List ℕ} {flags : ℕ} {sheet line w : List ℕ} {v : EventView} {h : Held} {o : Bool} (b : Between) → v ≡ event.Between b → OpenNow h o → o ≡ true → EventDone units flags sheet line v w h w (Err InOpenBlock)
+unfolding on_event event_in step_in blank_step SoundStep FitStep
+event_open {sheet = sheet} {w = w} b q p t = rw q record { at = λ cx x. record { is = rw (sym (p.is sheet w) ∙ t); sound = tt; fit = tt; writes = writes_none } }
 
+module _ {units : List ℕ} {flags : ℕ} {sheet line w₀ w : List ℕ} {v : EventView} {h₀ : Held} where
   pub event_between : {o : Bool} {k : Held} (b : Between) → v ≡ event.Between b → OpenNow h₀ o → o ≡ false → AllFit sheet w₀ h₀ → BetweenDone flags line b w₀ h₀ w k → EventDone units flags sheet line v w₀ h₀ w (Ok k)
   unfolding on_event event_in step_in blank_step SoundStep FitStep
-  event_between b q p t a d = rw q record { at = λ cx x. let g = d.at cx x.same_flags in record { is = rw (sym (p.is sheet w₀) ∙ t) (ap next (g.is sheet)); sound = g.sound; fit = g.fit sheet a } }
+  event_between b q p t a d = rw q record { at = λ cx x. let g = d.at cx x.same_flags in record { is = rw (sym (p.is sheet w₀) ∙ t) (ap next (g.is sheet)); sound = g.sound; fit = g.fit sheet a; writes = g.writes } }
 
   pub event_inside : {r : Result Held Reason} (e : Inside) → v ≡ event.Inside e → InsideDone units flags sheet line e w₀ h₀ w r → EventDone units flags sheet line v w₀ h₀ w r
   unfolding on_event event_in inside_now
-  event_inside e q p = rw q record { at = λ cx x. let g = p.at cx x in record { is = g.is; sound = g.sound; fit = g.fit } }
+  event_inside e q p = rw q record { at = λ cx x. let g = p.at cx x in record { is = g.is; sound = g.sound; fit = g.fit; writes = g.writes } }
 
   pub event_finding : {k : Held} (s : Severity) (n : ℕ) → v ≡ event.Finding s n → AllFit sheet w₀ h₀ → Went (report (parsed (severity_in s) n ∷ [])) w₀ h₀ w k → EventDone units flags sheet line v w₀ h₀ w (Ok k)
   unfolding on_event event_in

@@ -30,7 +30,9 @@ use Rattle.known_events.specs.Known.{KnownEvent}
 use Rattle.model.specs.Blank.{blank, blank_walk}
 use Rattle.model.specs.Memory.{state_in, first_held, Sound}
 use Rattle.model.specs.declared.Held.{Held}
+use Rattle.model.specs.Writes.{Writes}
 use Rattle.model.proofs.Blanks.{blank_step_lem, over_blank}
+use Rattle.model.proofs.Writes.{writes_none, writes_on, writes_past}
 use Rattle.memory.proofs.Smalls.{first_state_lem}
 use Rattle.memory.proofs.Bounds.{first_fit}
 use Rattle.lookup.proofs.Names.{part_slice}
@@ -95,7 +97,8 @@ pub record Come (cx : Context) (sheet : List ℕ) (es : List Event) (w : List �
   pub walked : walk cx 1 (going first_state) es ≡ walk cx number (going state) left
   pub memory : state_in sheet w h ≡ blank state
 
-pub record Passing (units : List ℕ) (flags : ℕ) (sheet text w : List ℕ) (h : Held) (at number : ℕ) : Type 0 where
+-- w₀ before the first line
+pub record Passing (units : List ℕ) (flags : ℕ) (sheet text w₀ w : List ℕ) (h : Held) (at number : ℕ) : Type 0 where
   pub from : at ≤ length sheet
   pub begins : get_or (lf ∷ sheet) at 0 ≡ lf
   pub short : length sheet ≤ 65536
@@ -104,6 +107,7 @@ pub record Passing (units : List ℕ) (flags : ℕ) (sheet text w : List ℕ) (h
   pub rest : Rest text sheet at number left
   pub come : (cx : Context) → TextAgrees text units flags cx → Come cx sheet (events_or (read_sheet text sheet)) w h number left
   pub running : Running sheet w h at
+  pub writes : Writes w₀ w false
 
 first_limits : over_limits first_state ≡ false
 unfolding over_limits first_state
@@ -119,7 +123,7 @@ first_kept sheet w l =
       limits = ap over_limits (first_state_lem sheet w) ∙ over_blank first_state ∙ first_limits;
     }
 
-pub passing_starts : {units : List ℕ} {flags : ℕ} {sheet text w : List ℕ} {h : Held} → h ≡ first_held → length sheet ≤ 65536 → Sound w h → read_sheet text sheet ≡ events (events_or (read_sheet text sheet)) → Passing units flags sheet text w h 0 1
+pub passing_starts : {units : List ℕ} {flags : ℕ} {sheet text w : List ℕ} {h : Held} → h ≡ first_held → length sheet ≤ 65536 → Sound w h → read_sheet text sheet ≡ events (events_or (read_sheet text sheet)) → Passing units flags sheet text w w h 0 1
 unfolding read_sheet
 passing_starts {sheet = sheet} {text = text} {w = w} e s l q =
     rw e
@@ -132,6 +136,7 @@ passing_starts {sheet = sheet} {text = text} {w = w} e s l q =
       rest = record { is = q };
       come = λ cx x. record { state = first_state; walked = refl; memory = first_state_lem sheet w };
       running = record { kept = first_kept sheet w (rw e at l); counted = subst (Counted 0) (sym (first_state_lem sheet w)) (counted_blank first_state (first_counted 0)) };
+      writes = writes_none;
     }
 
 -- ---- a line
@@ -152,7 +157,7 @@ module _ {sheet : List ℕ} {at end : ℕ} {text : List ℕ} {number : ℕ} {es 
       let e : at + (end - at) ≡ end = omega (arith, i.0) in
       ap (λ (k : ℕ). get_or sheet k 0) (sym e) ∙ d
 
-module _ {units : List ℕ} {flags : ℕ} {sheet text w : List ℕ} {h : Held} {at number : ℕ} (p : Passing units flags sheet text w h at number) where
+module _ {units : List ℕ} {flags : ℕ} {sheet text w₀ w : List ℕ} {h : Held} {at number : ℕ} (p : Passing units flags sheet text w₀ w h at number) where
   pub passing_room : (h.counts.sections ≤ 128) × (h.counts.findings ≤ 1024)
   passing_room = let b = bounded p.running (omega (arith, p.from, p.short)) in (b.sections, b.findings)
 
@@ -211,6 +216,9 @@ module _ {units : List ℕ} {flags : ℕ} {sheet text w : List ℕ} {h : Held} {
               ∙ ap (λ (y : State). blank_walk (stepped y)) (sym here.memory)
 
         module _ {w₁ : List ℕ} {s : Result (Option Held) Reason} (d : StepDone units flags sheet (take (end - at) (drop at sheet)) end v w h w₁ s) where
+          written : Writes w₀ w₁ false
+          written = writes_on p.writes (writes_past d.writes)
+
           failed_at : s ≡ Ok None → is_error_event (event_in (take (end - at) (drop at sheet)) v) ≡ true
           unfolding WalkedAs
           failed_at e = rw e at d.is
@@ -219,8 +227,8 @@ module _ {units : List ℕ} {flags : ℕ} {sheet text w : List ℕ} {h : Held} {
           unfolding step
           step_fails e cx st = rw (failed_at e)
 
-          pub passing_failed : s ≡ Ok None → Ran text units flags sheet (events_or (read_sheet text sheet)) w₁ (Ok None)
-          passing_failed e = record { at = by }
+          pub passing_failed : s ≡ Ok None → Ran text units flags sheet (events_or (read_sheet text sheet)) w₀ w₁ (Ok None)
+          passing_failed e = record { at = by; writes = written }
             where
               by : (cx : Context) → TextAgrees text units flags cx → RanBy cx sheet (events_or (read_sheet text sheet)) w₁ (Ok None)
               by cx x =
@@ -236,8 +244,8 @@ module _ {units : List ℕ} {flags : ℕ} {sheet text w : List ℕ} {h : Held} {
           unfolding WalkedAs
           refused_at m e cx a = (rw e at d.is) cx a number
 
-          pub passing_refused : (m : Reason) → s ≡ Err m → Ran text units flags sheet (events_or (read_sheet text sheet)) w₁ (Err (record { reason = m; line = number }))
-          passing_refused m e = record { at = by }
+          pub passing_refused : (m : Reason) → s ≡ Err m → Ran text units flags sheet (events_or (read_sheet text sheet)) w₀ w₁ (Err (record { reason = m; line = number }))
+          passing_refused m e = record { at = by; writes = written }
             where
               by : (cx : Context) → TextAgrees text units flags cx → RanBy cx sheet (events_or (read_sheet text sheet)) w₁ (Err (record { reason = m; line = number }))
               by cx x =
@@ -260,7 +268,7 @@ module _ {units : List ℕ} {flags : ℕ} {sheet text w : List ℕ} {h : Held} {
                 memory = o.blanks;
               }
 
-          pub passing_on : (m : Held) → s ≡ Ok (Some m) → Passing units flags sheet text w₁ m (end + 1) (number + 1)
+          pub passing_on : (m : Held) → s ≡ Ok (Some m) → Passing units flags sheet text w₀ w₁ m (end + 1) (number + 1)
           passing_on m e =
               let i = l.inside end q in
               record {
@@ -272,6 +280,7 @@ module _ {units : List ℕ} {flags : ℕ} {sheet text w : List ℕ} {h : Held} {
                 rest = record { is = first.next };
                 come = come_on m e;
                 running = (went_on m e).running;
+                writes = written;
               }
 
   -- ---- the end
@@ -304,11 +313,11 @@ module _ {units : List ℕ} {flags : ℕ} {sheet text w : List ℕ} {h : Held} {
       ran_by (Ok None) d = absurd d
       ran_by (Err f) d = finished ∙ d sheet w last.state last.memory
 
-    pub passing_done : {s : Result (Option Held) Refusal} → Finished h s → Ran text units flags sheet (events_or (read_sheet text sheet)) w s
-    passing_done {s} d = record { at = λ cx x. ran_by cx x s d.is }
+    pub passing_done : {s : Result (Option Held) Refusal} → Finished h s → Ran text units flags sheet (events_or (read_sheet text sheet)) w₀ w s
+    passing_done {s} d = record { at = λ cx x. ran_by cx x s d.is; writes = p.writes }
 
 -- ---- what was lent is what the pass has written
 
 pub ran_as : {text units : List ℕ} {flags : ℕ} {sheet w₀ w₁ w : List ℕ} {es : List Event} {s : Result (Option Held) Refusal} → length w ≡ length w₀ → w ≡ w₁
-    → Ran text units flags sheet es w₁ s → RanAs text units flags sheet es w₀ w s
-ran_as {text} {units} {flags} {sheet} {es = es} {s = s} n e b = record { is = subst (λ (x : List ℕ). Ran text units flags sheet es x s) (sym e) b; long = n }
+    → Ran text units flags sheet es w₀ w₁ s → RanAs text units flags sheet es w₀ w s
+ran_as {text} {units} {flags} {sheet} {w₀} {es = es} {s = s} n e b = record { is = subst (λ (x : List ℕ). Ran text units flags sheet es w₀ x s) (sym e) b; long = n }

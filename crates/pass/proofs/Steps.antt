@@ -3,7 +3,7 @@ use Prim.Native.Nat.{ℕ, suc, ◌+◌}
 use mathlib.Core.Path.{◌≡◌, refl, sym, ap, ◌∙◌, subst}
 use mathlib.Core.List.{List, []}
 use mathlib.Core.Bool.{Bool, true, false}
-use Rattle.std.specs.Prelude.{None, Some, Result, Ok, Err}
+use Rattle.std.specs.Prelude.{None, Some, Result, Ok, Err, is_err}
 use native.Mathlib.Omega.{arith}
 use Rattle.rules.specs.Basic.{pick}
 use Rattle.rules.specs.Input.{input_of, Context, context_of, Agrees}
@@ -11,6 +11,7 @@ use Rattle.rules.specs.State.{State, over_limits, Step, next, stop, going, refus
 use Rattle.rules.specs.Pass.{settle, on_event, step}
 use Rattle.rules.proofs.Agreed.{own_context}
 use Rattle.rules.proofs.Chained as chained
+use Rattle.rules.proofs.Basics.{no_truth}
 use Rattle.refusals.specs.Told.{number_of}
 use Rattle.refusals.specs.declared.Reason.{Reason}
 use Rattle.events.specs.Views.{event_in}
@@ -19,7 +20,9 @@ use Rattle.model.specs.Blank.{blank, blank_tables, blank_step, blank_walk}
 use Rattle.model.specs.Memory.{state_in, Sound}
 use Rattle.model.specs.Fits.{AllFit}
 use Rattle.model.specs.declared.Held.{Held}
+use Rattle.model.specs.Writes.{Writes}
 use Rattle.model.proofs.Blanks.{over_blank}
+use Rattle.model.proofs.Writes.{writes_none}
 use Rattle.memory.specs.Pushes.{LimitsChecked}
 use Rattle.memory.proofs.Endings.{limits_kept, limits_over}
 use Rattle.blocks.specs.Lined.{step_in, SoundStep, FitStep}
@@ -69,19 +72,27 @@ unfolding blank_step
 after_counted n (stop m) x e p = no_step e
 after_counted n (next st) x e p = subst (Counted n) (sym (next_inj e)) (counted_blank st p)
 
-module _ {units : List ℕ} {flags : ℕ} {sheet line w₀ w : List ℕ} {v : EventView} {h₀ : Held} where
-  pub step_failed : {end : ℕ} {o : Bool} → ErrorView v o → o ≡ true → StepDone units flags sheet line end v w₀ h₀ w (Ok None)
-  unfolding WalkedAs
-  step_failed p t = record { is = sym (p.is line) ∙ t }
+pub step_failed : {units : List ℕ} {flags : ℕ} {sheet line w : List ℕ} {v : EventView} {h : Held} {end : ℕ} {o : Bool} → ErrorView v o → o ≡ true → StepDone units flags sheet line end v w h w (Ok None)
+unfolding WalkedAs
+step_failed {line = line} p t = record { is = sym (p.is line) ∙ t; writes = writes_none }
 
+module _ {units : List ℕ} {flags : ℕ} {sheet line w₀ w : List ℕ} {v : EventView} {h₀ : Held} where
   module _ {o : Bool} (p : ErrorView v o) (f : o ≡ false) {r : Result Held Reason} (d : EventDone units flags sheet line v w₀ h₀ w r) where
+    -- in any context
+    written : Writes w₀ w (is_err r)
+    written = (d.at (context_of (input_of [] [] units flags)) (own_context (input_of [] [] units flags)).rest).writes
+
     settled : (cx : Context) (number : ℕ) → blank_walk (step cx number (event_in line v) (going (state_in sheet w₀ h₀))) ≡ blank_walk (settle number (on_event cx (event_in line v) (state_in sheet w₀ h₀)))
     unfolding step
     settled cx number = rw (sym (p.is line) ∙ f)
 
     pub step_stopped : {end : ℕ} (m : Reason) → r ≡ Err m → StepDone units flags sheet line end v w₀ h₀ w (Err m)
     unfolding WalkedAs step_in
-    step_stopped m e = record { is = λ cx x number. settled cx number ∙ settle_stop number _ (number_of m) (rw e at (d.at cx x).is) }
+    step_stopped m e =
+        record {
+          is = λ cx x number. settled cx number ∙ settle_stop number _ (number_of m) (rw e at (d.at cx x).is);
+          writes = record { past = written.past; stopped = λ q. written.stopped (ap is_err e) };
+        }
 
     module _ (k : Held) (e : r ≡ Ok k) {a : Result (Unit {0}) Reason} (l : LimitsChecked k a) where
       after : (cx : Context) → Agrees units flags cx → next (state_in sheet w k) ≡ blank_step (on_event cx (event_in line v) (state_in sheet w₀ h₀))
@@ -96,7 +107,10 @@ module _ {units : List ℕ} {flags : ℕ} {sheet line w₀ w : List ℕ} {v : Ev
       unfolding WalkedAs
       step_over m t =
           let o = limits_over l t sheet w in
-          record { is = λ cx x number. settled_as true o.0 cx x number ∙ ap (λ (y : Reason). refused (number_of y) number) (sym o.1) }
+          record {
+            is = λ cx x number. settled_as true o.0 cx x number ∙ ap (λ (y : Reason). refused (number_of y) number) (sym o.1);
+            writes = rw o.1 (record { past = written.past; stopped = λ q. no_truth q });
+          }
 
       sound_after : SoundStep w r → Sound w k
       unfolding SoundStep
@@ -121,4 +135,4 @@ module _ {units : List ℕ} {flags : ℕ} {sheet line w₀ w : List ℕ} {v : Ev
       unfolding WalkedAs
       step_going t z g =
           let o = limits_kept l t sheet w in
-          record { is = record { is = settled_as false o; running = running_after o z g } }
+          record { is = record { is = settled_as false o; running = running_after o z g }; writes = rw e at written }

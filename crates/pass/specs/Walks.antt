@@ -1,5 +1,5 @@
 -- What the lines of the sheet, one after the other, and the end of the pass leave in work memory.
-use Rattle.std.specs.Prelude.{ℕ, ◌+◌, ◌≤◌, ◌≡◌, Bool, true, false, List, [], length, Option, None, Some, Result, Ok, Err}
+use Rattle.std.specs.Prelude.{ℕ, ◌+◌, ◌≤◌, ◌≡◌, Bool, true, false, List, [], ltb, length, Option, None, Some, Result, Ok, Err, is_err}
 use Rattle.std.proofs.Math.Seq.{slice}
 use Rattle.rules.specs.Input.{Context, Agrees, TextAgrees}
 use Rattle.rules.specs.Event.{Event}
@@ -18,6 +18,7 @@ use Rattle.known_events.specs.Fields.{EventFields}
 use Rattle.model.specs.Blank.{blank, blank_step, blank_walk}
 use Rattle.model.specs.Memory.{state_in}
 use Rattle.model.specs.declared.Held.{Held}
+use Rattle.model.specs.Writes.{Writes}
 use Rattle.blocks.specs.Lined.{step_in, SoundStep, FitStep, Went}
 use Rattle.component_lines.specs.Lines.{LineHere, Kept}
 
@@ -49,6 +50,7 @@ pub record LineDone (f : State → Step) (sheet w₀ : List ℕ) (h₀ : Held) (
   pub is : step_in sheet w r ≡ blank_step (f (state_in sheet w₀ h₀))
   pub sound : SoundStep w r
   pub fit : FitStep sheet w r
+  pub writes : Writes w₀ w (is_err r)
 
 -- a line in a step, a line in any block, a line between blocks, any line; in every context that agrees with what is lent: what
 -- its text is does not matter, nor its units between blocks
@@ -90,8 +92,15 @@ module _ (units : List ℕ) (flags : ℕ) (sheet line : List ℕ) (end : ℕ) (v
   WalkedAs (Ok None) = is_error_event (event_in line v) ≡ true
   WalkedAs (Err r) = (cx : Context) → Agrees units flags cx → (number : ℕ) → blank_walk (rules.step cx number (event_in line v) (going (state_in sheet w₀ h₀))) ≡ refused (number_of r) number
 
+-- 11 to 16 are told before anything is written. 17 is told of a line that is stored: what the words of the state then hold is the
+-- program's choice
+abbrev pub is_told_first : Result (Option Held) Reason → Bool
+is_told_first (Ok o) = false
+is_told_first (Err r) = ltb (number_of r) 17
+
 pub record StepDone (units : List ℕ) (flags : ℕ) (sheet line : List ℕ) (end : ℕ) (v : EventView) (w₀ : List ℕ) (h₀ : Held) (w : List ℕ) (r : Result (Option Held) Reason) : Type 0 where
   pub is : WalkedAs units flags sheet line end v w₀ h₀ w r
+  pub writes : Writes w₀ w (is_told_first r)
 
 -- ---- the end
 
@@ -124,10 +133,11 @@ RanBy cx sheet es w (Ok (Some h)) = RanRecipe cx sheet es w h
 RanBy cx sheet es w (Ok None) = RanFailed cx es
 RanBy cx sheet es w (Err f) = parse_events cx es ≡ refusal (number_of f.reason) f.line
 
--- in every context that agrees with what is lent
-pub record Ran (text units : List ℕ) (flags : ℕ) (sheet : List ℕ) (es : List Event) (w : List ℕ) (r : Result (Option Held) Refusal) : Type 0 where
+-- in every context that agrees with what is lent; words past those of the state stay, whatever is answered
+pub record Ran (text units : List ℕ) (flags : ℕ) (sheet : List ℕ) (es : List Event) (w₀ w : List ℕ) (r : Result (Option Held) Refusal) : Type 0 where
   pub at : (cx : Context) → TextAgrees text units flags cx → RanBy cx sheet es w r
+  pub writes : Writes w₀ w false
 
 pub record RanAs (text units : List ℕ) (flags : ℕ) (sheet : List ℕ) (es : List Event) (w₀ w : List ℕ) (r : Result (Option Held) Refusal) : Type 0 where
-  pub is : Ran text units flags sheet es w r
+  pub is : Ran text units flags sheet es w₀ w r
   pub long : length w ≡ length w₀

@@ -201,7 +201,7 @@ fn parse_events(
     memory: &mut Memory,
 ) -> Result<Option<Held>, Refusal>
     requires { (length sheet.now.bytes.now ≤ 65536) × (memory.old.held ≡ first_held) }
-    ensures done { Ran sheet.now.text.now units.now.lines.now flags sheet.now.bytes.now (events_or (read_sheet sheet.now.text.now sheet.now.bytes.now)) memory.new.words.now result }
+    ensures done { Ran sheet.now.text.now units.now.lines.now flags sheet.now.bytes.now (events_or (read_sheet sheet.now.text.now sheet.now.bytes.now)) memory.old.words.now memory.new.words.now result }
     ensures lent { memory.new.words.ghost_name ≡ memory.old.words.ghost_name }
 {
     // `codes` keeps what an earlier line's unit is, so that each is looked up once.

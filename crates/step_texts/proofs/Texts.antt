@@ -30,9 +30,11 @@ use Rattle.model.specs.Memory.{state_of, state_in, Sound}
 use Rattle.model.specs.Small.{with_inline}
 use Rattle.model.specs.declared.Noted.{Noted}
 use Rattle.model.specs.declared.Held.{Held}
+use Rattle.model.proofs.Writes.{writes_none}
 use Rattle.memory.specs.Pushes.{FindingPushed}
 use Rattle.memory.proofs.Smalls.{with_inline_lem}
 use Rattle.memory.proofs.Bounds.{sound_inline, fit_counts}
+use Rattle.memory.proofs.Writes.{finding_writes}
 use Rattle.blocks.specs.Lined.{ItemsPushed}
 use Rattle.blocks.proofs.Lines.{components_of, found_one, found_at, went_none}
 use Rattle.blocks.proofs.Fitting.{items_fit, items_sound}
@@ -139,7 +141,7 @@ module _ {us : List NamedUnit} {flags : ℕ} {line : List ℕ} {v : TextView} {h
     pub text_silent : a ≡ false → TextDone us flags line v w₀ h w₀ h
     text_silent q =
         record {
-          went = record { is = λ sheet. (went_none s).is sheet ∙ ap blank (step_silent us flags (text_in line v) (state_in sheet w₀ h) (components_of sheet w₀ h e on) (body_has line v f z g k q)); sound = s; fit = λ sheet y. y };
+          went = record { is = λ sheet. (went_none s).is sheet ∙ ap blank (step_silent us flags (text_in line v) (state_in sheet w₀ h) (components_of sheet w₀ h e on) (body_has line v f z g k q)); sound = s; fit = λ sheet y. y; writes = writes_none };
           fit = λ sheet y. y;
         }
 
@@ -150,6 +152,7 @@ module _ {us : List NamedUnit} {flags : ℕ} {line : List ℕ} {v : TextView} {h
             is = λ sheet. (found_one s p (found_at x v.span o ∙ ap (found 4) (sym (body_span line v)))).is sheet ∙ ap blank (step_found us flags (text_in line v) (state_in sheet w₀ h) (components_of sheet w₀ h e on) (body_has line v f z g k q));
             sound = p.sound;
             fit = p.fit;
+            writes = finding_writes p;
           };
           fit = p.fit;
         }
@@ -162,6 +165,7 @@ module _ {us : List NamedUnit} {flags : ℕ} {line : List ℕ} {v : TextView} {h
             is = λ sheet. (p.told ps i j).is sheet w₀ ∙ ap blank (step_pieces us flags (text_in line v) (state_in sheet w₀ h) (components_of sheet w₀ h e off) ps q);
             sound = (p.told ps i j).sound w₀ s;
             fit = λ sheet y. p.fit sheet w₀ y;
+            writes = writes_none;
           };
           fit = λ sheet y. p.fit sheet w₀ y;
         }

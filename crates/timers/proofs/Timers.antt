@@ -38,6 +38,7 @@ use Rattle.memory.proofs.Smalls.{with_timers_lem}
 use Rattle.memory.proofs.Bounds.{sound_timers, fit_counts}
 use Rattle.memory.specs.Reports.{Reported, nothing, more}
 use Rattle.memory.proofs.Reports.{reported_seq, reported_as, reported_is, reported_fit, reported_sound}
+use Rattle.memory.proofs.Writes.{reported_writes}
 use Rattle.checks.proofs.Laws.{nothing_found, one_found, none_found, said, textual_not}
 use Rattle.blocks.specs.Lined.{ItemsPushed}
 use Rattle.blocks.proofs.Fitting.{items_fit, items_sound}
@@ -194,6 +195,7 @@ module _ {us : List NamedUnit} {flags : ℕ} {line : List ℕ} {name : Option Te
           is = λ sheet. (p.told t).is sheet w ∙ (ap (λ (s : State). blank (with_timer t s)) (reported_is f sheet) ∙ ap blank (timer_swap us flags (opt_text_in line name) (opt_quantity_in line q) (state_in sheet w₀ h₀)));
           sound = (p.told t).sound w (reported_sound f z);
           fit = λ sheet a. p.fit sheet w (reported_fit f sheet a);
+          writes = reported_writes f;
         };
         fit = λ sheet a. p.fit sheet w (reported_fit f sheet a);
       }
