@@ -375,6 +375,16 @@ pub fn decisions() -> Vec<Case> {
     add(short("7", "D12", "S\nx 1"));
     add(short("7", "D12 19", "S\nw 1"));
     add(short("7", "D13", "mode x"));
+    // a plain form that is handed out and differs from its sheet: mode lines, a dropped block with its warning, one of text mode, implicit references
+    let mut c = bars("1", "plain all modes", &[
+        "meta|0|1|[duplicate]|0|1|ref\n",
+        "start|step\ningredient|0|4|0|4|salt|-|-|-|.|0|0|-\ningredient|0|4|0|4|Salt|-|-|-|.|0|0|-\nend|step\n",
+        "meta|0|1|[mode]|0|1|components\nstart|step\ntext|0|1|dropped\nwarning|7\nend|step\n",
+        "meta|0|1|[define]|0|1|text\nstart|step\ningredient|0|4|0|4|pepper|-|-|-|.|0|0|-\ntext|4|6|, \nend|step\n",
+        "meta|0|1|[mode]|0|1|steps\nstart|step\ncookware|0|4|0|4|pot|-|-|-|.|0|0\ningredient|0|4|0|4|SALT|-|-|-|-|0|0|-\nend|step\n",
+    ].concat());
+    (c.text, c.units) = ("salt, Salt".into(), Vec::new());
+    add(c);
     // 11 to 14 and 19, by kind
     for o in ["S", "ST"] {
         for l in ["S", "ST", "sec a", "sec-", "key a=b", "mode text", "x 1", "w 1"] {
