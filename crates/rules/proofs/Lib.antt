@@ -40,9 +40,4 @@ pub mod Collected
 pub mod Warnings
 pub mod PlainForm
 pub mod Lending
-pub mod PlainCases
-pub mod Answers
-pub mod Lost
-pub mod Refusals
-pub mod Limits
 pub mod LinkedRecipe
