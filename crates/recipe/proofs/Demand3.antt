@@ -64,7 +64,7 @@ module _ (i : Input) (m : Lent) (w b o : List ℕ) (r : Result ℕ Refusal) (p :
 
   narrow_answer : (form : List ℕ) → Demanded i form → is_short m ≡ false → m.room < length form → answer_of r o ≡ declined 20 0
   unfolding hand_out
-  narrow_answer form d s h = answers ∙ rw (s, (rule.exactly form).back d, lt-leb m.room (length form) h)
+  narrow_answer form d s h = answers ∙ rw (s, (rule.exactly form).back d, lt-leb (length form) m.room h)
 
   own_form : (form : List ℕ) → answer_of r o ≡ answered form → plain_answer (with_sheet form i) m ≡ answered form
   own_form form q =
