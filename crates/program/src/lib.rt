@@ -4,7 +4,7 @@
 // refused with 20.
 #![tactic(auto)]
 
-ghost use Rattle.std.specs.Prelude.{◌≤◌, ◌≡◌, length};
+ghost use Rattle.std.specs.Prelude.{◌≤◌, ◌≡◌, length, take};
 ghost use Rattle.std.specs.Io.{ReadsAtMost};
 ghost use Rattle.recipe.specs.Answers.{lent_of};
 ghost use Rattle.program.specs.Prints.{AnswerPrinted};
@@ -106,11 +106,11 @@ fn read_file(rt: &(impl Files + Eprint), name: &str, room: &mut [u8]) -> io::Res
 }
 
 // The first n bytes of a room.
-fn front<'a>(room: &'a [u8], n: usize) -> &'a [u8] {
-    if n <= room.len() {
-        return &room[0..n];
-    }
-    &room[0..0]
+fn front<'a>(room: &'a [u8], n: usize) -> &'a [u8]
+    requires { n ≤ length room.now }
+    ensures { result.now ≡ take n room.now }
+{
+    &room[..n]
 }
 
 // The files, one after the other; what was read is handed on.
