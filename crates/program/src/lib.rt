@@ -4,7 +4,7 @@
 // refused with 20.
 #![tactic(auto)]
 
-ghost use Rattle.std.specs.Prelude.{◌≤◌, ◌≡◌, length};
+ghost use Rattle.std.specs.Prelude.{◌≤◌, ◌≡◌, length, replicate, take};
 ghost use Rattle.std.specs.Io.{ReadsAtMost};
 ghost use Rattle.recipe.specs.Answers.{lent_of};
 ghost use Rattle.program.specs.Prints.{AnswerPrinted};
@@ -38,32 +38,32 @@ fn answer(
 
 // Room for a file: one byte more than its limit, so that a longer file is seen to be longer.
 fn sheet_room() -> [u8; 65537]
-    ensures { 65537 ≡ length result }
+    ensures { (65537 ≡ length result) × (result ≡ replicate 65537 0) }
 {
     [0; 65537]
 }
 
 fn text_room() -> [u8; 65536]
-    ensures { 65536 ≡ length result }
+    ensures { (65536 ≡ length result) × (result ≡ replicate 65536 0) }
 {
     [0; 65536]
 }
 
 fn units_room() -> [u8; 16385]
-    ensures { 16385 ≡ length result }
+    ensures { (16385 ≡ length result) × (result ≡ replicate 16385 0) }
 {
     [0; 16385]
 }
 
 // What is lent.
 fn words_room() -> [u32; inputs::WORDS]
-    ensures { WORDS ≡ length result }
+    ensures { (WORDS ≡ length result) × (result ≡ replicate WORDS 0) }
 {
     [0; inputs::WORDS]
 }
 
 fn out_room() -> [u8; 1048576]
-    ensures { 1048576 ≡ length result }
+    ensures { (1048576 ≡ length result) × (result ≡ replicate 1048576 0) }
 {
     [0; 1048576]
 }
@@ -106,11 +106,11 @@ fn read_file(rt: &(impl Files + Eprint), name: &str, room: &mut [u8]) -> io::Res
 }
 
 // The first n bytes of a room.
-fn front<'a>(room: &'a [u8], n: usize) -> &'a [u8] {
-    if n <= room.len() {
-        return &room[0..n];
-    }
-    &room[0..0]
+fn front<'a>(room: &'a [u8], n: usize) -> &'a [u8]
+    requires { n ≤ length room.now }
+    ensures { result.now ≡ take n room.now }
+{
+    &room[..n]
 }
 
 // The files, one after the other; what was read is handed on.

@@ -1,6 +1,10 @@
 // The definitions stand in specs/ and the theorems about them in proofs/; a crate has to have a function.
 #![tactic(auto)]
 
-pub fn one() -> usize {
+ghost use Rattle.std.specs.Prelude.{◌≡◌};
+
+pub fn one() -> usize
+    ensures { result ≡ 1 }
+{
     1
 }

@@ -47,7 +47,7 @@ last_of b s at n e = by (eqb (get_or s (at + n) 0) b) refl e
 
 -- ---- one after the other
 pub lacking_none : (b : ℕ) (s : List ℕ) (at : ℕ) → Lacking b s at at
-lacking_none b s at = let z : at - at ≡ 0 = omega arith in record { from = omega arith; inside = λ h. h; clean = rw z (sym (lacks_none b s at)) }
+lacking_none b s at = let z : at - at ≡ 0 = omega arith in record { from = omega arith; inside = λ h. h; past = λ h. refl; clean = rw z (sym (lacks_none b s at)) }
 
 joined : (b : ℕ) (s : List ℕ) (at m i : ℕ) → at + m ≡ i → lacks b s at m ≡ true → (n : ℕ) → lacks b s i n ≡ true → lacks b s at (m + n) ≡ true
 joined b s at m i k e zero h = let z : m + 0 ≡ m = omega arith in rw z e
@@ -62,14 +62,14 @@ pub lacking_on : (n : ℕ) {b : ℕ} {s : List ℕ} {at i : ℕ} → Lacking b s
 lacking_on n {b} {s} {at} {i} a h true e q =
     let k : i + n - at ≡ i - at + n = omega (arith, a.from) in
     let l : at + (i - at) ≡ i = omega (arith, a.from) in
-    record { from = omega (arith, a.from); inside = λ g. h; clean = rw k (joined b s at (i - at) i l a.clean n (sym e)) }
+    record { from = omega (arith, a.from); inside = λ g. h; past = λ g. absurd (omega (arith, a.from)); clean = rw k (joined b s at (i - at) i l a.clean n (sym e)) }
 lacking_on n a h false e q = no_truth (sym q)
 
 pub lacking_more : {b : ℕ} {s : List ℕ} {at i : ℕ} → Lacking b s at i → i < length s → (get_or s i 0 ≡ b → ⊥) → Lacking b s at (i + 1)
 lacking_more {b} {s} {at} {i} a h n =
     let k : i + 1 - at ≡ i - at + 1 = omega (arith, a.from) in
     let z : at + (i - at) ≡ i = omega (arith, a.from) in
-    record { from = omega (arith, a.from); inside = λ g. omega arith; clean = rw k (sym (lacks_miss b s at (i - at) (sym a.clean) (rw z n))) }
+    record { from = omega (arith, a.from); inside = λ g. omega arith; past = λ g. absurd (omega (arith, a.from)); clean = rw k (sym (lacks_miss b s at (i - at) (sym a.clean) (rw z n))) }
 
 -- ---- a scan
 passed : (b : ℕ) (s : List ℕ) (at n : ℕ) → lacks b s at n ≡ true → at + n ≤ length s → Scan b s at at → Scan b s at (at + n)
