@@ -1,27 +1,41 @@
 -- One pair: what `link` answers, and the next place.
-use mathlib.Core.Path.{◌≡◌, sym, ap, ◌∙◌}
+use mathlib.Core.Path.{◌≡◌, refl, sym, ap, ◌∙◌}
 use Prim.Native.Nat.{ℕ, ◌+◌, ◌*◌}
 use native.Mathlib.Nat.{add-zero}
-use mathlib.Core.Bool.{true, false}
+use mathlib.Core.Bool.{Bool, true, false}
 use mathlib.Core.List.{List, [], ◌∷◌}
 use lib.ListN.{get_or}
 use lib.Seq.{sets}
 use Rattle.std.specs.Prelude.{Result, Ok, Err}
+use Rattle.rules.specs.Model.{Kind}
+use Rattle.rules.specs.Reference.{is_definition}
+use Rattle.rules.specs.Components.{refers_to_reference}
+use Rattle.rules.specs.Answer.{number_if}
 use Rattle.refusals.specs.declared.Reason.{Reason}
 use Rattle.refusals.specs.declared.Reason.TheVariants.{ReferenceToReference}
 use Rattle.model.specs.declared.Target.{Target}
+use Rattle.model.specs.declared.Target.TheVariants.{Ingredient, Step, Section}
+use Rattle.model.specs.Rows.{relation_as}
 use Rattle.model.specs.declared.Relation.{Relation}
 use Rattle.model.specs.declared.Relation.TheVariants.{Definition, Reference}
 use Rattle.component_records.specs.declared.Component.{Component}
 use Rattle.component_records.specs.Records.{no_component}
 use Rattle.component_records.specs.Links.{is_own, LinkedAs, place_after, pair_at, own_at, RefersBack}
 
+relation_refers : (k : Kind) (t : Target) (s : Bool) (i : ℕ) (by : List ℕ) → is_definition (relation_as k (Reference t) s i by) ≡ false
+unfolding relation_as is_definition
+relation_refers k Ingredient s i by = refl
+relation_refers k Step s i by = refl
+relation_refers k Section s i by = refl
+
 module _ {ps : List ℕ} {n d r : ℕ} where
   pub linked : {k : Relation} {ps' : List ℕ} → k ≡ Definition → ps' ≡ sets ps (n * 2) (d ∷ r ∷ []) → LinkedAs k ps n d r ps' (Ok tt)
-  linked e p = record { answer = simp e; pairs = simp e p }
+  unfolding number_if refers_to_reference is_definition relation_as
+  linked e p = record { answer = simp e; pairs = simp e p; number = λ x k s i by q. rw (q, e) }
 
   pub refused : {k : Relation} {t : Target} → k ≡ Reference t → LinkedAs k ps n d r ps (Err ReferenceToReference)
-  refused e = record { answer = simp e; pairs = simp e }
+  unfolding number_if refers_to_reference is_definition
+  refused {t = t} e = record { answer = simp e; pairs = simp e; number = λ x k s i by q. rw (q, e, relation_refers k t s i by) }
 
 -- ---- a turn of `link_records`
 module _ (all : List Component) (ps : List ℕ) (i n : ℕ) where

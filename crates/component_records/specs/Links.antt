@@ -1,9 +1,15 @@
 -- Pairs of a definition and of what refers to it, two numbers a pair.
-use Rattle.std.specs.Prelude.{ℕ, suc, ◌+◌, ◌*◌, ◌<◌, ◌≤◌, ◌≡◌, List, [], ◌∷◌, ◌++◌, Bool, true, false, length, get_or, Result, Ok, Err}
+use Rattle.std.specs.Prelude.{ℕ, suc, ◌+◌, ◌*◌, ◌<◌, ◌≤◌, ◌≡◌, List, [], ◌∷◌, ◌++◌, Bool, true, false, length, get_or, Some, Result, Ok, Err}
 use Rattle.std.proofs.lemmas.List.Edits.{sets}
 use Rattle.rules.specs.Basic.{pick}
+use Rattle.rules.specs.Model.{Kind}
+use Rattle.rules.specs.Reference.{Earlier}
+use Rattle.rules.specs.Components.{refers_to_reference}
+use Rattle.rules.specs.Answer.{number_if}
+use Rattle.refusals.specs.Told.{number_told}
 use Rattle.refusals.specs.declared.Reason.{Reason}
 use Rattle.refusals.specs.declared.Reason.TheVariants.{ReferenceToReference}
+use Rattle.model.specs.Rows.{relation_as}
 use Rattle.model.specs.declared.Target.TheVariants.{Ingredient, Step, Section}
 use Rattle.model.specs.declared.Relation.{Relation}
 use Rattle.model.specs.declared.Relation.TheVariants.{Definition, Reference}
@@ -23,10 +29,13 @@ is_own (Reference Section) = false
 
 -- ---- one pair
 
--- where the relation k is a definition's, the pair of d and r stands at n; a reference is not referred to (18)
+-- where the relation k is a definition's, the pair of d and r stands at n; a reference is not referred to: 18, as of any earlier entry
+-- with that relation
 pub record LinkedAs (k : Relation) (ps : List ℕ) (n d r : ℕ) (ps' : List ℕ) (a : Result (Unit {0}) Reason) : Type 0 where
   pub answer : a ≡ pick (defines k) (Ok tt) (Err ReferenceToReference)
   pub pairs : ps' ≡ pick (defines k) (sets ps (n * 2) (d ∷ r ∷ [])) ps
+  pub number : (e : Earlier) (kind : Kind) (in_step : Bool) (index : ℕ) (by : List ℕ) → e.entry.relation ≡ relation_as kind k in_step index by
+      → number_told a ≡ number_if 18 (refers_to_reference (Some e))
 
 abbrev pub place_after : Result (Unit {0}) Reason → ℕ → ℕ
 place_after (Ok u) n = n + 1

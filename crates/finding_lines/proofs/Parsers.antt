@@ -28,6 +28,7 @@ use Rattle.events.specs.declared.EventView.{EventView}
 use Rattle.events.specs.declared.EventView.TheVariants as event
 use Rattle.events.specs.Views.{event_in, severity_in}
 use Rattle.reading.specs.Answers.{event_as, IfEvent, IfWhole, EventOf, LineOf}
+use Rattle.reading.proofs.Lines.{line_made}
 use Rattle.reading.proofs.Passes.{Rest, rest_ends, rest_ended, rest_read, rest_event}
 use Rattle.output.specs.Put.{Put}
 use Rattle.output.proofs.Puts.{Leads, starts, turn, step as leads-step}
@@ -180,9 +181,9 @@ module _ {text bytes : List ℕ} {from number : ℕ} {es : List Event} (w : Rest
   line_known {a} p = go (is_utf8 (take (end - from) (drop from bytes))) refl
     where
       go : (t : Bool) → is_utf8 (take (end - from) (drop from bytes)) ≡ t → LineOf (take (end - from) (drop from bytes)) a
-      go true e = record { is = rw e p.is; within = p.within; whole = p.whole }
+      go true e = line_made (rw e p.is) p.within p.whole
       go false e =
-          let z : LineOf (take (end - from) (drop from bytes)) None = record { is = unfold event_as in rw e; within = unfold IfEvent in tt; whole = unfold IfWhole in tt } in
+          let z : LineOf (take (end - from) (drop from bytes)) None = line_made (unfold event_as in rw e) (unfold IfEvent in tt) (unfold IfWhole in tt) in
           rest_read w l q z refl
 
 module _ {text bytes o₀ : List ℕ} {at : ℕ} {o : List ℕ} {m from : ℕ} (w : Writing text bytes o₀ at o m from) where

@@ -1,12 +1,12 @@
 -- What is refused before the pass (document 01, "Numbers by place", the first three rows), as the rules order it.
-use Rattle.std.specs.Prelude.{ℕ, ◌≡◌, false, not, List, [], ◌∷◌, length, Option, None, Result, Ok}
+use Rattle.std.specs.Prelude.{ℕ, ◌≤◌, ◌≡◌, false, not, List, [], ◌∷◌, length, Option, None, Result, Ok, Err}
 use Rattle.rules.specs.Utf8.{is_utf8}
 use Rattle.rules.specs.Units.{read_units}
 use Rattle.rules.specs.Input.{Input, input_of}
 use Rattle.rules.specs.Answer.{first_some, number_if, units_refused, before_flags, in_no_line, from_flags, before_pass, Lent, is_short}
 use Rattle.refusals.specs.declared.Reason.{Reason}
 use Rattle.refusals.specs.declared.Refusal.{Refusal}
-use Rattle.refusals.specs.Told.{number_told, told}
+use Rattle.refusals.specs.Told.{number_of, number_told, told}
 use Rattle.unit_index.specs.Index.{Indexed}
 
 -- so much work memory, and no output
@@ -32,9 +32,15 @@ pub record InputsChecked (i : Input) (words bytes : ℕ) (r : Result (Unit {0}) 
 pub record ContentsChecked (text units : List ℕ) (r : Result (Unit {0}) Reason) : Type 0 where
   pub is : number_told r ≡ first_some (number_if 4 (not (is_utf8 text)) ∷ units_refused (read_units units) ∷ [])
 
--- where nothing is refused, the unit list has its index
-pub record UnitsReady {E : Type 0} (units index : List ℕ) (r : Result (Unit {0}) E) : Type 0 where
+-- the number of a refusal, its line left out
+abbrev pub number_in : Refusal → ℕ
+number_in f = number_of f.reason
+
+-- where nothing is refused, the unit list has its index; after 1 to 5 the words are those that were lent, after 6 to 10 they are the
+-- program's choice
+pub record UnitsReady {E : Type 0} (number : E → ℕ) (units index₀ index : List ℕ) (r : Result (Unit {0}) E) : Type 0 where
   pub long : length index ≡ 2305
+  pub kept : (f : E) → r ≡ Err f → number f ≤ 5 → index ≡ index₀
   pub indexed : r ≡ Ok tt → Indexed units index
 
 -- what the pass may count on: work memory enough is lent, and none of 1 to 10 arises

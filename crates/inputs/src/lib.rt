@@ -4,7 +4,8 @@
 ghost use Rattle.std.specs.Prelude.{◌≡◌, ◌≤◌, length};
 ghost use Rattle.rules.specs.Input.{input_of};
 ghost use Rattle.rules.specs.Answer.{flags_of};
-ghost use Rattle.inputs.specs.Inputs.{EarlyChecked, LateChecked, InputsChecked, ContentsChecked, UnitsReady};
+ghost use Rattle.refusals.specs.Told.{number_of};
+ghost use Rattle.inputs.specs.Inputs.{number_in, EarlyChecked, LateChecked, InputsChecked, ContentsChecked, UnitsReady};
 
 use model::layout;
 use refusals::{Reason, Refusal};
@@ -18,7 +19,7 @@ pub const BYTES: usize = 65536;
 // 4, then 5 and 6; the unit list gets its index.
 fn check_contents(text: &[u8], units: &[u8], index: &mut Index) -> Result<(), Reason>
     requires { length units.now ≤ 16384 }
-    ensures { ContentsChecked text.now units.now result × UnitsReady units.now index.new result }
+    ensures { ContentsChecked text.now units.now result × UnitsReady number_of units.now index.old index.new result }
 {
     if let Some(_) = utf8::first_fault(text) {
         return Err(Reason::TextNotUtf8);
@@ -36,7 +37,7 @@ pub fn check_early(
     words: usize,
     bytes: usize,
 ) -> Result<(), Reason>
-    ensures { EarlyChecked sheet.now text.now units.now words bytes result × UnitsReady units.now index.new result }
+    ensures { EarlyChecked sheet.now text.now units.now words bytes result × UnitsReady number_of units.now index.old index.new result }
 {
     if words < WORDS {
         return Err(Reason::Lengths);
@@ -77,7 +78,7 @@ pub fn check_inputs(
     words: usize,
     bytes: usize,
 ) -> Result<(), Refusal>
-    ensures { InputsChecked (input_of sheet.now text.now units.now flags) words bytes result × UnitsReady units.now index.new result }
+    ensures { InputsChecked (input_of sheet.now text.now units.now flags) words bytes result × UnitsReady number_in units.now index.old index.new result }
 {
     match check_early(sheet, text, units, index, words, bytes) {
         Err(reason) => Err(Refusal { reason, line: 0 }),

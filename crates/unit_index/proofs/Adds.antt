@@ -240,8 +240,8 @@ module _ (units : List ℕ) {b : Bool} (q : b ≡ is_some (read_units units)) wh
       go None e = unfold units_refused in refl
       go (Some us) e = unfold is_some in no_truth e
 
-  pub units_ill : {index : List ℕ} → length index ≡ 2305 → b ≡ false → UnitsIndexed units index (Err reason.IllUnits)
-  units_ill l h = record { long = l; is = none_read h; indexed = λ e. absurd (cc) }
+  pub units_ill : {index : List ℕ} → length index ≡ 2305 → b ≡ false → UnitsIndexed units index index (Err reason.IllUnits)
+  units_ill l h = record { long = l; is = none_read h; ill = λ _. refl; indexed = λ e. absurd (cc) }
 
   module _ {index : List ℕ} {t : Bool} (h : b ≡ true) (a : AllAdded units index t) where
     read_all : pick t (Some 6) None ≡ units_refused (read_units units)
@@ -251,13 +251,14 @@ module _ (units : List ℕ) {b : Bool} (q : b ≡ is_some (read_units units)) wh
         go None e i = unfold is_some in no_truth e
         go (Some us) e i = unfold units_refused number_if units_or in rw (a.told, i)
 
-    pub units_twice : t ≡ true → UnitsIndexed units index (Err reason.UnitTwice)
-    units_twice e = record { long = a.long; is = rw (← read_all, e); indexed = λ o. absurd (cc) }
+    pub units_twice : {index₀ : List ℕ} → t ≡ true → UnitsIndexed units index₀ index (Err reason.UnitTwice)
+    units_twice e = record { long = a.long; is = rw (← read_all, e); ill = λ o. absurd (cc); indexed = λ o. absurd (cc) }
 
-    pub units_good : t ≡ false → UnitsIndexed units index (Ok tt)
+    pub units_good : {index₀ : List ℕ} → t ≡ false → UnitsIndexed units index₀ index (Ok tt)
     units_good e =
         record {
           long = a.long;
           is = rw (← read_all, e);
+          ill = λ o. absurd (cc);
           indexed = λ _. record { list = sym q ∙ h; names_once = sym a.told ∙ e; filled = a.filled e };
         }

@@ -1,5 +1,5 @@
 -- The index of a unit list in words: what the chains of its lines are.
-use Rattle.std.specs.Prelude.{ℕ, zero, suc, ◌+◌, ◌*◌, ◌/◌, ◌%◌, ◌≤◌, ◌<◌, ◌≡◌, Bool, true, false, List, [], ◌∷◌, ltb, length, get_or, set, drop, None, Result, Ok}
+use Rattle.std.specs.Prelude.{ℕ, zero, suc, ◌+◌, ◌*◌, ◌/◌, ◌%◌, ◌≤◌, ◌<◌, ◌≡◌, Bool, true, false, List, [], ◌∷◌, ltb, length, get_or, set, drop, None, Some, Result, Ok}
 use Rattle.rules.specs.Basic.{pick, is_some}
 use Rattle.rules.specs.Utf8.{is_utf8, chars, encode}
 use Rattle.rules.specs.Units.{NamedUnit, read_units, name_twice}
@@ -115,7 +115,9 @@ pub record AllAdded (units index : List ℕ) (r : Bool) : Type 0 where
   pub told : r ≡ name_twice (units_from units 0)
   pub filled : r ≡ false → Filled units index (length (units_from units 0))
 
-pub record UnitsIndexed (units index : List ℕ) (r : Result (Unit {0}) Reason) : Type 0 where
+-- the list is refused by 5 or 6, or has its index; after 5 the words are those that were lent, after 6 they are the program's choice
+pub record UnitsIndexed (units index₀ index : List ℕ) (r : Result (Unit {0}) Reason) : Type 0 where
   pub long : length index ≡ 2305
   pub is : number_told r ≡ units_refused (read_units units)
+  pub ill : number_told r ≡ Some 5 → index ≡ index₀
   pub indexed : r ≡ Ok tt → Indexed units index

@@ -200,7 +200,7 @@ fn add_lines(units: &[u8], index: &mut Index) -> bool
 // The unit list as it is lent: refusal 5 where it is ill-formed, refusal 6 where a name stands twice; else its index.
 pub fn index_units(units: &[u8], index: &mut Index) -> Result<(), Reason>
     requires { length units.now ≤ 16384 }
-    ensures { UnitsIndexed units.now index.new result }
+    ensures { UnitsIndexed units.now index.old index.new result }
 {
     if !units::is_list(units) {
         return Err(Reason::IllUnits);
