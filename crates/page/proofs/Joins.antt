@@ -136,7 +136,7 @@ module _ {sheet text units : List ℕ} {flags : ℕ} {w₀ w : List ℕ} {h : He
 
   pub page_put : {o₀ o₁ o₂ o₃ o₄ o : List ℕ} {a b c d r : ℕ} → Put (head_line true) o₀ 0 o₁ a → MetasPut sheet (index_of w) n o₁ a o₂ b
       → PartDrawn sheet text units flags Sections o₂ b o₃ c → PartPut tables_of sheet text units flags w h o₃ c o₄ d → PartPut findings_of sheet text units flags w h o₄ d o r
-      → RecipePut sheet text units flags w₀ h o₀ o r
+      → RecipePut sheet text units flags w₀ w h o₀ o r
   unfolding ran_same
   page_put p m s u f =
       record {
@@ -148,4 +148,6 @@ module _ {sheet text units : List ℕ} {flags : ℕ} {w₀ w : List ℕ} {h : He
             (put_seq (text_is _ (metas_end y) (metas_page cx y z.rest.same_flags ran.walked x.index m))
             (put_seq (text_is _ (shown_end y (shut ran)) (s.put cx z y ran.walked))
             (put_seq (u.is cx z k) (f.is cx z k)))));
+        front = x.front;
+        rest = x.rest;
       }
