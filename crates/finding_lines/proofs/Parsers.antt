@@ -32,7 +32,6 @@ use Rattle.reading.proofs.Lines.{line_made}
 use Rattle.reading.proofs.Passes.{Rest, rest_ends, rest_ended, rest_read, rest_event}
 use Rattle.output.specs.Put.{Put}
 use Rattle.output.proofs.Puts.{Leads, starts, turn, step as leads-step}
-use Rattle.output.proofs.Texts.{text_is}
 use Rattle.finding_lines.specs.Lines.{ParsePut, parsed_line, parsed_lines, EventPut, ParsedPut}
 use Rattle.finding_lines.proofs.Texts.{leads_placed}
 use Rattle.page_fields.proofs.Tables.{lines_more}
@@ -207,7 +206,3 @@ module _ {text bytes o₀ : List ℕ} {at : ℕ} {o : List ℕ} {m from : ℕ} (
             rest = record { is = f.next };
             put = leads-step (parsed_lines f.others) (turn (ap parsed_lines f.is ∙ lines_first _ f.others) w.put) (t.is (take (end - from) (drop from bytes)));
           }
-
--- the page of a failed recipe
-pub parsed_failed : {text bytes o₀ o : List ℕ} {at r : ℕ} (cx : Context) (fs : List Finding) → parse_events cx (events_or (read_sheet text bytes)) ≡ no_recipe fs → ParsedPut text bytes o₀ at o r → Put (table_lines finding_line fs) o₀ at o r
-parsed_failed {text} {bytes} cx fs q p = text_is _ (failed_lines cx (events_or (read_sheet text bytes)) fs q) p.is

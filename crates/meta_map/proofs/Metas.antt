@@ -3,7 +3,7 @@ use Rattle.std.specs.Prelude.{Option}
 use Prim.Native.Nat.{ℕ, zero, suc, ◌+◌, ◌-◌, ◌≤◌}
 use mathlib.Core.Path.{◌≡◌, refl, ap, sym, ◌∙◌}
 use mathlib.Core.Bool.{Bool, true, false, ◌&&◌}
-use mathlib.Core.List.{List, [], ◌∷◌, ◌++◌}
+use mathlib.Core.List.{List, [], ◌∷◌, ◌++◌, append_assoc}
 use native.Mathlib.Omega.{arith}
 use lib.ListN.{length, take, drop, length-take, length-drop, length-append}
 use lib.Seq.{take-nil, take-take, drop-drop, take_at, drop_at, length-take-le}
@@ -189,9 +189,13 @@ pub words_indexed : {flags : ℕ} {text sheet m : List ℕ} {r : ℕ} (w : List 
 words_indexed {m = m} w h x =
     let a : length (take STATE_WORDS w) ≡ STATE_WORDS = length-take-le STATE_WORDS w (omega arith) in
     let k : length m ≡ INDEX_WORDS = x.indexed.long in
+    let l : length (take STATE_WORDS w ++ m) ≡ WORDS = length-append (take STATE_WORDS w) m ∙ omega (arith, a, k) in
     let p : take INDEX_WORDS (drop STATE_WORDS (take STATE_WORDS w ++ (m ++ drop INDEX_WORDS (drop STATE_WORDS w)))) ≡ m = ap (take INDEX_WORDS) (drop_at (take STATE_WORDS w) (m ++ drop INDEX_WORDS (drop STATE_WORDS w)) STATE_WORDS a) ∙ take_at m (drop INDEX_WORDS (drop STATE_WORDS w)) INDEX_WORDS k in
     record {
       index = rw p x;
       front = take_at (take STATE_WORDS w) (m ++ drop INDEX_WORDS (drop STATE_WORDS w)) STATE_WORDS a;
+      rest =
+          ap (drop WORDS) (sym (append_assoc (take STATE_WORDS w) m (drop INDEX_WORDS (drop STATE_WORDS w))))
+          ∙ (drop_at (take STATE_WORDS w ++ m) (drop INDEX_WORDS (drop STATE_WORDS w)) WORDS l ∙ drop-drop INDEX_WORDS STATE_WORDS w);
       long = length-append (take STATE_WORDS w) (m ++ drop INDEX_WORDS (drop STATE_WORDS w)) ∙ omega (arith, a, k, length-append m (drop INDEX_WORDS (drop STATE_WORDS w)), length-drop INDEX_WORDS (drop STATE_WORDS w), length-drop STATE_WORDS w);
     }

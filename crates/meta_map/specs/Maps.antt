@@ -14,7 +14,7 @@ use Rattle.rules.specs.Model.{MetaEntry}
 use Rattle.rules.specs.Modes.{Key, config, unknown_config, ordinary, has_modes, key_of, key_text, value_text}
 use Rattle.rules.specs.Metadata.{insert_meta}
 use Rattle.meta_map.specs.Index.{map_in, Indexed}
-use Rattle.model.specs.declared.layout.TheConstants.{STATE_WORDS, INDEX_WORDS}
+use Rattle.model.specs.declared.layout.TheConstants.{STATE_WORDS, INDEX_WORDS, WORDS}
 
 -- a line whose key sets a mode stays out of the map
 unfoldable pub map_key : Key → Text → Text → List MetaEntry → List MetaEntry
@@ -73,8 +73,9 @@ pub record SheetIndexed (flags : ℕ) (text sheet m : List ℕ) (r : ℕ) : Type
 abbrev pub index_of : List ℕ → List ℕ
 index_of w = take INDEX_WORDS (drop STATE_WORDS w)
 
--- the words before it stay as they are
+-- the index in the window, in the program's choice of words; the words before the window and after it stay as they are
 pub record WordsIndexed (flags : ℕ) (text sheet w₀ w : List ℕ) (r : ℕ) : Type 0 where
   pub index : SheetIndexed flags text sheet (index_of w) r
   pub front : take STATE_WORDS w ≡ take STATE_WORDS w₀
+  pub rest : drop WORDS w ≡ drop WORDS w₀
   pub long : length w ≡ length w₀

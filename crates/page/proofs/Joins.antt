@@ -2,7 +2,7 @@
 use Prim.Native.Nat.{ℕ, ◌≤◌}
 use mathlib.Core.Path.{◌≡◌, ap, sym, ◌∙◌}
 use mathlib.Core.Bool.{Bool, true, false}
-use mathlib.Core.List.{List, []}
+use mathlib.Core.List.{List, [], ◌∷◌, ◌++◌}
 use native.Mathlib.Omega.{arith}
 use lib.ListN.{length}
 use Rattle.rules.specs.Basic.{codes, join_by, each}
@@ -10,17 +10,18 @@ use Rattle.rules.specs.Sheet.{escape, escape_char, line_of}
 use Rattle.rules.specs.Input.{Context}
 use Rattle.rules.specs.Model.{ingredient, cookware}
 use Rattle.rules.specs.Event.{Event}
-use Rattle.rules.specs.State.{State, table_of, going}
-use Rattle.rules.specs.Pass.{is_open, ended}
+use Rattle.rules.specs.Finding.{Finding}
+use Rattle.rules.specs.State.{State, table_of, going, no_recipe}
+use Rattle.rules.specs.Pass.{is_open, ended, parse_events}
 use Rattle.rules.specs.Page.{table_lines, ingredient_line, cookware_line, failed_page}
-use Rattle.rules.specs.Answer.{words_needed}
+use Rattle.rules.specs.Answer.{words_needed, events_or, read_sheet}
 use Rattle.output.specs.Put.{Put}
 use Rattle.output.proofs.Puts.{put_seq}
 use Rattle.output.proofs.Texts.{text_is}
 use Rattle.model.specs.Memory.{state_in}
 use Rattle.model.specs.declared.Held.{Held}
-use Rattle.finding_lines.specs.Lines.{old_open, old_close, FindingsPut, ParsedPut}
-use Rattle.finding_lines.proofs.Parsers.{parsed_failed}
+use Rattle.finding_lines.specs.Lines.{old_open, old_close, parsed_lines, FindingsPut, ParsedPut}
+use Rattle.finding_lines.proofs.Parsers.{failed_lines}
 use Rattle.meta_map.specs.Index.{Indexed, MetasPut}
 use Rattle.meta_map.specs.Maps.{index_of, WordsIndexed}
 use Rattle.meta_map.proofs.Walks.{metas_page}
@@ -48,9 +49,17 @@ module _ {made : Bool} {o₀ o : List ℕ} {at r : ℕ} where
 
 -- ---- the page of a sheet that makes no recipe
 
+-- its findings are those of the parser
+failed_is : (cx : Context) (es : List Event) (fs : List Finding) → parse_events cx es ≡ no_recipe fs
+    → failed_page fs ≡ line_of (codes "recipe" ∷ codes "no" ∷ []) ++ parsed_lines es
+unfolding failed_page
+failed_is cx es fs e = ap (λ (x : List ℕ). line_of (codes "recipe" ∷ codes "no" ∷ []) ++ x) (failed_lines cx es fs e)
+
 pub failed_put : {sheet text o₀ o₁ o : List ℕ} {a r : ℕ} → Put (head_line false) o₀ 0 o₁ a → ParsedPut text sheet o₁ a o r → FailedPut sheet text o₀ o r
-unfolding failed_page head_line
-failed_put p q = record { is = λ cx fs e. put_seq p (parsed_failed cx fs e q) }
+unfolding head_line
+failed_put {sheet} {text} p q =
+    let a = put_seq p q.is in
+    record { always = a; is = λ cx fs e. text_is _ (failed_is cx (events_or (read_sheet text sheet)) fs e) a }
 
 -- ---- what the writers ask
 
@@ -127,7 +136,7 @@ module _ {sheet text units : List ℕ} {flags : ℕ} {w₀ w : List ℕ} {h : He
 
   pub page_put : {o₀ o₁ o₂ o₃ o₄ o : List ℕ} {a b c d r : ℕ} → Put (head_line true) o₀ 0 o₁ a → MetasPut sheet (index_of w) n o₁ a o₂ b
       → PartDrawn sheet text units flags Sections o₂ b o₃ c → PartPut tables_of sheet text units flags w h o₃ c o₄ d → PartPut findings_of sheet text units flags w h o₄ d o r
-      → RecipePut sheet text units flags w₀ h o₀ o r
+      → RecipePut sheet text units flags w₀ w h o₀ o r
   unfolding ran_same
   page_put p m s u f =
       record {
@@ -139,4 +148,6 @@ module _ {sheet text units : List ℕ} {flags : ℕ} {w₀ w : List ℕ} {h : He
             (put_seq (text_is _ (metas_end y) (metas_page cx y z.rest.same_flags ran.walked x.index m))
             (put_seq (text_is _ (shown_end y (shut ran)) (s.put cx z y ran.walked))
             (put_seq (u.is cx z k) (f.is cx z k)))));
+        front = x.front;
+        rest = x.rest;
       }

@@ -130,7 +130,7 @@ pub fn recipe_page(
     out: &mut [u8],
 ) -> usize
     requires { PageGiven sheet.now.bytes.now sheet.now.text.now units.now.lines.now flags words.old h }
-    ensures { RecipePut sheet.now.bytes.now sheet.now.text.now units.now.lines.now flags words.old h out.old out.new result }
+    ensures { RecipePut sheet.now.bytes.now sheet.now.text.now units.now.lines.now flags words.old words.new h out.old out.new result }
 {
     let n = meta_map::index_metadata(flags, sheet, words);
     let a = head_line(out, true);

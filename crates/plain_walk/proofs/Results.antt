@@ -21,7 +21,7 @@ module _ (i : Input) where
 
   pub form_declined : {w : List ℕ} {h : Held} {o₀ o : List ℕ} {f : Refusal} (room : ℕ) → Left cx i.text i.sheet w h → FormWritten i.text i.flags i.sheet w h o₀ o (Err f) → form_of i room lines ≡ declined (number_of f.reason) f.line
   unfolding form_of FormedAs
-  form_declined room l x = x.is cx refl refl l (form_answer i room (sheet_of (plain_events cx lines)))
+  form_declined room l x = (x.is cx refl refl l).0 (form_answer i room (sheet_of (plain_events cx lines)))
 
   pub form_answered : {w : List ℕ} {h : Held} {o₀ o : List ℕ} {r : ℕ} (room : ℕ) → Left cx i.text i.sheet w h → FormWritten i.text i.flags i.sheet w h o₀ o (Ok r) → form_of i room lines ≡ form_answer i room (sheet_of (plain_events cx lines))
   unfolding form_of FormedAs

@@ -47,7 +47,7 @@ use Rattle.plain_walk.specs.Becomes.{PlainFit, Few, EventTold, PlainWritten}
 use Rattle.plain_walk.specs.Walk.{Final, Left, PassDone, FormedAs, FormWritten}
 use Rattle.plain_walk.specs.declared.Plain.{Plain}
 use Rattle.plain_walk.proofs.Behinds.{behind_none}
-use Rattle.plain_walk.proofs.Forming.{Forming, forming_starts, forming_room, forming_form, forming_clear, forming_cut, forming_row, forming_few, forming_fault, forming_next}
+use Rattle.plain_walk.proofs.Forming.{Forming, forming_starts, forming_room, forming_form, forming_clear, forming_cut, forming_row, forming_few, forming_front, forming_fault, forming_next}
 use Rattle.plain_walk.proofs.Writes.{put_none}
 
 -- ---- a component's line in a step has its row
@@ -157,10 +157,14 @@ module _ {text : List ℕ} {flags : ℕ} {sheet w : List ℕ} {h : Held} {o₀ :
         form_fit t = t.fit text k.fields (line_spans d.here.rest l q (event_in (take (end - at) (drop at sheet)) v) k.is)
 
         module _ {x : Result (Unit {0}) Reason} (g : LineFault sheet w v f x) where
-          pub form_fault : {m : Reason} → x ≡ Err m → {o' : List ℕ} → FormWritten text flags sheet w h o₀ o' (Err (record { reason = m; line = number }))
+          pub form_fault : {m : Reason} → x ≡ Err m → FormWritten text flags sheet w h o₀ o (Err (record { reason = m; line = number }))
           unfolding FormedAs
           form_fault {m} e =
-              record { is = λ cx a b y. forming_fault text cx sheet w h (d.by cx a b y) l q k (number_of m) (sym (g.at (take (end - at) (drop at sheet))) ∙ ap number_told e) }
+              record {
+                is = λ cx a b y.
+                    let z = d.by cx a b y in
+                    (forming_fault text cx sheet w h z l q k (number_of m) (sym (g.at (take (end - at) (drop at sheet))) ∙ ap number_told e), forming_front text cx sheet w h z);
+              }
 
           module _ {u : Unit {0}} (m : x ≡ Ok u) {p : Plain} {y : Follow} {o' : List ℕ} {n' : ℕ} (t : EventTold flags w (take (end - at) (drop at sheet)) v f p)
               (p' : PlainWritten text (take (end - at) (drop at sheet)) p o n o' n') (z : Followed flags (take (end - at) (drop at sheet)) v 0 f y) where

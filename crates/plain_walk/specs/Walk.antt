@@ -1,5 +1,5 @@
 -- What is known of work memory when the plain form is written, and what is written.
-use Rattle.std.specs.Prelude.{ℕ, ◌≤◌, ◌≡◌, List, Result, Ok, Err}
+use Rattle.std.specs.Prelude.{ℕ, ◌-◌, ◌≤◌, ◌≡◌, List, take, Result, Ok, Err}
 use Rattle.rules.specs.Input.{Context}
 use Rattle.rules.specs.State.{State, first_state, going}
 use Rattle.rules.specs.Pass.{walk}
@@ -40,10 +40,16 @@ pub record PassDone (text : List ℕ) (flags : ℕ) (sheet w : List ℕ) (h : He
 abbrev pub trace_of : Context → List ℕ → List ℕ → List Traced
 trace_of cx text sheet = trace_from cx 1 (going first_state) (events_or (read_sheet text sheet))
 
--- the first fault: its number and line, and what the buffer then holds is the program's choice; or no fault, and the form's bytes
--- at the front of a buffer that held o₀, or they do not fit
+-- the form of the lines before the one of this number, at the front of a buffer that held o₀, as far as it goes
+pub record FormFront (cx : Context) (text sheet : List ℕ) (line : ℕ) (o₀ o : List ℕ) : Type 0 where
+  pub count : ℕ
+  pub put : Put (sheet_of (plain_events cx (take (line - 1) (trace_of cx text sheet)))) o₀ 0 o count
+
+-- the first fault, its number and line, and the form of the lines before it; or no fault, and the form, which fits or does not
 unfoldable pub FormedAs : Context → List ℕ → List ℕ → List ℕ → List ℕ → Result ℕ Refusal → Type 0
-FormedAs cx text sheet o₀ o (Err f) = (a : Answer) → unless_faulty cx a (trace_of cx text sheet) ≡ declined (number_of f.reason) f.line
+FormedAs cx text sheet o₀ o (Err f) =
+    ((a : Answer) → unless_faulty cx a (trace_of cx text sheet) ≡ declined (number_of f.reason) f.line)
+    × FormFront cx text sheet f.line o₀ o
 FormedAs cx text sheet o₀ o (Ok r) =
     ((a : Answer) → unless_faulty cx a (trace_of cx text sheet) ≡ a)
     × Put (sheet_of (plain_events cx (trace_of cx text sheet))) o₀ 0 o r

@@ -66,8 +66,8 @@ module _ {i : Input} {words bytes : ℕ} (g : GoodInputs i words bytes) where
           ran = ran_recipe q;
         }
 
-    pub recipe_answered : {room : ℕ} {h : Held} {o₀ o : List ℕ} {n : ℕ} {r : Result ℕ Refusal} → length o₀ ≡ room → a ≡ Ok (Some h)
-        → RecipePut i.sheet i.text i.units i.flags w h o₀ o n → r ≡ page_or20 n (length o) → Answered (collect_answer i (lends (lent words bytes) room)) room o r
+    pub recipe_answered : {room : ℕ} {w₁ : List ℕ} {h : Held} {o₀ o : List ℕ} {n : ℕ} {r : Result ℕ Refusal} → length o₀ ≡ room → a ≡ Ok (Some h)
+        → RecipePut i.sheet i.text i.units i.flags w w₁ h o₀ o n → r ≡ page_or20 n (length o) → Answered (collect_answer i (lends (lent words bytes) room)) room o r
     unfolding written
     recipe_answered e q s k = let x = ran_recipe q in handed e (passed_on _ x.is) (page_handed (s.is (context_of i) (own_context i) x) k)
 
