@@ -157,14 +157,15 @@ module _ {us : List NamedUnit} {s : List ℕ} {from i d m : ℕ} (g : Sought us 
           rw (y.is, number_content, passed, number_is, b.front, v.front, v.behind, next.is)
           (sym (number_unit us (content_in (part from m s)) it.head it.tail (content_in (drop e s)) next.head next.tail with_sign digit after_number q) ∙ at_number)
 
-      pub turn_less : i < a
-      turn_less = omega (arith, f.from, number_more, b.from, v.from)
+      -- the word is further on
+      pub turn_less : i < w
+      turn_less = omega (arith, f.from, number_more, b.from)
 
       -- its unit is not known, or it is no number
       other : (is_number (content_in (part m e s)) && is_some (find_unit (content_in (part u.from u.to s)) us)) ≡ false → Sought us s from a
       other q =
           record {
-            start = omega (arith, g.start, turn_less);
+            start = omega (arith, g.start, turn_less, v.from);
             end = v.to;
             is = sym (unit_other us (content_in (part from m s)) (content_in (part m e s)) (content_in (part u.from u.to s)) (content_in (part from a s)) (content_in (drop a s)) q) ∙ tried;
             whole = all_passed;

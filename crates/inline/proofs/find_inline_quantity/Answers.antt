@@ -59,13 +59,13 @@ pub loop-p-preserved : goal.loop-p-preserved
 loop-p-preserved c = along_on _ c.args.units.now.indexed c.loop-p.invariant c.loop-p-test.true c.is_named.ensures c.if-is_named.false c.next_of-p.ensures
 
 pub loop-from-smaller-after-loop-p : goal.loop-from-smaller-after-loop-p
-loop-from-smaller-after-loop-p c = omega (arith, turn_less c.loop-from.invariant c.next_digit-digit.ensures c.if-digit-s.false c.sign_start-number_from.ensures c.number_end-number_to.ensures c.blanks_end-word.ensures c.if-word-s.false c.word_end-after.ensures c.unit_part-span.ensures, c.word_end-after.ensures.to)
+loop-from-smaller-after-loop-p c = omega (arith, turn_less c.loop-from.invariant c.next_digit-digit.ensures c.if-digit-s.false c.sign_start-number_from.ensures c.number_end-number_to.ensures c.blanks_end-word.ensures c.if-word-s.false c.word_end-after.ensures c.unit_part-span.ensures, c.blanks_end-word.ensures.to, c.word_end-after.ensures.from, c.word_end-after.ensures.to)
 
 pub loop-from-preserved-after-loop-p : goal.loop-from-preserved-after-loop-p
 loop-from-preserved-after-loop-p c = turn_unknown c.loop-from.invariant c.next_digit-digit.ensures c.if-digit-s.false c.sign_start-number_from.ensures c.number_end-number_to.ensures c.blanks_end-word.ensures c.if-word-s.false c.word_end-after.ensures c.unit_part-span.ensures c.points.ensures (omega (arith, c.if-points-le1.true)) (along_end _ c.args.units.now.indexed c.loop-p.invariant c.loop-p-test.false)
 
 pub loop-from-smaller : goal.loop-from-smaller
-loop-from-smaller c = omega (arith, turn_less c.loop-from.invariant c.next_digit-digit.ensures c.if-digit-s.false c.sign_start-number_from.ensures c.number_end-number_to.ensures c.blanks_end-word.ensures c.if-word-s.false c.word_end-after.ensures c.unit_part-span.ensures, c.word_end-after.ensures.to)
+loop-from-smaller c = omega (arith, turn_less c.loop-from.invariant c.next_digit-digit.ensures c.if-digit-s.false c.sign_start-number_from.ensures c.number_end-number_to.ensures c.blanks_end-word.ensures c.if-word-s.false c.word_end-after.ensures c.unit_part-span.ensures, c.blanks_end-word.ensures.to, c.word_end-after.ensures.from, c.word_end-after.ensures.to)
 
 pub loop-from-preserved : goal.loop-from-preserved
 loop-from-preserved c = turn_points c.loop-from.invariant c.next_digit-digit.ensures c.if-digit-s.false c.sign_start-number_from.ensures c.number_end-number_to.ensures c.blanks_end-word.ensures c.if-word-s.false c.word_end-after.ensures c.unit_part-span.ensures c.points.ensures c.if-points-le1.false

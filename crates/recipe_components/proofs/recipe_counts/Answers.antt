@@ -7,7 +7,9 @@ pub own_references-i-requires : goal.own_references-i-requires
 own_references-i-requires c = rows_asked ingredient c.args.stored.now.sound
 
 pub own_references-c-requires : goal.own_references-c-requires
-own_references-c-requires c = rows_asked cookware c.args.stored.now.sound
+own_references-c-requires c =
+    let asked = rows_asked cookware c.args.stored.now.sound in
+    (asked.0, λ some. omega (arith, asked.1 some))
 
 pub table_fits-requires : goal.table_fits-requires
 table_fits-requires c = omega (arith, c.own_references-i.ensures.few, (rows_asked ingredient c.args.stored.now.sound).0)
