@@ -1,7 +1,7 @@
 -- Each push, and each list of findings, writes in the windows of the state alone.
 use Rattle.std.specs.Prelude.{None, Option, Some}
-use Prim.Native.Nat.{ℕ, suc, ◌+◌, ◌*◌, ◌≤◌}
-use mathlib.Core.Path.{◌≡◌, refl, sym, ap}
+use Prim.Native.Nat.{ℕ, ◌+◌, ◌*◌, ◌≤◌}
+use mathlib.Core.Path.{◌≡◌, refl, ap}
 use mathlib.Core.List.{List, [], ◌∷◌}
 use mathlib.Core.Bool.{false}
 use native.Mathlib.Omega.{arith}
@@ -18,9 +18,9 @@ use Rattle.model.specs.declared.Noted.{Noted}
 use Rattle.model.specs.declared.Held.{Held}
 use Rattle.model.proofs.Tables.{row_length, noted_length}
 use Rattle.model.proofs.Writes.{writes_none, writes_on, writes_sets}
-use Rattle.memory.specs.Pushes.{FindingPushed, BlockKept, ComponentAdded}
+use Rattle.memory.specs.Pushes.{with_pairs, held_with, RowPushed, PairPushed, FindingPushed, BlockKept, ComponentAdded}
 use Rattle.memory.specs.Reports.{Reported, nothing, more}
-use Rattle.model.specs.declared.layout.TheConstants.{ROW, PAIR, FINDING, MOST_INGREDIENTS, MOST_COOKWARE, MOST_FINDINGS, MOST_KINDS, INGREDIENTS, COOKWARE, INGREDIENT_PAIRS, COOKWARE_PAIRS, FINDINGS, KINDS, STATE_WORDS}
+use Rattle.model.specs.declared.layout.TheConstants.{ROW, PAIR, FINDING, MOST_FINDINGS, MOST_KINDS, FINDINGS, KINDS, STATE_WORDS}
 
 -- ---- findings
 
@@ -44,6 +44,23 @@ block_writes {h₀ = h₀} {h = h} {v = v} p =
 
 -- ---- components: a row, and a pair
 
+-- one more is counted, and the windows have room for it
+counted : (k : Kind) (to : Option ℕ) {h₀ h : Held} → h ≡ held_with k to h₀ → count_of k h ≡ count_of k h₀ + 1
+counted ingredient None e = ap (λ (z : Held). z.counts.ingredients) e
+counted ingredient (Some d) e = ap (λ (z : Held). z.counts.ingredients) e
+counted cookware None e = ap (λ (z : Held). z.counts.cookware) e
+counted cookware (Some d) e = ap (λ (z : Held). z.counts.cookware) e
+
+paired : (k : Kind) {h₀ h x : Held} → h ≡ with_pairs k (pairs_of k h₀ + 1) x → pairs_of k h ≡ pairs_of k h₀ + 1
+paired ingredient e = ap (λ (z : Held). z.counts.ingredient_pairs) e
+paired cookware e = ap (λ (z : Held). z.counts.cookware_pairs) e
+
+row_room : (k : Kind) (to : Option ℕ) {w : List ℕ} {h₀ h : Held} → h ≡ held_with k to h₀ → Sound w h → count_of k h₀ + 1 ≤ room_of k
+row_room k to e z = omega (arith, counted k to e, z.room.rows k)
+
+pair_room : (k : Kind) {w : List ℕ} {h₀ h x : Held} → h ≡ with_pairs k (pairs_of k h₀ + 1) x → Sound w h → pairs_of k h₀ + 1 ≤ room_of k
+pair_room k e z = omega (arith, paired k e, z.room.pairs k, z.room.rows k)
+
 row_inside : (k : Kind) (n : ℕ) (r : Row) → n + 1 ≤ room_of k → rows_from k + n * ROW + length (row_words r) ≤ STATE_WORDS
 row_inside ingredient n r h = omega (arith, row_length r)
 row_inside cookware n r h = omega (arith, row_length r)
@@ -52,31 +69,20 @@ pair_inside : (k : Kind) (n : ℕ) → n + 1 ≤ room_of k → pairs_from k + n 
 pair_inside ingredient n h = omega arith
 pair_inside cookware n h = omega arith
 
-module _ (k : Kind) (w₀ : List ℕ) (h₀ : Held) (r : Row) (l : count_of k h₀ + 1 ≤ room_of k) where
-  row_writes : Writes w₀ (sets w₀ (rows_from k + count_of k h₀ * ROW) (row_words r)) false
-  row_writes = writes_sets (rows_from k + count_of k h₀ * ROW) (row_words r) (row_inside k (count_of k h₀) r l) refl
+row_stored : (k : Kind) (n : ℕ) (r : Row) {w₀ w : List ℕ} → n + 1 ≤ room_of k → w ≡ sets w₀ (rows_from k + n * ROW) (row_words r) → Writes w₀ w false
+row_stored k n r l e = writes_sets (rows_from k + n * ROW) (row_words r) (row_inside k n r l) e
 
-  both_write : (d : ℕ) {w : List ℕ} → pairs_of k h₀ + 1 ≤ room_of k
-      → w ≡ sets (sets w₀ (rows_from k + count_of k h₀ * ROW) (row_words r)) (pairs_from k + pairs_of k h₀ * PAIR) (d ∷ count_of k h₀ ∷ []) → Writes w₀ w false
-  both_write d m e = writes_on row_writes (writes_sets (pairs_from k + pairs_of k h₀ * PAIR) (d ∷ count_of k h₀ ∷ []) (pair_inside k (pairs_of k h₀) m) e)
+pair_stored : (k : Kind) (n d r : ℕ) {w₀ w : List ℕ} → n + 1 ≤ room_of k → w ≡ sets w₀ (pairs_from k + n * PAIR) (d ∷ r ∷ []) → Writes w₀ w false
+pair_stored k n d r l e = writes_sets (pairs_from k + n * PAIR) (d ∷ r ∷ []) (pair_inside k n l) e
 
-module _ {w₀ w : List ℕ} {h₀ h : Held} {r : Row} where
-  pub component_writes : (k : Kind) (to : Option ℕ) → ComponentAdded k w₀ h₀ r to w h → Writes w₀ w false
-  component_writes ingredient None p =
-      let n : h.counts.ingredients ≡ h₀.counts.ingredients + 1 = ap (λ (z : Held). z.counts.ingredients) p.held in
-      rw p.words (row_writes ingredient w₀ h₀ r (omega (arith, n, p.sound.room.rows ingredient)))
-  component_writes cookware None p =
-      let n : h.counts.cookware ≡ h₀.counts.cookware + 1 = ap (λ (z : Held). z.counts.cookware) p.held in
-      rw p.words (row_writes cookware w₀ h₀ r (omega (arith, n, p.sound.room.rows cookware)))
-  component_writes ingredient (Some d) p =
-      let n : h.counts.ingredients ≡ h₀.counts.ingredients + 1 = ap (λ (z : Held). z.counts.ingredients) p.held in
-      let m : h.counts.ingredient_pairs ≡ h₀.counts.ingredient_pairs + 1 = ap (λ (z : Held). z.counts.ingredient_pairs) p.held in
-      let l : h.counts.ingredients ≤ MOST_INGREDIENTS = p.sound.room.rows ingredient in
-      let g : h.counts.ingredient_pairs ≤ h.counts.ingredients = p.sound.room.pairs ingredient in
-      both_write ingredient w₀ h₀ r (omega arith) d (omega arith) p.words
-  component_writes cookware (Some d) p =
-      let n : h.counts.cookware ≡ h₀.counts.cookware + 1 = ap (λ (z : Held). z.counts.cookware) p.held in
-      let m : h.counts.cookware_pairs ≡ h₀.counts.cookware_pairs + 1 = ap (λ (z : Held). z.counts.cookware_pairs) p.held in
-      let l : h.counts.cookware ≤ MOST_COOKWARE = p.sound.room.rows cookware in
-      let g : h.counts.cookware_pairs ≤ h.counts.cookware = p.sound.room.pairs cookware in
-      both_write cookware w₀ h₀ r (omega arith) d (omega arith) p.words
+pub row_writes : (k : Kind) {w₀ w : List ℕ} {h₀ h : Held} {r : Row} → RowPushed k w₀ h₀ r w h → Writes w₀ w false
+row_writes k {h₀ = h₀} {r = r} p = row_stored k (count_of k h₀) r (row_room k None p.held p.sound) p.words
+
+pub pair_writes : (k : Kind) {w₀ w : List ℕ} {h₀ h : Held} {d r : ℕ} → PairPushed k w₀ h₀ d r w h → Writes w₀ w false
+pair_writes k {h₀ = h₀} {d = d} {r} p = pair_stored k (pairs_of k h₀) d r (pair_room k p.held p.sound) p.words
+
+pub component_writes : (k : Kind) (to : Option ℕ) {w₀ w : List ℕ} {h₀ h : Held} {r : Row} → ComponentAdded k w₀ h₀ r to w h → Writes w₀ w false
+component_writes k None {h₀ = h₀} {r = r} p = row_stored k (count_of k h₀) r (row_room k None p.held p.sound) p.words
+component_writes k (Some d) {h₀ = h₀} {r = r} p =
+    writes_on (row_stored k (count_of k h₀) r (row_room k (Some d) p.held p.sound) refl)
+    (pair_stored k (pairs_of k h₀) d (count_of k h₀) (pair_room k p.held p.sound) p.words)

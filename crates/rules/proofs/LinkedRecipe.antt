@@ -10,7 +10,7 @@ use lib.ListN.{length}
 use Rattle.rules.specs.Input.{Input, Context, context_of}
 use Rattle.rules.specs.Basic.{pick, is_some}
 use Rattle.rules.specs.Event.{Event}
-use Rattle.rules.specs.Model.{Kind, ingredient, cookware, Relation, definition, reference, Entry, set_relation, is_own}
+use Rattle.rules.specs.Model.{Kind, ingredient, cookware, Relation, definition, reference, Entry, set_relation}
 use Rattle.rules.specs.Reference.{Earlier, entry_at, referred_by, set_referenced_from, is_definition, is_own_reference, own_references}
 use Rattle.rules.specs.State.{State, first_state, set_kept, table_of, report, over_limits, going, Outcome, recipe}
 use Rattle.rules.specs.Components.{Made, referred, pushed}

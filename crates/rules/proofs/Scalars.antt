@@ -7,7 +7,6 @@ use Rattle.std.specs.Prelude.{Option, None, Some}
 use native.Mathlib.Omega.{arith}
 use lib.Dec.{eqb, leb, ltb}
 use borrow.Author.Tests.{ltb-true, ltb-false, leb-false, eqb-true, eqb-false, le-leb}
-use Rattle.rules.specs.Basic.{within}
 use Rattle.rules.specs.Utf8.{Scalar, second, first_of, char_or, followers, chars_from, chars}
 use Rattle.rules.proofs.Basics.{no_truth, within_low, within_high}
 use Rattle.rules.proofs.Begins.{Begins, one, two, three, four, begins, low_at, high_at}
