@@ -45,21 +45,21 @@ block_writes {h₀ = h₀} {h = h} {v = v} p =
 -- ---- components: a row, and a pair
 
 -- one more is counted, and the windows have room for it
-counted : (k : Kind) (to : Option ℕ) {h₀ h : Held} → h ≡ held_with k to h₀ → count_of k h ≡ count_of k h₀ + 1
-counted ingredient None e = ap (λ (z : Held). z.counts.ingredients) e
-counted ingredient (Some d) e = ap (λ (z : Held). z.counts.ingredients) e
-counted cookware None e = ap (λ (z : Held). z.counts.cookware) e
-counted cookware (Some d) e = ap (λ (z : Held). z.counts.cookware) e
+counted : (k : Kind) (to : Option ℕ) (h₀ : Held) {h : Held} → h ≡ held_with k to h₀ → count_of k h ≡ count_of k h₀ + 1
+counted ingredient None h₀ e = ap (λ (z : Held). z.counts.ingredients) e
+counted ingredient (Some d) h₀ e = ap (λ (z : Held). z.counts.ingredients) e
+counted cookware None h₀ e = ap (λ (z : Held). z.counts.cookware) e
+counted cookware (Some d) h₀ e = ap (λ (z : Held). z.counts.cookware) e
 
-paired : (k : Kind) {h₀ h x : Held} → h ≡ with_pairs k (pairs_of k h₀ + 1) x → pairs_of k h ≡ pairs_of k h₀ + 1
-paired ingredient e = ap (λ (z : Held). z.counts.ingredient_pairs) e
-paired cookware e = ap (λ (z : Held). z.counts.cookware_pairs) e
+paired : (k : Kind) (h₀ x : Held) {h : Held} → h ≡ with_pairs k (pairs_of k h₀ + 1) x → pairs_of k h ≡ pairs_of k h₀ + 1
+paired ingredient h₀ x e = ap (λ (z : Held). z.counts.ingredient_pairs) e
+paired cookware h₀ x e = ap (λ (z : Held). z.counts.cookware_pairs) e
 
-row_room : (k : Kind) (to : Option ℕ) {w : List ℕ} {h₀ h : Held} → h ≡ held_with k to h₀ → Sound w h → count_of k h₀ + 1 ≤ room_of k
-row_room k to e z = omega (arith, counted k to e, z.room.rows k)
+row_room : (k : Kind) (to : Option ℕ) (h₀ : Held) {w : List ℕ} {h : Held} → h ≡ held_with k to h₀ → Sound w h → count_of k h₀ + 1 ≤ room_of k
+row_room k to h₀ e z = omega (arith, counted k to h₀ e, z.room.rows k)
 
-pair_room : (k : Kind) {w : List ℕ} {h₀ h x : Held} → h ≡ with_pairs k (pairs_of k h₀ + 1) x → Sound w h → pairs_of k h₀ + 1 ≤ room_of k
-pair_room k e z = omega (arith, paired k e, z.room.pairs k, z.room.rows k)
+pair_room : (k : Kind) (h₀ x : Held) {w : List ℕ} {h : Held} → h ≡ with_pairs k (pairs_of k h₀ + 1) x → Sound w h → pairs_of k h₀ + 1 ≤ room_of k
+pair_room k h₀ x e z = omega (arith, paired k h₀ x e, z.room.pairs k, z.room.rows k)
 
 row_inside : (k : Kind) (n : ℕ) (r : Row) → n + 1 ≤ room_of k → rows_from k + n * ROW + length (row_words r) ≤ STATE_WORDS
 row_inside ingredient n r h = omega (arith, row_length r)
@@ -76,13 +76,13 @@ pair_stored : (k : Kind) (n d r : ℕ) {w₀ w : List ℕ} → n + 1 ≤ room_of
 pair_stored k n d r l e = writes_sets (pairs_from k + n * PAIR) (d ∷ r ∷ []) (pair_inside k n l) e
 
 pub row_writes : (k : Kind) {w₀ w : List ℕ} {h₀ h : Held} {r : Row} → RowPushed k w₀ h₀ r w h → Writes w₀ w false
-row_writes k {h₀ = h₀} {r = r} p = row_stored k (count_of k h₀) r (row_room k None p.held p.sound) p.words
+row_writes k {h₀ = h₀} {r = r} p = row_stored k (count_of k h₀) r (row_room k None h₀ p.held p.sound) p.words
 
 pub pair_writes : (k : Kind) {w₀ w : List ℕ} {h₀ h : Held} {d r : ℕ} → PairPushed k w₀ h₀ d r w h → Writes w₀ w false
-pair_writes k {h₀ = h₀} {d = d} {r} p = pair_stored k (pairs_of k h₀) d r (pair_room k p.held p.sound) p.words
+pair_writes k {h₀ = h₀} {d = d} {r} p = pair_stored k (pairs_of k h₀) d r (pair_room k h₀ _ p.held p.sound) p.words
 
 pub component_writes : (k : Kind) (to : Option ℕ) {w₀ w : List ℕ} {h₀ h : Held} {r : Row} → ComponentAdded k w₀ h₀ r to w h → Writes w₀ w false
-component_writes k None {h₀ = h₀} {r = r} p = row_stored k (count_of k h₀) r (row_room k None p.held p.sound) p.words
+component_writes k None {h₀ = h₀} {r = r} p = row_stored k (count_of k h₀) r (row_room k None h₀ p.held p.sound) p.words
 component_writes k (Some d) {h₀ = h₀} {r = r} p =
-    writes_on (row_stored k (count_of k h₀) r (row_room k (Some d) p.held p.sound) refl)
-    (pair_stored k (pairs_of k h₀) d (count_of k h₀) (pair_room k p.held p.sound) p.words)
+    writes_on (row_stored k (count_of k h₀) r (row_room k (Some d) h₀ p.held p.sound) refl)
+    (pair_stored k (pairs_of k h₀) d (count_of k h₀) (pair_room k h₀ _ p.held p.sound) p.words)
