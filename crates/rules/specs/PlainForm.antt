@@ -120,6 +120,6 @@ module _ (i : Input) where
     pub same : (form : List ℕ) → HandedOut form → SamePage (collection (with_sheet form i)) (collection i)
     -- 6. its own plain form is itself
     pub own : (form : List ℕ) → HandedOut form → plain_form (with_sheet form i) ≡ answered form
-    -- 7. all this is with memory enough. "Where the form would be handed out but too little room is lent, 1 or 20 answers in its
-    -- place.", and a sheet that is declined is so by its own number, but for 1
+    -- 7. with other memory: "Where the form would be handed out but too little room is lent, 1 or 20 answers in its place."; a sheet
+    -- that is declined keeps its number and line, unless 1 comes before them
     pub lent : (m : Lent) → plain_answer i m ≡ lent_to m (plain_form i)
