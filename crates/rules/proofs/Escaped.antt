@@ -8,8 +8,9 @@ use native.Mathlib.Omega.{arith}
 use lib.Dec.{eqb, ltb}
 use borrow.Author.Tests.{ltb-true, eqb-true, eqb-false, ne_eqb}
 use Rattle.rules.specs.Utf8.{is_utf8, encode_char, encode, Scalar}
-use Rattle.rules.specs.Sheet.{escaped, onto, unescape, escape_char, escape}
+use Rattle.rules.specs.Sheet.{escaped, bare, onto, unescape, escape_char, escape}
 use Rattle.rules.proofs.Basics.{pick_either, by_order, no_some, some_inj}
+use Rattle.rules.proofs.Fields.{unescape_one, bare_is}
 use Rattle.rules.proofs.Chars.{well_utf8, utf8_none, utf8_ascii}
 use Rattle.rules.proofs.Scalars.{Scalars, scalars_none, scalars_more, chars_scalars}
 use Rattle.rules.proofs.Encodes.{spelled, spelled_well, encode_1, encode_chars}
@@ -38,7 +39,7 @@ utf8_char c t h = rw (well_utf8 (encode_char c ++ t), well_utf8 t) (spelled_well
 
 escape_high : (a : ℕ) → 128 ≤ a → escape_char a ≡ a ∷ []
 unfolding escape_char
-escape_high a h = rw (ne_eqb a 92 (λ e. omega arith), ne_eqb a 9 (λ e. omega arith), ne_eqb a 10 (λ e. omega arith))
+escape_high a h = rw (ne_eqb a 92 (λ e. omega arith), ne_eqb a 9 (λ e. omega arith), ne_eqb a 10 (λ e. omega arith), ne_eqb a 13 (λ e. omega arith))
 
 escape_highs : {w : List ℕ} (t : List ℕ) → Highs w → escape (w ++ t) ≡ w ++ escape t
 unfolding escape
@@ -50,7 +51,8 @@ unfolding escape_char
 escape_ascii c t h =
     pick_either P (eqb c 92) _ _ (λ _. pair 92 92 (omega arith) (omega arith))
     (λ _. pick_either P (eqb c 9) _ _ (λ _. pair 92 116 (omega arith) (omega arith))
-    (λ _. pick_either P (eqb c 10) _ _ (λ _. pair 92 110 (omega arith) (omega arith)) (λ _. utf8_ascii c t h)))
+    (λ _. pick_either P (eqb c 10) _ _ (λ _. pair 92 110 (omega arith) (omega arith))
+    (λ _. pick_either P (eqb c 13) _ _ (λ _. pair 92 114 (omega arith) (omega arith)) (λ _. utf8_ascii c t h))))
   where
     P : List ℕ → Type 0
     P w = is_utf8 (w ++ t) ≡ is_utf8 t
@@ -75,10 +77,8 @@ utf8_escape u w = rw (encode_chars u w) at (escape_scalars (chars_scalars u))
 abbrev Safe : List ℕ → Type 0
 Safe t = (u : List ℕ) → unescape t ≡ Some u → is_utf8 u ≡ true
 
-pub unescape_plain : (c : ℕ) (s : List ℕ) → (c ≡ 92 → ⊥) → unescape (c ∷ s) ≡ onto (Some c) (unescape s)
-unfolding unescape onto
-unescape_plain c [] n = rw (ne_eqb c 92 n)
-unescape_plain c (d ∷ s) n = rw (ne_eqb c 92 n)
+pub unescape_plain : (c : ℕ) (s : List ℕ) → (c ≡ 92 → ⊥) → unescape (c ∷ s) ≡ onto (bare c) (unescape s)
+unescape_plain c s n = unescape_one c s (ne_eqb c 92 n)
 
 pub unescape_pair : (d : ℕ) (s : List ℕ) → unescape (92 ∷ d ∷ s) ≡ onto (escaped d) (unescape s)
 unfolding unescape
@@ -105,8 +105,8 @@ joined (Some c) (Some s) u q = record { head = c; tail = s; first = refl; then =
 
 kept_byte : (c : ℕ) (t u : List ℕ) → (c ≡ 92 → ⊥) → unescape (c ∷ t) ≡ Some u → Kept (c ∷ []) t u
 kept_byte c t u n q =
-    let j = joined (Some c) (unescape t) u (sym (unescape_plain c t n) ∙ q) in
-    record { rest = j.tail; is = j.is ∙ ap (λ (x : ℕ). x ∷ j.tail) (sym (some_inj j.first)); after = j.then }
+    let j = joined (bare c) (unescape t) u (sym (unescape_plain c t n) ∙ q) in
+    record { rest = j.tail; is = j.is ∙ ap (λ (x : ℕ). x ∷ j.tail) (sym (bare_is c j.head j.first).is); after = j.then }
 
 kept : {w : List ℕ} (t u : List ℕ) → Highs w → unescape (w ++ t) ≡ Some u → Kept w t u
 kept t u highs_none q = record { rest = u; is = refl; after = q }
@@ -137,11 +137,12 @@ safe_step c t h f b u q = by_order c 127 low high
         rw k.is (utf8_char c k.rest h ∙ f k.rest k.after)
 
 -- what an escape stands for is ASCII
-escaped_ascii : (d e : ℕ) → escaped d ≡ Some e → e < 128
+pub escaped_ascii : (d e : ℕ) → escaped d ≡ Some e → e < 128
 unfolding escaped
 escaped_ascii d e =
     pick_either P (eqb d 92) _ _ (λ _. of 92 (omega arith))
-    (λ _. pick_either P (eqb d 116) _ _ (λ _. of 9 (omega arith)) (λ _. pick_either P (eqb d 110) _ _ (λ _. of 10 (omega arith)) (λ _ q. no_some q)))
+    (λ _. pick_either P (eqb d 116) _ _ (λ _. of 9 (omega arith))
+    (λ _. pick_either P (eqb d 110) _ _ (λ _. of 10 (omega arith)) (λ _. pick_either P (eqb d 114) _ _ (λ _. of 13 (omega arith)) (λ _ q. no_some q))))
   where
     P : Option ℕ → Type 0
     P o = o ≡ Some e → e < 128
@@ -151,7 +152,7 @@ escaped_ascii d e =
 
 escaped_high : (d : ℕ) → 128 ≤ d → escaped d ≡ None
 unfolding escaped
-escaped_high d h = rw (ne_eqb d 92 (λ e. omega arith), ne_eqb d 116 (λ e. omega arith), ne_eqb d 110 (λ e. omega arith))
+escaped_high d h = rw (ne_eqb d 92 (λ e. omega arith), ne_eqb d 116 (λ e. omega arith), ne_eqb d 110 (λ e. omega arith), ne_eqb d 114 (λ e. omega arith))
 
 high_pair : {w : List ℕ} (t u : List ℕ) → Highs w → (w ≡ [] → ⊥) → unescape (92 ∷ (w ++ t)) ≡ Some u → is_utf8 u ≡ true
 high_pair t u highs_none n q = absurd (n refl)

@@ -6,8 +6,8 @@ use mathlib.Core.Bool.{true, false}
 use Rattle.std.specs.Prelude.{Option, None, Some}
 use lib.Dec.{eqb}
 use borrow.Author.Tests.{eqb-true}
-use Rattle.rules.specs.Basic.{tab, lf, backslash, on_first, split_at, join_by, each}
-use Rattle.rules.specs.Sheet.{Without, without_none, without_more, Lines, last, more, on_line, lines, fields_of, escaped, onto, unescape, escape_char, escape, line_of}
+use Rattle.rules.specs.Basic.{tab, lf, cr, backslash, on_first, split_at, join_by, each}
+use Rattle.rules.specs.Sheet.{Without, without_none, without_more, Lines, last, more, on_line, lines, fields_of, escaped, bare, onto, unescape, escape_char, escape, line_of}
 use Rattle.rules.proofs.Basics.{pick_either, no_some, some_inj}
 
 pub without_both : {b : ℕ} {s t : List ℕ} → Without b s → Without b t → Without b (s ++ t)
@@ -29,8 +29,26 @@ pub data AllWithout (b : ℕ) : List (List ℕ) → Type 0 where
 
 -- ---- escapes
 
-pub unescape_one : (c : ℕ) (t : List ℕ) → eqb c backslash ≡ false → unescape (c ∷ t) ≡ onto (Some c) (unescape t)
-unfolding unescape onto
+-- a byte that stands for itself is no CR
+pub record Itself (c x : ℕ) : Type 0 where
+  pub is : c ≡ x
+  pub no_cr : eqb c cr ≡ false
+
+pub bare_is : (c x : ℕ) → bare c ≡ Some x → Itself c x
+unfolding bare
+bare_is c x =
+    pick_either (λ (o : Option ℕ). o ≡ Some x → Itself c x) (eqb c cr) _ _ (λ b e. no_some e) (λ n e. record { is = some_inj e; no_cr = n })
+
+pub bare_itself : (c : ℕ) → eqb c cr ≡ false → bare c ≡ Some c
+unfolding bare
+bare_itself c q = rw q
+
+pub bare_cr : (c : ℕ) → eqb c cr ≡ true → bare c ≡ None
+unfolding bare
+bare_cr c q = rw q
+
+pub unescape_one : (c : ℕ) (t : List ℕ) → eqb c backslash ≡ false → unescape (c ∷ t) ≡ onto (bare c) (unescape t)
+unfolding unescape
 unescape_one c [] q = rw q
 unescape_one c (d ∷ t) q = rw q
 
@@ -40,7 +58,8 @@ char_read c t =
     pick_either P (eqb c backslash) _ _ (λ b. ap (λ (x : ℕ). onto (Some x) (unescape t)) (sym (eqb-true c 92 b)))
     (λ n1. pick_either P (eqb c tab) _ _ (λ b. ap (λ (x : ℕ). onto (Some x) (unescape t)) (sym (eqb-true c 9 b)))
     (λ n2. pick_either P (eqb c lf) _ _ (λ b. ap (λ (x : ℕ). onto (Some x) (unescape t)) (sym (eqb-true c 10 b)))
-    (λ n3. unescape_one c t n1)))
+    (λ n3. pick_either P (eqb c cr) _ _ (λ b. ap (λ (x : ℕ). onto (Some x) (unescape t)) (sym (eqb-true c 13 b)))
+    (λ n4. unescape_one c t n1 ∙ rw (bare_itself c n4)))))
   where
     P : List ℕ → Type 0
     P l = unescape (l ++ t) ≡ onto (Some c) (unescape t)
@@ -50,33 +69,46 @@ unfolding escape unescape onto
 unescape_escape [] = refl
 unescape_escape (c ∷ s) = char_read c (escape s) ∙ rw (unescape_escape s)
 
-char_without : (b c : ℕ) → eqb 92 b ≡ false → eqb 116 b ≡ false → eqb 110 b ≡ false → (eqb c tab ≡ false → eqb c lf ≡ false → eqb c b ≡ false) → Without b (escape_char c)
+-- a byte that neither is written by an escape nor stands for itself
+record Spelled (b : ℕ) : Type 0 where
+  slash : eqb 92 b ≡ false
+  letter_t : eqb 116 b ≡ false
+  letter_n : eqb 110 b ≡ false
+  letter_r : eqb 114 b ≡ false
+  other : (c : ℕ) → eqb c tab ≡ false → eqb c lf ≡ false → eqb c cr ≡ false → eqb c b ≡ false
+
+char_without : {b : ℕ} → Spelled b → (c : ℕ) → Without b (escape_char c)
 unfolding escape_char
-char_without b c e1 e2 e3 e4 =
-    pick_either (Without b) (eqb c backslash) _ _ (λ h. without_more e1 (without_more e1 without_none))
-    (λ n1. pick_either (Without b) (eqb c tab) _ _ (λ h. without_more e1 (without_more e2 without_none))
-    (λ n2. pick_either (Without b) (eqb c lf) _ _ (λ h. without_more e1 (without_more e3 without_none))
-    (λ n3. without_more (e4 n2 n3) without_none)))
+char_without {b} e c =
+    pick_either (Without b) (eqb c backslash) _ _ (λ h. without_more e.slash (without_more e.slash without_none))
+    (λ n1. pick_either (Without b) (eqb c tab) _ _ (λ h. without_more e.slash (without_more e.letter_t without_none))
+    (λ n2. pick_either (Without b) (eqb c lf) _ _ (λ h. without_more e.slash (without_more e.letter_n without_none))
+    (λ n3. pick_either (Without b) (eqb c cr) _ _ (λ h. without_more e.slash (without_more e.letter_r without_none))
+    (λ n4. without_more (e.other c n2 n3 n4) without_none))))
+
+escape_without : {b : ℕ} → Spelled b → (s : List ℕ) → Without b (escape s)
+unfolding escape
+escape_without e [] = without_none
+escape_without e (c ∷ s) = without_both (char_without e c) (escape_without e s)
 
 pub escape_no_tab : (s : List ℕ) → Without tab (escape s)
-unfolding escape
-escape_no_tab [] = without_none
-escape_no_tab (c ∷ s) = without_both (char_without tab c refl refl refl (λ p q. p)) (escape_no_tab s)
+escape_no_tab = escape_without (record { slash = refl; letter_t = refl; letter_n = refl; letter_r = refl; other = λ c p q r. p })
 
 pub escape_no_lf : (s : List ℕ) → Without lf (escape s)
-unfolding escape
-escape_no_lf [] = without_none
-escape_no_lf (c ∷ s) = without_both (char_without lf c refl refl refl (λ p q. q)) (escape_no_lf s)
+escape_no_lf = escape_without (record { slash = refl; letter_t = refl; letter_n = refl; letter_r = refl; other = λ c p q r. q })
 
-char_itself : (c : ℕ) → eqb c backslash ≡ false → eqb c tab ≡ false → eqb c lf ≡ false → escape_char c ≡ c ∷ []
+pub escape_no_cr : (s : List ℕ) → Without cr (escape s)
+escape_no_cr = escape_without (record { slash = refl; letter_t = refl; letter_n = refl; letter_r = refl; other = λ c p q r. r })
+
+char_itself : (c : ℕ) → eqb c backslash ≡ false → eqb c tab ≡ false → eqb c lf ≡ false → eqb c cr ≡ false → escape_char c ≡ c ∷ []
 unfolding escape_char
-char_itself c p q r = rw (p, q, r)
+char_itself c p q r s = rw (p, q, r, s)
 
 -- a text with nothing to escape is its own escaped form
-pub escape_plain : {s : List ℕ} → Without backslash s → Without tab s → Without lf s → escape s ≡ s
+pub escape_plain : {s : List ℕ} → Without backslash s → Without tab s → Without lf s → Without cr s → escape s ≡ s
 unfolding escape
-escape_plain without_none without_none without_none = refl
-escape_plain (without_more {c} p f) (without_more q g) (without_more r h) = rw (char_itself c p q r, escape_plain f g h)
+escape_plain without_none without_none without_none without_none = refl
+escape_plain (without_more {c} p f) (without_more q g) (without_more r h) (without_more t k) = rw (char_itself c p q r t, escape_plain f g h k)
 
 -- what an escape says was read, taken apart
 record Read (o : Option ℕ) (p : Option (List ℕ)) (s : List ℕ) : Type 0 where
@@ -98,7 +130,8 @@ letter_back d x =
     pick_either P (eqb d backslash) _ _ (λ b e. back backslash (some_inj e) (ap (λ (y : ℕ). backslash ∷ y ∷ []) (sym (eqb-true d 92 b))))
     (λ n1. pick_either P (eqb d 116) _ _ (λ b e. back tab (some_inj e) (ap (λ (y : ℕ). backslash ∷ y ∷ []) (sym (eqb-true d 116 b))))
     (λ n2. pick_either P (eqb d 110) _ _ (λ b e. back lf (some_inj e) (ap (λ (y : ℕ). backslash ∷ y ∷ []) (sym (eqb-true d 110 b))))
-    (λ n3 e. no_some e)))
+    (λ n3. pick_either P (eqb d 114) _ _ (λ b e. back cr (some_inj e) (ap (λ (y : ℕ). backslash ∷ y ∷ []) (sym (eqb-true d 114 b))))
+    (λ n4 e. no_some e))))
   where
     P : Option ℕ → Type 0
     P o = o ≡ Some x → escape_char x ≡ backslash ∷ d ∷ []
@@ -112,15 +145,43 @@ unfolding unescape escape
 escape_unescape [] {s} t l e = let q : s ≡ [] = sym (some_inj e) in rw q
 escape_unescape (c ∷ []) {s} (without_more q t) (without_more r l) e =
     pick_either (λ (o : Option (List ℕ)). o ≡ Some s → escape s ≡ c ∷ []) (eqb c backslash) _ _ (λ b e. no_some e)
-    (λ n e. let u : s ≡ c ∷ [] = sym (some_inj e) in rw (u, char_itself c n q r)) e
+    (λ n e. let u = read (bare c) (Some []) s e in
+    let h = bare_is c u.head u.first in
+    let k : [] ≡ u.tail = some_inj u.others in
+    rw (u.is, ← h.is, ← k, char_itself c n q r h.no_cr))
+    e
 escape_unescape (c ∷ d ∷ f) {s} (without_more q (without_more q' t)) (without_more r (without_more r' l)) e =
     pick_either (λ (o : Option (List ℕ)). o ≡ Some s → escape s ≡ c ∷ d ∷ f) (eqb c backslash) _ _
     (λ b e. let u = read (escaped d) (unescape f) s e in
     rw (u.is, letter_back d u.head u.first, escape_unescape f t l u.others, eqb-true c 92 b))
-    (λ n e. let u = read (Some c) (unescape (d ∷ f)) s e in
-    let h : u.head ≡ c = sym (some_inj u.first) in
-    rw (u.is, h, char_itself c n q r, escape_unescape (d ∷ f) (without_more q' t) (without_more r' l) u.others))
+    (λ n e. let u = read (bare c) (unescape (d ∷ f)) s e in
+    let h = bare_is c u.head u.first in
+    rw (u.is, ← h.is, char_itself c n q r h.no_cr, escape_unescape (d ∷ f) (without_more q' t) (without_more r' l) u.others))
     e
+
+-- a field that was read has no bare CR
+letter_no_cr : (d x : ℕ) → escaped d ≡ Some x → eqb d cr ≡ false
+unfolding escaped
+letter_no_cr d x =
+    pick_either P (eqb d backslash) _ _ (λ b e. rw (eqb-true d 92 b))
+    (λ n1. pick_either P (eqb d 116) _ _ (λ b e. rw (eqb-true d 116 b))
+    (λ n2. pick_either P (eqb d 110) _ _ (λ b e. rw (eqb-true d 110 b))
+    (λ n3. pick_either P (eqb d 114) _ _ (λ b e. rw (eqb-true d 114 b)) (λ n4 e. no_some e))))
+  where
+    P : Option ℕ → Type 0
+    P o = o ≡ Some x → eqb d cr ≡ false
+
+pub unescape_no_cr : (f : List ℕ) {s : List ℕ} → unescape f ≡ Some s → Without cr f
+unfolding unescape
+unescape_no_cr [] e = without_none
+unescape_no_cr (c ∷ []) {s} e =
+    pick_either (λ (o : Option (List ℕ)). o ≡ Some s → Without cr (c ∷ [])) (eqb c backslash) _ _ (λ b e. no_some e)
+    (λ n e. let u = read (bare c) (Some []) s e in without_more (bare_is c u.head u.first).no_cr without_none) e
+unescape_no_cr (c ∷ d ∷ f) {s} e =
+    pick_either (λ (o : Option (List ℕ)). o ≡ Some s → Without cr (c ∷ d ∷ f)) (eqb c backslash) _ _
+    (λ b e. let u = read (escaped d) (unescape f) s e in
+    without_more (rw (eqb-true c 92 b)) (without_more (letter_no_cr d u.head u.first) (unescape_no_cr f u.others)))
+    (λ n e. let u = read (bare c) (unescape (d ∷ f)) s e in without_more (bare_is c u.head u.first).no_cr (unescape_no_cr (d ∷ f) u.others)) e
 
 -- ---- fields
 
@@ -210,11 +271,18 @@ pub split_escaped : (f : List ℕ) (fs : List (List ℕ)) → fields_of (join_by
 unfolding each
 split_escaped f fs = split_join (all_more (escape_no_tab f) (all_escaped fs))
 
+module _ {b : ℕ} (t : eqb tab b ≡ false) (e : (s : List ℕ) → Without b (escape s)) where
+  join_without : (fs : List (List ℕ)) → Without b (join_by tab (each escape fs))
+  unfolding join_by each
+  join_without [] = without_none
+  join_without (f ∷ []) = e f
+  join_without (f ∷ g ∷ fs) = without_both (e f) (without_more t (join_without (g ∷ fs)))
+
 pub join_no_lf : (fs : List (List ℕ)) → Without lf (join_by tab (each escape fs))
-unfolding join_by each
-join_no_lf [] = without_none
-join_no_lf (f ∷ []) = escape_no_lf f
-join_no_lf (f ∷ g ∷ fs) = without_both (escape_no_lf f) (without_more refl (join_no_lf (g ∷ fs)))
+join_no_lf = join_without refl escape_no_lf
+
+pub join_no_cr : (fs : List (List ℕ)) → Without cr (join_by tab (each escape fs))
+join_no_cr = join_without refl escape_no_cr
 
 -- ---- lines
 

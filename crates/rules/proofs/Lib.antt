@@ -41,3 +41,4 @@ pub mod Warnings
 pub mod PlainForm
 pub mod Lending
 pub mod LinkedRecipe
+pub mod Returns

@@ -8,7 +8,7 @@ use native.Mathlib.Omega.{arith}
 use native.Mathlib.Nat.{pow-suc}
 use lib.Dec.{eqb, leb, ltb}
 use borrow.Author.Tests.{ltb-true, ltb-false, leb-true, eqb-true, eqb-false, lt-ltb, le-ltb, le-leb, ne_eqb}
-use Rattle.rules.specs.Basic.{pick, tab, lf, backslash, minus, is_digit, digits, decimal}
+use Rattle.rules.specs.Basic.{pick, tab, lf, cr, backslash, minus, is_digit, digits, decimal}
 use Rattle.rules.specs.Sheet.{digits_from, at_most, only_zero, number_up_to, escape, Without, without_none, without_more}
 use Rattle.rules.proofs.Basics.{pick_either, no_some, some_inj, within_from, within_to}
 use Rattle.rules.proofs.Fields.{without_both, escape_plain}
@@ -164,3 +164,4 @@ escape_decimal n =
     (digits_without backslash 10 n (λ d h. ne_eqb (48 + d) 92 (λ q. omega arith)))
     (digits_without tab 10 n (λ d h. ne_eqb (48 + d) 9 (λ q. omega arith)))
     (digits_without lf 10 n (λ d h. ne_eqb (48 + d) 10 (λ q. omega arith)))
+    (digits_without cr 10 n (λ d h. ne_eqb (48 + d) 13 (λ q. omega arith)))

@@ -20,6 +20,9 @@ tab = 9
 abbrev pub lf : ℕ
 lf = 10
 
+abbrev pub cr : ℕ
+cr = 13
+
 abbrev pub blank : ℕ
 blank = 32
 

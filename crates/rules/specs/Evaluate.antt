@@ -8,7 +8,7 @@ use Rattle.rules.specs.Folding.{folding}
 use Rattle.rules.specs.Unicode.{is_alphabetic, is_numeric, is_alphanumeric, is_white_space, fold, fold_name, same_name}
 use Rattle.rules.specs.Utf8.{size_of, lowest, highest, second, later, sized, first_of, fault_or, fault_from, first_fault, is_utf8, is_inside, char_or, followers, chars_from, chars, encode_char, encode}
 use Rattle.rules.specs.Text.{trim_start, trim_onto, trim_end, trim_matches, text_outer_trimmed, retain, text_trimmed, is_not_alphabetic, unit_trimmed}
-use Rattle.rules.specs.Sheet.{on_line, lines, fields_of, escaped, onto, unescape, escape_char, escape, line_of, refused_line, digits_from, at_most, only_zero, number_up_to, number_of, signed_as, signed_of}
+use Rattle.rules.specs.Sheet.{on_line, lines, fields_of, escaped, bare, onto, unescape, escape_char, escape, line_of, refused_line, digits_from, at_most, only_zero, number_up_to, number_of, signed_as, signed_of}
 use Rattle.rules.specs.Event.{component_span, text_spans, quantity_spans, intermediate_spans, named_spans, component_spans, spans_of}
 use Rattle.rules.specs.Read.{go_on, ◌>>=◌, give, saying, got_one, opt, field, no_more, read_number, read_span, content_of, read_content, read_text, word, read_quantity, leads, past, no_modifiers, modifier_letters, modifiers_of, read_modifiers, read_component, read_signed, read_intermediate, read_meta, read_section, read_start, read_end, read_text_line, read_ingredient, read_cookware, read_timer, read_finding, read_after, read_event, first_read, parse_line}
 use Rattle.rules.specs.Write.{opt_fields, span_fields, text_fields, kind_field, quantity_fields, or_point, modifiers_field, named_fields, signed_field, target_field, intermediate_fields, block_kind_field, component_fields, event_fields, write_line}
@@ -29,5 +29,5 @@ use Rattle.rules.specs.Answer.{with_event, is_good_span, read_line, read_from, r
 use Rattle.rules.specs.Demand.{is_accepted, yields_recipe, is_within_limits, is_component_inside, is_component_line, mode_key, is_mode_line, is_heeded, value_of, defines_by, duplicates_by, or_else, define_at, duplicate_at, entry_of_component, entry_of_line, folded_name, last_fitting, last_named, implicit_target, is_marked, same_kind, entry_in, unmarked_by, unmarked, implicit_by, implicit_at, last_by, last_of_name}
 
 unfoldable pub evaluate : Unit {0}
-unfolding eq_list is_empty concat when is_some any all on_some each word_in on_first split_at join_by digits decimal member ascending lookup keys_ascend alphabetic numeric white_space folding is_alphabetic is_numeric is_alphanumeric is_white_space fold fold_name same_name size_of lowest highest second later sized first_of fault_or fault_from first_fault is_utf8 is_inside char_or followers chars_from chars encode_char encode trim_start trim_onto trim_end trim_matches text_outer_trimmed retain text_trimmed is_not_alphabetic unit_trimmed on_line lines fields_of escaped onto unescape escape_char escape line_of refused_line digits_from at_most only_zero number_up_to number_of signed_as signed_of component_span text_spans quantity_spans intermediate_spans named_spans component_spans spans_of go_on ◌>>=◌ give saying got_one opt field no_more read_number read_span content_of read_content read_text word read_quantity leads past no_modifiers modifier_letters modifiers_of read_modifiers read_component read_signed read_intermediate read_meta read_section read_start read_end read_text_line read_ingredient read_cookware read_timer read_finding read_after read_event first_read parse_line opt_fields span_fields text_fields kind_field quantity_fields or_point modifiers_field named_fields signed_field target_field intermediate_fields block_kind_field component_fields event_fields write_line physical_number same_physical named_unit unit_of_fields unit_of with_unit units_of at_most1024 read_units units_or find_unit name_twice blank_onto letter_onto words_of front behind is_no_digit is_digit_or_point points is_number sign without_sign text_if_any try_unit number_word digit_word turn rest pieces_from inline_pieces first_modes is_components is_steps is_text is_reference has_modes has_inline has_advanced_units key_text value_text ends_with_bracket is_bracketed key_as key_of is_error only_parsed is_ingredient both either any_beyond with_ref inherits is_textual trimmed_text amount_of starts_with is_path as_slash last_part all_but_last reference_parts parse_reference target_of is_own name_of path_of reference_in source_of entry_with entry_of set_relation set_modifiers eq_bool fits same_name_in same_name_of entry_at is_explicit treat_as_reference refers_to redundant_new redundant_ref conflict_or_missing reference_findings as_referring referred_by set_referenced_from is_definition referrers is_own_reference own_references unit_place quantity_place unit_finding known_units compatible_unit unit_pair unit_against units_against unit_check widened note_place note_check is_defined_in_step quantity_span text_check quantity_check reference_checks step_indices section_indices candidates nth resolve_intermediate_ref intermediate_modifiers intermediate_findings intermediate_target intermediate_relation first_state set_modes set_metadata set_place set_block set_kept set_tables table_of set_table set_timers set_inline report over_limits has_key with_value insert_meta store_meta bad_value on_define on_duplicate on_key on_metadata old_metadata lock_findings new_entry made_intermediate found_same checks_after made_with made_by_name make_ingredient make_cookware time_unit timer_unit timer_checks timer_findings timer_of intermediate_fault referred pushed refers_to_reference is_open is_empty_section close_section on_section opened keep_block close_text close_step push_items items_of quantities_of push_pieces item_of push_component unless_chained unless_fault pieces text_in_step push_timer on_made on_component in_step_block in_text_block source_text component_in_text in_text_mode parser_findings is_error_event settle on_inside on_between on_event step walk ended unless_over finish parse_events lines_onto table_lines optional amount_fields or_minus target_word relation_fields meta_line item_fields item_line block_lines section_lines ingredient_line cookware_line timer_line inline_line span_word severity_word finding_line recipe_part recipe_page failed_page traced mark_ref implicit_of marked_if is_last implicit_fault unless_listed implicit_ingredient implicit_cookware marked_component in_plain_step mark_fault component_fault plain_fault is_mode_key plain_between in_plain_text plain_inside plain_event plain_events trace_from sheet_of with_event is_good_span read_line read_from read_sheet fault_of events_or first_some number_if units_refused before_flags in_no_line from_flags before_pass refused_or collection_with collection words_needed bytes_needed is_short hand_out written collect_answer error_line gives17 form_answer fault_or_of_answer unless_faulty form_of plain_of plain_answer out_after work_after printed flags_of is_accepted yields_recipe is_within_limits is_component_inside is_component_line mode_key is_mode_line is_heeded value_of defines_by duplicates_by or_else define_at duplicate_at entry_of_component entry_of_line folded_name last_fitting last_named implicit_target is_marked same_kind entry_in unmarked_by unmarked implicit_by implicit_at last_by last_of_name
+unfolding eq_list is_empty concat when is_some any all on_some each word_in on_first split_at join_by digits decimal member ascending lookup keys_ascend alphabetic numeric white_space folding is_alphabetic is_numeric is_alphanumeric is_white_space fold fold_name same_name size_of lowest highest second later sized first_of fault_or fault_from first_fault is_utf8 is_inside char_or followers chars_from chars encode_char encode trim_start trim_onto trim_end trim_matches text_outer_trimmed retain text_trimmed is_not_alphabetic unit_trimmed on_line lines fields_of escaped bare onto unescape escape_char escape line_of refused_line digits_from at_most only_zero number_up_to number_of signed_as signed_of component_span text_spans quantity_spans intermediate_spans named_spans component_spans spans_of go_on ◌>>=◌ give saying got_one opt field no_more read_number read_span content_of read_content read_text word read_quantity leads past no_modifiers modifier_letters modifiers_of read_modifiers read_component read_signed read_intermediate read_meta read_section read_start read_end read_text_line read_ingredient read_cookware read_timer read_finding read_after read_event first_read parse_line opt_fields span_fields text_fields kind_field quantity_fields or_point modifiers_field named_fields signed_field target_field intermediate_fields block_kind_field component_fields event_fields write_line physical_number same_physical named_unit unit_of_fields unit_of with_unit units_of at_most1024 read_units units_or find_unit name_twice blank_onto letter_onto words_of front behind is_no_digit is_digit_or_point points is_number sign without_sign text_if_any try_unit number_word digit_word turn rest pieces_from inline_pieces first_modes is_components is_steps is_text is_reference has_modes has_inline has_advanced_units key_text value_text ends_with_bracket is_bracketed key_as key_of is_error only_parsed is_ingredient both either any_beyond with_ref inherits is_textual trimmed_text amount_of starts_with is_path as_slash last_part all_but_last reference_parts parse_reference target_of is_own name_of path_of reference_in source_of entry_with entry_of set_relation set_modifiers eq_bool fits same_name_in same_name_of entry_at is_explicit treat_as_reference refers_to redundant_new redundant_ref conflict_or_missing reference_findings as_referring referred_by set_referenced_from is_definition referrers is_own_reference own_references unit_place quantity_place unit_finding known_units compatible_unit unit_pair unit_against units_against unit_check widened note_place note_check is_defined_in_step quantity_span text_check quantity_check reference_checks step_indices section_indices candidates nth resolve_intermediate_ref intermediate_modifiers intermediate_findings intermediate_target intermediate_relation first_state set_modes set_metadata set_place set_block set_kept set_tables table_of set_table set_timers set_inline report over_limits has_key with_value insert_meta store_meta bad_value on_define on_duplicate on_key on_metadata old_metadata lock_findings new_entry made_intermediate found_same checks_after made_with made_by_name make_ingredient make_cookware time_unit timer_unit timer_checks timer_findings timer_of intermediate_fault referred pushed refers_to_reference is_open is_empty_section close_section on_section opened keep_block close_text close_step push_items items_of quantities_of push_pieces item_of push_component unless_chained unless_fault pieces text_in_step push_timer on_made on_component in_step_block in_text_block source_text component_in_text in_text_mode parser_findings is_error_event settle on_inside on_between on_event step walk ended unless_over finish parse_events lines_onto table_lines optional amount_fields or_minus target_word relation_fields meta_line item_fields item_line block_lines section_lines ingredient_line cookware_line timer_line inline_line span_word severity_word finding_line recipe_part recipe_page failed_page traced mark_ref implicit_of marked_if is_last implicit_fault unless_listed implicit_ingredient implicit_cookware marked_component in_plain_step mark_fault component_fault plain_fault is_mode_key plain_between in_plain_text plain_inside plain_event plain_events trace_from sheet_of with_event is_good_span read_line read_from read_sheet fault_of events_or first_some number_if units_refused before_flags in_no_line from_flags before_pass refused_or collection_with collection words_needed bytes_needed is_short hand_out written collect_answer error_line gives17 form_answer fault_or_of_answer unless_faulty form_of plain_of plain_answer out_after work_after printed flags_of is_accepted yields_recipe is_within_limits is_component_inside is_component_line mode_key is_mode_line is_heeded value_of defines_by duplicates_by or_else define_at duplicate_at entry_of_component entry_of_line folded_name last_fitting last_named implicit_target is_marked same_kind entry_in unmarked_by unmarked implicit_by implicit_at last_by last_of_name
 evaluate = tt

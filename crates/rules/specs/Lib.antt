@@ -30,4 +30,5 @@ pub mod Answer
 pub mod Demand
 pub mod PlainForm
 pub mod NineCases
+pub mod Returns
 pub mod Evaluate

@@ -1,6 +1,6 @@
 -- Lines, fields, escapes, numbers, over bytes (document 01, "The event sheet").
 use Rattle.std.specs.Prelude.{ℕ, ◌+◌, ◌-◌, ◌*◌, ◌≡◌, List, [], ◌∷◌, ◌++◌, Bool, true, false, eqb, leb, Option, None, Some}
-use Rattle.rules.specs.Basic.{pick, codes, tab, lf, backslash, minus, is_digit, each, split_at, join_by, decimal}
+use Rattle.rules.specs.Basic.{pick, codes, tab, lf, cr, backslash, minus, is_digit, each, split_at, join_by, decimal}
 
 -- "UTF-8 lines, each ended by LF": the lines of some bytes, and what stands after the last LF
 pub data Lines : Type 0 where
@@ -24,9 +24,15 @@ pub data Without (b : ℕ) : List ℕ → Type 0 where
 unfoldable pub fields_of : List ℕ → List (List ℕ)
 fields_of line = split_at tab line
 
--- "Inside a field `\\`, `\t`, `\n` stand for backslash, tab, LF." No other use of a backslash is well formed.
+-- "Inside a field `\\`, `\t`, `\n` stand for backslash, tab, LF"; Wish 3: "a field now spells one as `\r`". No other use of a
+-- backslash is well formed.
 unfoldable pub escaped : ℕ → Option ℕ
-escaped c = pick (eqb c backslash) (Some backslash) (pick (eqb c 116) (Some tab) (pick (eqb c 110) (Some lf) None))
+escaped c =
+    pick (eqb c backslash) (Some backslash) (pick (eqb c 116) (Some tab) (pick (eqb c 110) (Some lf) (pick (eqb c 114) (Some cr) None)))
+
+-- any other byte stands for itself, but for CR: "a bare one counts as ill-formed"
+unfoldable pub bare : ℕ → Option ℕ
+bare c = pick (eqb c cr) None (Some c)
 
 unfoldable pub onto : Option ℕ → Option (List ℕ) → Option (List ℕ)
 onto None s = None
@@ -35,13 +41,13 @@ onto (Some c) (Some s) = Some (c ∷ s)
 
 unfoldable pub unescape : List ℕ → Option (List ℕ)
 unescape [] = Some []
-unescape (c ∷ []) = pick (eqb c backslash) None (Some (c ∷ []))
-unescape (c ∷ d ∷ s) = pick (eqb c backslash) (onto (escaped d) (unescape s)) (onto (Some c) (unescape (d ∷ s)))
+unescape (c ∷ []) = pick (eqb c backslash) None (onto (bare c) (Some []))
+unescape (c ∷ d ∷ s) = pick (eqb c backslash) (onto (escaped d) (unescape s)) (onto (bare c) (unescape (d ∷ s)))
 
 unfoldable pub escape_char : ℕ → List ℕ
 escape_char c =
     pick (eqb c backslash) (backslash ∷ backslash ∷ [])
-    (pick (eqb c tab) (backslash ∷ 116 ∷ []) (pick (eqb c lf) (backslash ∷ 110 ∷ []) (c ∷ [])))
+    (pick (eqb c tab) (backslash ∷ 116 ∷ []) (pick (eqb c lf) (backslash ∷ 110 ∷ []) (pick (eqb c cr) (backslash ∷ 114 ∷ []) (c ∷ []))))
 
 unfoldable pub escape : List ℕ → List ℕ
 escape [] = []
