@@ -110,7 +110,7 @@ word_retain p (c ∷ cs) [] t n = rw (retain_keeps p c cs n) (unfold eq_list in 
 word_retain p (c ∷ cs) (b ∷ w) t n = rw (retain_keeps p c cs n) (go (eqb c b) refl (λ m. word_retain c cs w (and_right (is_plain b) _ t) m))
   where
     go : (x : Bool) → eqb c b ≡ x → ((c ≡ 32 → ⊥) → eq_list (retain c cs) w ≡ eq_list cs w) → eq_list (c ∷ retain c cs) (b ∷ w) ≡ eq_list (c ∷ cs) (b ∷ w)
-    go true e ih = let q = eqb-true c b e in unfold eq_list in (ap (λ (y : Bool). pick (eqb c b) y false) (ih (λ u. (plain b (and_left _ _ t)).no32 (sym q ∙ u))))
+    go true e ih = let q = eqb-true c b e in unfold eq_list in (ap (λ (y : Bool). pick (eqb c b) y false) (ih (λ u. let k = plain b (and_left _ _ t) in omega (arith, k.high))))
     go false e ih = unfold eq_list in (rw e)
 
 module _ {A : Type 0} where

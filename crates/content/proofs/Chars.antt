@@ -12,6 +12,7 @@ use borrow.Author.Tests.{ne_eqb}
 use Rattle.rules.specs.Sheet.{escaped}
 use Rattle.rules.specs.Utf8.{size_of, first_of, char_or, followers, chars_from, chars, Scalar}
 use Rattle.rules.proofs.Basics.{pick_either, no_some}
+use Rattle.rules.proofs.Escaped.{escaped_ascii}
 use Rattle.rules.proofs.Begins.{begins, first_some, one, size_1}
 use Rattle.rules.proofs.Chars.{skip_chars, fits, chars_ascii}
 use Rattle.rules.proofs.Scalars.{char_scalar, low_scalar}
@@ -46,18 +47,6 @@ content_alone d s e = rw (plain_pair d s, e) (chars_ascii 92 (plain_of (d ∷ s)
 content_last : content_in (92 ∷ []) ≡ 92 ∷ content_in []
 unfolding content_in plain_of
 content_last = chars_ascii 92 [] (omega arith)
-
-pub escaped_ascii : (d e : ℕ) → escaped d ≡ Some e → e < 128
-unfolding escaped
-escaped_ascii d e =
-    pick_either P (eqb d 92) _ _ (λ _. of 92 (omega arith))
-    (λ _. pick_either P (eqb d 116) _ _ (λ _. of 9 (omega arith)) (λ _. pick_either P (eqb d 110) _ _ (λ _. of 10 (omega arith)) (λ _ q. no_some q)))
-  where
-    P : Option ℕ → Type 0
-    P o = o ≡ Some e → e < 128
-
-    of : (x : ℕ) → x < 128 → Some x ≡ Some e → e < 128
-    of x h q = let k : x ≡ e = cc in omega arith
 
 -- ---- ch is the character that t starts with
 

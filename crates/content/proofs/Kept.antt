@@ -52,27 +52,34 @@ unfolding char_of char_or followers
 ascii_code a s h = let k : a ≤ 127 = omega arith in rw (first_some (one {s = s} k), size_1 a k)
 
 -- what an escape stands for
-pair_codes : (d b : ℕ) → (b ≡ 92 → ⊥) → (b ≡ 9 → ⊥) → (b ≡ 10 → ⊥) → (pair_in (escaped d)).code ≡ b → ⊥
+pub record Unescaped (b : ℕ) : Type 0 where
+  pub no92 : b ≡ 92 → ⊥
+  pub no9 : b ≡ 9 → ⊥
+  pub no10 : b ≡ 10 → ⊥
+  pub no13 : b ≡ 13 → ⊥
+
+pair_codes : (d b : ℕ) → Unescaped b → (pair_in (escaped d)).code ≡ b → ⊥
 unfolding escaped pair_in
-pair_codes d b n1 n2 n3 =
-    pick_either P (eqb d 92) _ _ (λ _ e. n1 (sym e))
-    (λ _. pick_either P (eqb d 116) _ _ (λ _ e. n2 (sym e)) (λ _. pick_either P (eqb d 110) _ _ (λ _ e. n3 (sym e)) (λ _ e. n1 (sym e))))
+pair_codes d b n =
+    pick_either P (eqb d 92) _ _ (λ _ e. n.no92 (sym e))
+    (λ _. pick_either P (eqb d 116) _ _ (λ _ e. n.no9 (sym e))
+    (λ _. pick_either P (eqb d 110) _ _ (λ _ e. n.no10 (sym e)) (λ _. pick_either P (eqb d 114) _ _ (λ _ e. n.no13 (sym e)) (λ _ e. n.no92 (sym e)))))
   where
     P : Option ℕ → Type 0
     P o = (pair_in o).code ≡ b → ⊥
 
-escape_codes : (s : List ℕ) (b : ℕ) → (b ≡ 92 → ⊥) → (b ≡ 9 → ⊥) → (b ≡ 10 → ⊥) → (char_in (92 ∷ s)).code ≡ b → ⊥
-escape_codes [] b n1 n2 n3 e = let k : (char_with 92 1).code ≡ b = rw char_last at e in n1 (sym k)
-escape_codes (d ∷ s) b n1 n2 n3 e = unfold char_in in pair_codes d b n1 n2 n3 e
+escape_codes : (s : List ℕ) (b : ℕ) → Unescaped b → (char_in (92 ∷ s)).code ≡ b → ⊥
+escape_codes [] b n e = let k : (char_with 92 1).code ≡ b = rw char_last at e in n.no92 (sym k)
+escape_codes (d ∷ s) b n e = unfold char_in in pair_codes d b n e
 
 wide_code : (a : ℕ) (s : List ℕ) (b : ℕ) → 128 ≤ a → b < 128 → (char_of (a ∷ s)).code ≡ b → ⊥
 unfolding char_of
 wide_code a s b l h e = omega (arith, char_beyond a s l)
 
 -- an ASCII character that is not escaped is its byte
-pub code_byte : (a : ℕ) (s : List ℕ) (b : ℕ) → b < 128 → (b ≡ 92 → ⊥) → (b ≡ 9 → ⊥) → (b ≡ 10 → ⊥) → (char_in (a ∷ s)).code ≡ b → a ≡ b
-code_byte a s b h n1 n2 n3 e =
-    by_backslash a (λ q. absurd (escape_codes s b n1 n2 n3 (rw q at e)))
+pub code_byte : (a : ℕ) (s : List ℕ) (b : ℕ) → b < 128 → Unescaped b → (char_in (a ∷ s)).code ≡ b → a ≡ b
+code_byte a s b h u e =
+    by_backslash a (λ q. absurd (escape_codes s b u (rw q at e)))
     (λ n. let k : (char_of (a ∷ s)).code ≡ b = rw (char_plain a s n) at e in
     by_order a 127 (λ l. let m : (char_with a 1).code ≡ b = rw (ascii_code a s (omega arith)) at k in m)
     (λ l. absurd (wide_code a s b l h k)))
@@ -81,7 +88,7 @@ pub byte_code : (a : ℕ) (s : List ℕ) → a < 128 → (a ≡ 92 → ⊥) → 
 byte_code a s h n = char_plain a s n ∙ ascii_code a s h
 
 pub blank_byte : (a : ℕ) (s : List ℕ) → (char_in (a ∷ s)).code ≡ 32 → a ≡ 32
-blank_byte a s e = code_byte a s 32 (omega arith) (λ q. omega arith) (λ q. omega arith) (λ q. omega arith) e
+blank_byte a s e = code_byte a s 32 (omega arith) (record { no92 = λ q. omega arith; no9 = λ q. omega arith; no10 = λ q. omega arith; no13 = λ q. omega arith }) e
 
 pub byte_blank : (s : List ℕ) → char_in (32 ∷ s) ≡ char_with 32 1
 byte_blank s = byte_code 32 s (omega arith) (λ e. omega arith)

@@ -5,7 +5,7 @@ use mathlib.Core.List.{List, [], ◌∷◌, ◌++◌}
 use mathlib.Core.Bool.{Bool, true, false, ◌&&◌}
 use Rattle.std.specs.Prelude.{Option, None, Some}
 use Rattle.rules.specs.Basic.{is_some}
-use Rattle.rules.specs.Sheet.{escaped, onto, unescape, Without, without_more}
+use Rattle.rules.specs.Sheet.{escaped, bare, onto, unescape, Without, without_more}
 use Rattle.rules.specs.Utf8.{is_utf8}
 use Rattle.rules.proofs.Basics.{and_left, and_right}
 use Rattle.rules.proofs.Chars.{chars_split, utf8_split}
@@ -19,6 +19,7 @@ pub record Mark (b : ℕ) : Type 0 where
   pub low : b < 128
   pub plain : b ≡ 92 → ⊥
   pub letter : escaped b ≡ None
+  pub itself : bare b ≡ Some b
 
 module _ (b : ℕ) (m : Mark b) (q : List ℕ) where
   pair_split : (x y s : List ℕ) (o : Option ℕ) → pair_or o (x ++ s) (y ++ s) ≡ pair_or o x y ++ s
@@ -47,8 +48,12 @@ module _ (b : ℕ) (m : Mark b) (q : List ℕ) where
   some_onto (Some c) None = refl
   some_onto (Some c) (Some s) = refl
 
-  some_plain : (c : ℕ) (s : List ℕ) → (c ≡ 92 → ⊥) → is_some (unescape (c ∷ s)) ≡ is_some (unescape s)
-  some_plain c s n = ap is_some (unescape_plain c s n) ∙ some_onto (Some c) (unescape s) ∙ (unfold is_some in refl)
+  some_plain : (c : ℕ) (s : List ℕ) → (c ≡ 92 → ⊥) → is_some (unescape (c ∷ s)) ≡ (is_some (bare c) && is_some (unescape s))
+  some_plain c s n = ap is_some (unescape_plain c s n) ∙ some_onto (bare c) (unescape s)
+
+  -- the mark itself is well-formed
+  some_mark : is_some (unescape (b ∷ q)) ≡ is_some (unescape q)
+  some_mark = some_plain b q m.plain ∙ (unfold is_some in (rw m.itself))
 
   some_pair : (d : ℕ) (s : List ℕ) → is_some (unescape (92 ∷ d ∷ s)) ≡ (is_some (escaped d) && is_some (unescape s))
   some_pair d s = unfold unescape in some_onto (escaped d) (unescape s)
@@ -58,14 +63,16 @@ module _ (b : ℕ) (m : Mark b) (q : List ℕ) where
   and_assoc false y z = refl
 
   well_split : (p : List ℕ) → is_some (unescape (p ++ (b ∷ q))) ≡ (is_some (unescape p) && is_some (unescape q))
-  well_split [] = some_plain b q m.plain ∙ (unfold unescape is_some in refl)
+  well_split [] = some_mark ∙ (unfold unescape is_some in refl)
   well_split (c ∷ []) =
       by_backslash c (λ e. rw e (some_pair b q ∙ (unfold unescape is_some in (rw m.letter))))
-      (λ n. some_plain c (b ∷ q) n ∙ some_plain b q m.plain ∙ rw (some_plain c [] n) (unfold unescape is_some in refl))
+      (λ n. some_plain c (b ∷ q) n
+      ∙ rw (some_mark, some_plain c [] n, ← and_assoc (is_some (bare c)) (is_some (unescape [])) (is_some (unescape q))) (unfold unescape is_some in refl))
   well_split (c ∷ d ∷ p) =
       by_backslash c
       (λ e. rw (e, some_pair d (p ++ (b ∷ q)), some_pair d p, well_split p) (and_assoc (is_some (escaped d)) (is_some (unescape p)) (is_some (unescape q))))
-      (λ n. some_plain c (d ∷ (p ++ (b ∷ q))) n ∙ well_split (d ∷ p) ∙ rw (some_plain c (d ∷ p) n))
+      (λ n. some_plain c (d ∷ (p ++ (b ∷ q))) n
+      ∙ rw (well_split (d ∷ p), some_plain c (d ∷ p) n) (and_assoc (is_some (bare c)) (is_some (unescape (d ∷ p))) (is_some (unescape q))))
 
   mark_rest : {x : ℕ} → Without x (b ∷ q) → Without x q
   mark_rest (without_more e h) = h

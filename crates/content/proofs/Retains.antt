@@ -35,7 +35,8 @@ low_without c n =
     (pick_either (Without 32) (eqb c 92) _ _ (λ _. without_more refl (without_more refl without_none))
     (λ _. pick_either (Without 32) (eqb c 9) _ _ (λ _. without_more refl (without_more refl without_none))
     (λ _. pick_either (Without 32) (eqb c 10) _ _ (λ _. without_more refl (without_more refl without_none))
-    (λ _. without_more (ne_eqb c 32 n) without_none))))
+    (λ _. pick_either (Without 32) (eqb c 13) _ _ (λ _. without_more refl (without_more refl without_none))
+    (λ _. without_more (ne_eqb c 32 n) without_none)))))
 
 char_without : (c : ℕ) → (c ≡ 32 → ⊥) → Without 32 (escape (encode_char c))
 char_without c n =

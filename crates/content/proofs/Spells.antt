@@ -12,7 +12,7 @@ use borrow.Author.Tests.{ne_eqb, eqb-true, eqb-false}
 use Rattle.rules.specs.Basic.{pick, tab, lf, is_some}
 use Rattle.rules.specs.Sheet.{escaped, unescape, escape_char, escape, Without}
 use Rattle.rules.specs.Utf8.{char_or, followers, is_utf8, encode_char, encode, Scalar}
-use Rattle.rules.proofs.Basics.{by_order, no_truth}
+use Rattle.rules.proofs.Basics.{pick_either, by_order, no_truth}
 use Rattle.rules.proofs.Begins.{one, begins_more, first_some, size_1}
 use Rattle.rules.proofs.Fields.{escape_unescape, unescape_escape, escape_no_tab, escape_no_lf}
 use Rattle.rules.proofs.Scalars.{Scalars, scalars_none, scalars_more, chars_scalars}
@@ -96,7 +96,13 @@ pub record Written (c : ℕ) (w : List ℕ) : Type 0 where
 
 low_char : (c : ℕ) → c < 128 → Written c (escape (c ∷ []))
 unfolding escape escape_char
-low_char c h = go (eqb c 92) refl (eqb c 9) refl (eqb c 10) refl
+low_char c h =
+    rw append-nil
+    (pick_either (Written c) (eqb c 92) _ _ (λ b. rw (eqb-true c 92 b) (record { is = λ t. unfold char_in pair_in escaped in refl; least = omega arith }))
+    (λ n. pick_either (Written c) (eqb c 9) _ _ (λ b. rw (eqb-true c 9 b) (record { is = λ t. unfold char_in pair_in escaped in refl; least = omega arith }))
+    (λ _. pick_either (Written c) (eqb c 10) _ _ (λ b. rw (eqb-true c 10 b) (record { is = λ t. unfold char_in pair_in escaped in refl; least = omega arith }))
+    (λ _. pick_either (Written c) (eqb c 13) _ _ (λ b. rw (eqb-true c 13 b) (record { is = λ t. unfold char_in pair_in escaped in refl; least = omega arith }))
+    (λ _. itself (eqb-false c 92 n))))))
   where
     itself : (c ≡ 92 → ⊥) → Written c (c ∷ [])
     itself n =
@@ -106,18 +112,11 @@ low_char c h = go (eqb c 92) refl (eqb c 9) refl (eqb c 10) refl
           least = omega arith;
         }
 
-    go : (x : Bool) → eqb c 92 ≡ x → (y : Bool) → eqb c 9 ≡ y → (z : Bool) → eqb c 10 ≡ z
-        → Written c (pick x (92 ∷ 92 ∷ []) (pick y (92 ∷ 116 ∷ []) (pick z (92 ∷ 110 ∷ []) (c ∷ []))) ++ [])
-    go true e y p z q = rw (eqb-true c 92 e) (record { is = λ t. unfold char_in pair_in escaped in refl; least = omega arith })
-    go false e true p z q = rw (eqb-true c 9 p) (record { is = λ t. unfold char_in pair_in escaped in refl; least = omega arith })
-    go false e false p true q = rw (eqb-true c 10 q) (record { is = λ t. unfold char_in pair_in escaped in refl; least = omega arith })
-    go false e false p false q = itself (eqb-false c 92 e)
-
 pub escape_highs : {w : List ℕ} → Highs w → escape w ≡ w
 unfolding escape escape_char
 escape_highs highs_none = refl
 escape_highs (highs_more {a} {s} h g) =
-    rw (ne_eqb a 92 (λ e. omega arith), ne_eqb a 9 (λ e. omega arith), ne_eqb a 10 (λ e. omega arith), escape_highs g)
+    rw (ne_eqb a 92 (λ e. omega arith), ne_eqb a 9 (λ e. omega arith), ne_eqb a 10 (λ e. omega arith), ne_eqb a 13 (λ e. omega arith), escape_highs g)
 
 high_char : {c : ℕ} {w : List ℕ} → Highs w → Spelled c w → Written c w
 high_char {c} {w} h g = go h g.is

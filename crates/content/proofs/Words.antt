@@ -16,22 +16,25 @@ use Rattle.rules.proofs.Ascii.{word_in_chars, ascii_keys, ascii_defines, ascii_d
 use Rattle.content.specs.Contents.{content_in, kept_in}
 use Rattle.content.specs.Readings.{char_in}
 use Rattle.content.proofs.Chars.{ContentFirst, content_first, no_content}
-use Rattle.content.proofs.Kept.{retain_front, retain_keeps, code_byte, byte_code}
+use Rattle.content.proofs.Kept.{Unescaped, retain_front, retain_keeps, code_byte, byte_code}
 
--- ASCII that is never escaped, and no blank
+-- ASCII past the blank, and no backslash: it is never escaped
 unfoldable pub is_plain : ℕ → Bool
-is_plain b = ltb b 128 && not (eqb b 92) && not (eqb b 9) && not (eqb b 10) && not (eqb b 32)
+is_plain b = ltb 32 b && ltb b 128 && not (eqb b 92)
 
 unfoldable pub plain_word : List ℕ → Bool
 plain_word [] = true
 plain_word (b ∷ w) = is_plain b && plain_word w
 
 pub record Plain (b : ℕ) : Type 0 where
+  pub high : 32 < b
   pub low : b < 128
   pub no92 : b ≡ 92 → ⊥
-  pub no9 : b ≡ 9 → ⊥
-  pub no10 : b ≡ 10 → ⊥
-  pub no32 : b ≡ 32 → ⊥
+
+pub never_escaped : {b : ℕ} → Plain b → Unescaped b
+never_escaped p =
+    let h = p.high in
+    record { no92 = p.no92; no9 = λ e. omega arith; no10 = λ e. omega arith; no13 = λ e. omega arith }
 
 not_eq : (b x : ℕ) → not (eqb b x) ≡ true → b ≡ x → ⊥
 not_eq b x t e = go (eqb b x) refl t
@@ -43,15 +46,11 @@ not_eq b x t e = go (eqb b x) refl t
 pub plain : (b : ℕ) → is_plain b ≡ true → Plain b
 unfolding is_plain
 plain b t =
-    let t4 = and_left (ltb b 128 && not (eqb b 92) && not (eqb b 9) && not (eqb b 10)) _ t in
-    let t3 = and_left (ltb b 128 && not (eqb b 92) && not (eqb b 9)) _ t4 in
-    let t2 = and_left (ltb b 128 && not (eqb b 92)) _ t3 in
+    let t2 = and_left (ltb 32 b && ltb b 128) _ t in
     record {
-      low = ltb-true b 128 (and_left (ltb b 128) _ t2);
-      no92 = not_eq b 92 (and_right (ltb b 128) _ t2);
-      no9 = not_eq b 9 (and_right (ltb b 128 && not (eqb b 92)) _ t3);
-      no10 = not_eq b 10 (and_right (ltb b 128 && not (eqb b 92) && not (eqb b 9)) _ t4);
-      no32 = not_eq b 32 (and_right (ltb b 128 && not (eqb b 92) && not (eqb b 9) && not (eqb b 10)) _ t);
+      high = ltb-true 32 b (and_left (ltb 32 b) _ t2);
+      low = ltb-true b 128 (and_right (ltb 32 b) _ t2);
+      no92 = not_eq b 92 (and_right (ltb 32 b && ltb b 128) _ t);
     }
 
 eq_cons : (x y : ℕ) (xs ys : List ℕ) → (x ≡ y → ⊥) → eq_list (x ∷ xs) (y ∷ ys) ≡ false
@@ -69,12 +68,12 @@ word_turn b w a s k ih = go (eqb a b) refl
     go true e =
         let q = eqb-true a b e in
         let g : content_in (a ∷ s) ≡ a ∷ content_in s = rw (byte_code a s (rw q k.low) (λ u. k.no92 (sym q ∙ u))) at f.reads in
-        rw (g, retain_keeps 0 a (content_in s) (λ e. omega arith), retain_front a (content_in s) (λ u. k.no32 (sym q ∙ u)))
+        rw (g, retain_keeps 0 a (content_in s) (λ e. omega arith), retain_front a (content_in s) (λ u. omega (arith, k.high)))
         (unfold eq_list in (ap (λ (y : Bool). pick (eqb a b) y false) (ih q)))
     go false e =
         let n = eqb-false a b e in
         let c = (char_in (a ∷ s)).code in
-        let m : c ≡ b → ⊥ = λ q. n (code_byte a s b k.low k.no92 k.no9 k.no10 q) in
+        let m : c ≡ b → ⊥ = λ q. n (code_byte a s b k.low (never_escaped k) q) in
         rw (f.reads, retain_keeps 0 c (content_in (drop (char_in (a ∷ s)).size (a ∷ s))) (λ e. omega arith))
         (eq_cons c b _ w m ∙ sym (eq_cons a b s w n))
 

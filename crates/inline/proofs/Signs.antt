@@ -10,7 +10,7 @@ use lib.ListN.{length, get_or}
 use lib.Seq.{drop-cons}
 use borrow.Author.Tests.{eqb-true}
 use Rattle.rules.specs.Basic.{pick, minus}
-use Rattle.rules.specs.Sheet.{escaped, escape_char, escape}
+use Rattle.rules.specs.Sheet.{escaped, bare, escape_char, escape}
 use Rattle.rules.specs.Utf8.{encode_char, encode}
 use Rattle.content.specs.Contents.{content_in, spell}
 use Rattle.content.specs.Parts.{Field}
@@ -83,8 +83,8 @@ no_sign x w n = by (sign (content_in x)) refl (sign_is (content_in x))
     by g e signed = absurd (n (minus_byte x w e))
 
 minus_mark : Mark 45
-unfolding escaped
-minus_mark = record { low = omega arith; plain = λ e. omega arith; letter = refl }
+unfolding escaped bare
+minus_mark = record { low = omega arith; plain = λ e. omega arith; letter = refl; itself = refl }
 
 minus_content : content_in (45 ∷ []) ≡ 45 ∷ []
 minus_content = mark_content 45 minus_mark [] [] ∙ rw no_content

@@ -30,9 +30,9 @@ module _ (f : List ℕ) (i : ℕ) where
 plain_char : (c : ℕ) → is_plain c ≡ true → escape_char c ≡ c ∷ []
 unfolding is_plain
 plain_char c e =
-    let l : 10 < c = ltb-true 10 c (and_left (ltb 10 c) (not (eqb c 92)) e) in
-    let n : c ≡ 92 → ⊥ = eqb-false c 92 (not-true (eqb c 92) (and_right (ltb 10 c) (not (eqb c 92)) e)) in
-    char_plain c n (λ q. omega arith) (λ q. omega arith)
+    let l : 13 < c = ltb-true 13 c (and_left (ltb 13 c) (not (eqb c 92)) e) in
+    let n : c ≡ 92 → ⊥ = eqb-false c 92 (not-true (eqb c 92) (and_right (ltb 13 c) (not (eqb c 92)) e)) in
+    char_plain c n (λ q. omega arith) (λ q. omega arith) (λ q. omega arith)
 
 plain_front : (xs t : List ℕ) → all_plain xs ≡ true → escape (xs ++ t) ≡ xs ++ escape t
 unfolding all_plain escape

@@ -43,9 +43,13 @@ pub char_lf : (c : ℕ) → c ≡ 10 → escape_char c ≡ 92 ∷ 110 ∷ []
 unfolding escape_char
 char_lf c q = rw q
 
-pub char_plain : (c : ℕ) → (c ≡ 92 → ⊥) → (c ≡ 9 → ⊥) → (c ≡ 10 → ⊥) → escape_char c ≡ c ∷ []
+pub char_cr : (c : ℕ) → c ≡ 13 → escape_char c ≡ 92 ∷ 114 ∷ []
 unfolding escape_char
-char_plain c n m l = simp (ne_eqb c 92 n, ne_eqb c 9 m, ne_eqb c 10 l)
+char_cr c q = rw q
+
+pub char_plain : (c : ℕ) → (c ≡ 92 → ⊥) → (c ≡ 9 → ⊥) → (c ≡ 10 → ⊥) → (c ≡ 13 → ⊥) → escape_char c ≡ c ∷ []
+unfolding escape_char
+char_plain c n m l k = simp (ne_eqb c 92 n, ne_eqb c 9 m, ne_eqb c 10 l, ne_eqb c 13 k)
 
 pub escape_more : (f : List ℕ) (i : ℕ) → i < length f → escape (drop i f) ≡ escape_char (get_or f i 0) ++ escape (drop (i + 1) f)
 unfolding escape

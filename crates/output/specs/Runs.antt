@@ -1,9 +1,9 @@
 -- Bytes of a field that need no escape.
 use Rattle.std.specs.Prelude.{ℕ, ◌-◌, ◌≤◌, ◌≡◌, Bool, true, not, ◌&&◌, List, [], ◌∷◌, eqb, ltb, length, take, drop}
 
--- past the LF and no backslash: such a byte stands for itself
+-- past the CR and no backslash: such a byte stands for itself
 unfoldable pub is_plain : ℕ → Bool
-is_plain c = ltb 10 c && not (eqb c 92)
+is_plain c = ltb 13 c && not (eqb c 92)
 
 unfoldable pub all_plain : List ℕ → Bool
 all_plain [] = true

@@ -82,6 +82,7 @@ fn put_escaped_byte(out: &mut [u8], at: usize, c: u8) -> usize
         b'\\' => put_pair(out, at, b'\\'),
         b'\t' => put_pair(out, at, b't'),
         b'\n' => put_pair(out, at, b'n'),
+        b'\r' => put_pair(out, at, b'r'),
         _ => put_byte(out, at, c),
     }
 }
@@ -101,7 +102,7 @@ fn put_each_escaped(out: &mut [u8], at: usize, f: &[u8]) -> usize
 fn is_plain(c: u8) -> bool
     ensures { result ≡ is_plain c }
 {
-    (10 < c) & (c != b'\\')
+    (13 < c) & (c != b'\\')
 }
 
 // Whether all bytes are; every byte is asked, so that the machine can ask many at once.

@@ -5,7 +5,7 @@ use borrow.Author.Tests.{eqb-false}
 use Rattle.rules.specs.Basic.{is_some}
 use Rattle.rules.specs.Sheet.{escaped, onto, unescape}
 use Rattle.sheet.specs.Lines.{field_at}
-use Rattle.sheet.proofs.Texts.{step_plain_lem, step_cut, step_wrong, step_escaped, letter_other}
+use Rattle.sheet.proofs.Texts.{step_plain_lem, step_ill, step_cut, step_wrong, step_escaped, letter_other}
 use Rattle.parts.specs.Got.{ContentRead}
 use Rattle.parts.proofs.Bytes.{at_end_lem, at_tab, at_byte}
 use Rattle.parts.proofs.Leaves.{content_bad, content_got_lem}
@@ -40,16 +40,19 @@ module _ {line : List ℕ} {at i : ℕ} (d : ContentFrom line at i) where
   stops e = content_bad line at {f = field_at line at} (omega (arith, d.starts, d.inside)) refl (sym (d.is ∙ rw e)) refl
 
   module _ (h : i < length line) where
-    pub content_plain : (get_or line i 0 ≡ 9 → ⊥) → (get_or line i 0 ≡ 92 → ⊥) → ContentFrom line at (i + 1)
-    content_plain t q =
+    pub content_plain : (get_or line i 0 ≡ 9 → ⊥) → (get_or line i 0 ≡ 92 → ⊥) → (get_or line i 0 ≡ 13 → ⊥) → ContentFrom line at (i + 1)
+    content_plain t q r =
         let e = at_byte line i h t in
         let z : length (field_at line i) ≡ suc (length (field_at line (i + 1))) = ap length e in
         record {
           starts = omega (arith, d.starts);
           inside = omega arith;
           to = omega (arith, d.to);
-          is = d.is ∙ ap is_some (ap unescape e ∙ step_plain_lem (get_or line i 0 ∷ field_at line (i + 1)) 0 (omega arith) q) ∙ onto_some _ _;
+          is = d.is ∙ ap is_some (ap unescape e ∙ step_plain_lem (get_or line i 0 ∷ field_at line (i + 1)) 0 (omega arith) q r) ∙ onto_some _ _;
         }
+
+    pub content_ill : get_or line i 0 ≡ 13 → ContentRead line at None
+    content_ill q = stops (rw (at_byte line i h (λ t. omega arith)) (step_ill (get_or line i 0 ∷ field_at line (i + 1)) 0 (omega arith) q))
 
     module _ (q : get_or line i 0 ≡ 92) where
       here : field_at line i ≡ get_or line i 0 ∷ field_at line (i + 1)
@@ -75,7 +78,7 @@ module _ {line : List ℕ} {at i : ℕ} (d : ContentFrom line at i) where
 
         pub content_escaped : {e : ℕ} → o ≡ Some e → ContentFrom line at (i + 1 + 1)
         content_escaped {e} z =
-            let t : get_or line (i + 1) 0 ≡ 9 → ⊥ = λ u. let w : ◌≡◌ {A = Option ℕ} None (Some e) = letter_other 9 (λ v. omega arith) (λ v. omega arith) (λ v. omega arith) ∙ sym (ap escaped u) ∙ sym p ∙ z in cc in
+            let t : get_or line (i + 1) 0 ≡ 9 → ⊥ = λ u. let w : ◌≡◌ {A = Option ℕ} None (Some e) = letter_other 9 (λ v. omega arith) (λ v. omega arith) (λ v. omega arith) (λ v. omega arith) ∙ sym (ap escaped u) ∙ sym p ∙ z in cc in
             let b = both t in
             let k : length (field_at line i) ≡ suc (suc (length (field_at line (i + 1 + 1)))) = ap length b in
             record {

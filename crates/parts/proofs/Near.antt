@@ -2,10 +2,9 @@
 use Rattle.std.specs.Prelude.{None, Option, Some}
 use Rattle.std.proofs.Common.{◌≡◌, ℕ, zero, suc, ◌+◌, ◌-◌, ◌*◌, ◌%◌, ◌<◌, ◌≤◌, true, eqb, List, length, get_or, refl, ap, ◌∙◌, arith, eq-eqb, ne_eqb, eqb-true, le-leb}
 use borrow.Author.Tests.{eqb-false, lt-leb}
-use Rattle.rules.specs.Basic.{tab, backslash}
 use Rattle.rules.proofs.Basics.{by_order, pick_either, no_some, some_inj}
-use Rattle.sheet.specs.Runs.{lacks, Lacking}
-use Rattle.sheet.proofs.Runs.{last_of}
+use Rattle.sheet.specs.Runs.{is_stop, lacks, Lacking}
+use Rattle.sheet.proofs.Runs.{last_of, no_stop}
 use Rattle.parts.specs.Got.{NumberRead}
 use Rattle.parts.specs.Near.{figure_of, end_of, NearRead}
 use Rattle.parts.proofs.Bytes.{at_tab, ends_tab, ends_not}
@@ -129,16 +128,16 @@ module _ (line : List ℕ) (at : ℕ) (h : at + 1 < length line) (x : ℕ) (f : 
     zero_ends = near_by y 0 (at + 1 + 1) line at (omega arith) (ends_as y 0 (at + 1 + 1) (NumberRead line at) zero_tab zero_other)
 
 -- ---- content
-content_runs : (line : List ℕ) (at n : ℕ) → lacks tab line at n ≡ true → lacks backslash line at n ≡ true → at + n ≤ length line → ContentFrom line at (at + n)
-content_runs line at zero p q h = let z : at + 0 ≡ at = omega arith in rw z (content_starts line at (omega arith))
-content_runs line at (suc n) p q h =
-    let a = last_of tab line at n p in
-    let b = last_of backslash line at n q in
+content_runs : (line : List ℕ) (at n : ℕ) → lacks is_stop line at n ≡ true → at + n ≤ length line → ContentFrom line at (at + n)
+content_runs line at zero p h = let z : at + 0 ≡ at = omega arith in rw z (content_starts line at (omega arith))
+content_runs line at (suc n) p h =
+    let a = last_of is_stop line at n p in
+    let b = no_stop (get_or line (at + n) 0) a.last in
     let z : at + suc n ≡ at + n + 1 = omega arith in
-    rw z (content_plain (content_runs line at n a.before b.before (omega arith)) (omega arith) a.last b.last)
+    rw z (content_plain (content_runs line at n a.before (omega arith)) (omega arith) b.no_tab b.no_slash b.no_cr)
 
-pub content_past : {line : List ℕ} {at r : ℕ} → at ≤ length line → Lacking tab line at r → Lacking backslash line at r → ContentFrom line at r
-content_past {line} {at} {r} h a b =
+pub content_past : {line : List ℕ} {at r : ℕ} → at ≤ length line → Lacking is_stop line at r → ContentFrom line at r
+content_past {line} {at} {r} h a =
     let z : at + (r - at) ≡ r = omega (arith, a.from) in
     let l : at + (r - at) ≤ length line = omega (arith, a.inside h) in
-    rw z at (content_runs line at (r - at) a.clean b.clean l)
+    rw z at (content_runs line at (r - at) a.clean l)

@@ -3,11 +3,11 @@
 #![tactic(auto)]
 
 ghost use Rattle.std.specs.Prelude.{◌≡◌, ◌+◌, ◌<◌, ◌≤◌, [], ◌∷◌, length};
-ghost use Rattle.rules.specs.Basic.{tab, backslash, is_empty, eq_list, word_in};
+ghost use Rattle.rules.specs.Basic.{is_empty, eq_list, word_in};
 ghost use Rattle.rules.specs.Words.{value_kinds, locks};
 ghost use Rattle.rules.specs.Read.{word};
 ghost use Rattle.sheet.specs.Lines.{field_at};
-ghost use Rattle.sheet.specs.Runs.{Lacking};
+ghost use Rattle.sheet.specs.Runs.{is_stop, Lacking};
 ghost use Rattle.sheet.specs.Words.{kind_in};
 ghost use Rattle.parts.specs.Views.{part_of};
 ghost use Rattle.parts.specs.Near.{figure_of, end_of, NearRead};
@@ -209,17 +209,14 @@ pub fn read_span(line: &[u8], at: usize) -> Option<(Span, usize)>
     Some((Span { start, end }, a2))
 }
 
-// A place that no tab and no backslash stands before, from `at` on, by sixteen bytes a turn.
+// A place that no tab, backslash or CR stands before, from `at` on, by sixteen bytes a turn.
 fn past_sixteens(line: &[u8], at: usize) -> usize
     requires { at ≤ length line.now }
-    ensures { Lacking tab line.now at result × Lacking backslash line.now at result }
+    ensures { Lacking is_stop line.now at result }
 {
     let mut i = at;
     while 16 <= line.len() - i {
-        if !sheet::sixteen_lack(line, i, b'\t') {
-            return i;
-        }
-        if !sheet::sixteen_lack(line, i, b'\\') {
+        if !sheet::sixteen_plain(line, i) {
             return i;
         }
         i += 16;
@@ -227,17 +224,14 @@ fn past_sixteens(line: &[u8], at: usize) -> usize
     i
 }
 
-// A place that no tab and no backslash stands before, from `at` on, by sixteen bytes a turn and then by eight.
+// A place that no tab, backslash or CR stands before, from `at` on, by sixteen bytes a turn and then by eight.
 fn past_plain(line: &[u8], at: usize) -> usize
     requires { at ≤ length line.now }
-    ensures { Lacking tab line.now at result × Lacking backslash line.now at result }
+    ensures { Lacking is_stop line.now at result }
 {
     let mut i = past_sixteens(line, at);
     while 8 <= line.len() - i {
-        if !sheet::eight_lack(line, i, b'\t') {
-            return i;
-        }
-        if !sheet::eight_lack(line, i, b'\\') {
+        if !sheet::eight_plain(line, i) {
             return i;
         }
         i += 8;
@@ -256,6 +250,9 @@ fn read_content(line: &[u8], at: usize) -> Option<(Part, usize)>
         let c = line[i];
         if c == b'\t' {
             return Some((Part { from: at, to: i }, i + 1));
+        }
+        if c == b'\r' {
+            return None;
         }
         if c == b'\\' {
             let j = i + 1;

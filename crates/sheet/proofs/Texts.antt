@@ -1,7 +1,7 @@
 -- Reading a field without its escapes: what one turn does; r is the answer on the whole.
 use Prim.Native.Nat.{ℕ, suc, ◌+◌, ◌-◌, ◌≤◌, ◌<◌}
 use mathlib.Core.Path.{◌≡◌, refl, ap, sym, ◌∙◌}
-use mathlib.Core.Bool.{true, false}
+use mathlib.Core.Bool.{Bool, true, false}
 use Rattle.std.specs.Prelude.{Option, None, Some, Ok, Err}
 use mathlib.Core.List.{List, [], ◌∷◌, ◌++◌}
 use native.Mathlib.Numerals.{add-one}
@@ -10,19 +10,20 @@ use borrow.Author.Tests.{eq-eqb, ne_eqb, le-leb, lt-leb}
 use lib.ListN.{length, get_or, drop, drop_of_length-le}
 use lib.Seq.{drop-cons}
 use Rattle.std.specs.Option as option
+use lib.Dec.{eqb}
 use Rattle.rules.specs.Basic.{is_some, on_some}
-use Rattle.rules.specs.Sheet.{escaped, onto, unescape}
+use Rattle.rules.specs.Sheet.{escaped, bare, onto, unescape}
 use Rattle.rules.proofs.Basics.{by_order, no_truth}
-use Rattle.rules.proofs.Fields.{unescape_one}
+use Rattle.rules.proofs.Fields.{bare_itself, bare_cr, unescape_one}
 use Rattle.output.specs.Put.{Put}
 use Rattle.output.proofs.Puts.{Leads, starts, turn, step, ends_in, ends_out, put_room, put_fits}
 use Rattle.sheet.specs.declared.NotUnescaped.TheVariants.{Ill, NoRoom}
 use Rattle.sheet.specs.Escapes.{room_for, held_after, Unescapes}
 
 -- ---- the letter after a backslash
-pub letter_other : (c : ℕ) → (c ≡ 92 → ⊥) → (c ≡ 116 → ⊥) → (c ≡ 110 → ⊥) → None ≡ escaped c
+pub letter_other : (c : ℕ) → (c ≡ 92 → ⊥) → (c ≡ 116 → ⊥) → (c ≡ 110 → ⊥) → (c ≡ 114 → ⊥) → None ≡ escaped c
 unfolding escaped
-letter_other c n m l = simp (ne_eqb c 92 n, ne_eqb c 116 m, ne_eqb c 110 l)
+letter_other c n m l k = simp (ne_eqb c 92 n, ne_eqb c 116 m, ne_eqb c 110 l, ne_eqb c 114 k)
 
 unescape_two : (c d : ℕ) (s : List ℕ) → c ≡ 92 → unescape (c ∷ d ∷ s) ≡ onto (escaped d) (unescape s)
 unfolding unescape
@@ -34,8 +35,15 @@ unescape_cut c q = rw (eq-eqb c 92 q)
 
 -- ---- one step of a field at i
 module _ (s : List ℕ) (i : ℕ) (h : i < length s) where
-  pub step_plain_lem : (get_or s i 0 ≡ 92 → ⊥) → unescape (drop i s) ≡ onto (Some (get_or s i 0)) (unescape (drop (i + 1) s))
-  step_plain_lem q = rw (add-one, drop-cons s i 0 h) (unescape_one _ _ (ne_eqb _ _ q))
+  step_bare : (get_or s i 0 ≡ 92 → ⊥) → unescape (drop i s) ≡ onto (bare (get_or s i 0)) (unescape (drop (i + 1) s))
+  step_bare q = rw (add-one, drop-cons s i 0 h) (unescape_one _ _ (ne_eqb _ _ q))
+
+  pub step_plain_lem : (get_or s i 0 ≡ 92 → ⊥) → (get_or s i 0 ≡ 13 → ⊥) → unescape (drop i s) ≡ onto (Some (get_or s i 0)) (unescape (drop (i + 1) s))
+  step_plain_lem q r = step_bare q ∙ rw (bare_itself _ (ne_eqb _ 13 r))
+
+  pub step_ill : get_or s i 0 ≡ 13 → unescape (drop i s) ≡ None
+  unfolding onto
+  step_ill q = step_bare (λ e. omega arith) ∙ rw (bare_cr _ (eq-eqb _ 13 q))
 
   pub step_cut : get_or s i 0 ≡ 92 → length s ≤ i + 1 → unescape (drop i s) ≡ None
   step_cut q l =
@@ -138,8 +146,12 @@ module _ {f o₀ o : List ℕ} {i n : ℕ} (u : Unescaping f o₀ i o n) where
       let w = rw e at u.left in
       record { left = on_is x _ w; writes = step _ (turn (ap text_of e ∙ on_of x _ w) u.writes) p }
 
+  -- a byte that is left and starts no escape is no CR
+  bare_there : i < length f → get_or f i 0 ≡ 13 → false ≡ true
+  bare_there h q = unfold is_some in (rw (step_ill f i h q) at u.left)
+
   pub plain_on : {o' : List ℕ} {n' : ℕ} → i < length f → (get_or f i 0 ≡ 92 → ⊥) → Put (get_or f i 0 ∷ []) o n o' n' → Unescaping f o₀ (i + 1) o' n'
-  plain_on h q p = on_step _ (i + 1) (step_plain_lem f i h q) p
+  plain_on h q p = on_step _ (i + 1) (step_plain_lem f i h q (λ r. no_truth (bare_there h r))) p
 
   module _ (h : i < length f) (q : get_or f i 0 ≡ 92) {l : Option ℕ} (p : l ≡ escaped (get_or f (i + 1) 0)) where
     -- and the two are an escape

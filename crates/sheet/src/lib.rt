@@ -1,22 +1,22 @@
 // Readers of the event sheet: lines, fields, words, numbers, escapes. All of them take any bytes.
 #![tactic(auto)]
 
-ghost use Rattle.std.specs.Prelude.{◌≡◌, ◌+◌, ◌≤◌, length};
+ghost use Rattle.std.specs.Prelude.{◌≡◌, ◌+◌, ◌≤◌, eqb, length};
 ghost use Rattle.rules.specs.Basic.{eq_list, is_some, on_some, word_in};
 ghost use Rattle.rules.specs.Words.{event_words, block_kinds, value_kinds, config_keys, define_words, duplicate_words};
 ghost use Rattle.rules.specs.Utf8.{chars};
 ghost use Rattle.rules.specs.Sheet.{escaped, unescape, number_up_to, number_of, signed_of};
 ghost use Rattle.sheet.specs.Lines.{LineAt, field_at};
-ghost use Rattle.sheet.specs.Runs.{lacks, Lacking};
+ghost use Rattle.sheet.specs.Runs.{is_stop, lacks, Lacking};
 ghost use Rattle.sheet.specs.Words.{event_word_in, block_in, kind_in, key_in, define_of, duplicate_of};
 ghost use Rattle.sheet.specs.Numbers.{signed_in};
 ghost use Rattle.sheet.specs.Escapes.{Unescapes};
 
 // Whether the eight bytes at a place lack the byte b. All of them are looked at, which the compiler makes one comparison.
 #[tactic(auto, using(crate::proofs::Runs::lack_cases))]
-pub fn eight_lack(s: &[u8], at: usize, b: u8) -> bool
+fn eight_lack(s: &[u8], at: usize, b: u8) -> bool
     requires { at + 8 ≤ length s.now }
-    ensures { result ≡ lacks b s.now at 8 }
+    ensures { result ≡ lacks (eqb b) s.now at 8 }
 {
     let mut all = true;
     let mut j = 0;
@@ -31,9 +31,9 @@ pub fn eight_lack(s: &[u8], at: usize, b: u8) -> bool
 
 // Whether the sixteen bytes at a place lack the byte b, looked at in the same way.
 #[tactic(auto, using(crate::proofs::Runs::lack_cases))]
-pub fn sixteen_lack(s: &[u8], at: usize, b: u8) -> bool
+fn sixteen_lack(s: &[u8], at: usize, b: u8) -> bool
     requires { at + 16 ≤ length s.now }
-    ensures { result ≡ lacks b s.now at 16 }
+    ensures { result ≡ lacks (eqb b) s.now at 16 }
 {
     let mut all = true;
     let mut j = 0;
@@ -46,11 +46,52 @@ pub fn sixteen_lack(s: &[u8], at: usize, b: u8) -> bool
     all
 }
 
+// Whether a byte ends a content, starts an escape or is ill-formed there.
+fn is_stop(c: u8) -> bool
+    ensures { result ≡ is_stop c }
+{
+    (c == b'\t') | (c == b'\\') | (c == b'\r')
+}
+
+// Whether none of the eight bytes at a place is such a byte.
+#[tactic(auto, using(crate::proofs::Runs::stop_cases))]
+pub fn eight_plain(s: &[u8], at: usize) -> bool
+    requires { at + 8 ≤ length s.now }
+    ensures { result ≡ lacks is_stop s.now at 8 }
+{
+    let mut all = true;
+    let mut k = 0;
+    while k < 8 {
+        if is_stop(s[at + k]) {
+            all = false;
+        }
+        k += 1;
+    }
+    all
+}
+
+// Whether none of the sixteen bytes is, looked at in the same way.
+#[tactic(auto, using(crate::proofs::Runs::stop_cases))]
+pub fn sixteen_plain(s: &[u8], at: usize) -> bool
+    requires { at + 16 ≤ length s.now }
+    ensures { result ≡ lacks is_stop s.now at 16 }
+{
+    let mut all = true;
+    let mut k = 0;
+    while k < 16 {
+        if is_stop(s[at + k]) {
+            all = false;
+        }
+        k += 1;
+    }
+    all
+}
+
 // A place that no byte b stands before, from `at` on, by sixteen bytes a turn.
 #[tactic(auto, using(crate::proofs::Runs::runs))]
 fn past_sixteens(s: &[u8], at: usize, b: u8) -> usize
     requires { at ≤ length s.now }
-    ensures { Lacking b s.now at result }
+    ensures { Lacking (eqb b) s.now at result }
 {
     let mut i = at;
     while 16 <= s.len() - i {
@@ -65,7 +106,7 @@ fn past_sixteens(s: &[u8], at: usize, b: u8) -> usize
 // A place that no byte b stands before, from `at` on, by sixteen bytes a turn and then by eight.
 #[tactic(auto, using(crate::proofs::Runs::runs))]
 pub fn past_lacking(s: &[u8], at: usize, b: u8) -> usize
-    ensures { Lacking b s.now at result }
+    ensures { Lacking (eqb b) s.now at result }
 {
     if s.len() < at {
         return at;
@@ -365,6 +406,7 @@ pub fn letter(c: u8) -> Option<u8>
         b'\\' => Some(b'\\'),
         b't' => Some(b'\t'),
         b'n' => Some(b'\n'),
+        b'r' => Some(b'\r'),
         _ => None,
     }
 }
@@ -376,7 +418,11 @@ pub fn unescaped_len(f: &[u8]) -> Option<usize>
     let mut i = 0;
     let mut n = 0;
     while i < f.len() {
-        if f[i] == b'\\' {
+        let c = f[i];
+        if c == b'\r' {
+            return None;
+        }
+        if c == b'\\' {
             let j = i + 1;
             if f.len() <= j {
                 return None;

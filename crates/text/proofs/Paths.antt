@@ -129,13 +129,13 @@ high_others l highs_none = absurd (omega arith)
 high_others l (highs_more {a} h highs_none) = other_one {b = a} (λ e. omega arith) (λ e. omega arith)
 high_others l (highs_more {a} h (highs_more {a = b} {s = t} k g)) = other_more {b = a} (λ e. omega arith) (λ e. omega arith) (high_others {w = b ∷ t} (omega arith) (highs_more k g))
 
-low_escape : (c : ℕ) → (c ≡ 92 → ⊥) → (c ≡ 9 → ⊥) → (c ≡ 10 → ⊥) → escape (c ∷ []) ≡ c ∷ []
+low_escape : (c : ℕ) → (c ≡ 92 → ⊥) → (c ≡ 9 → ⊥) → (c ≡ 10 → ⊥) → (c ≡ 13 → ⊥) → escape (c ∷ []) ≡ c ∷ []
 unfolding escape escape_char
-low_escape c n1 n2 n3 = rw (ne_eqb c 92 n1, ne_eqb c 9 n2, ne_eqb c 10 n3)
+low_escape c n1 n2 n3 n4 = rw (ne_eqb c 92 n1, ne_eqb c 9 n2, ne_eqb c 10 n3, ne_eqb c 13 n4)
 
-char_others : (c : ℕ) → Scalar c → (c ≡ 92 → ⊥) → (c ≡ 9 → ⊥) → (c ≡ 10 → ⊥) → (c ≡ 32 → ⊥) → Other (escape (encode_char c))
-char_others c h n1 n2 n3 n4 =
-    by_order c 127 (λ l. rw (encode_1 c (omega arith), low_escape c n1 n2 n3) (other_one n1 n4))
+char_others : (c : ℕ) → Scalar c → (c ≡ 92 → ⊥) → (c ≡ 9 → ⊥) → (c ≡ 10 → ⊥) → (c ≡ 13 → ⊥) → (c ≡ 32 → ⊥) → Other (escape (encode_char c))
+char_others c h n1 n2 n3 n4 n5 =
+    by_order c 127 (λ l. rw (encode_1 c (omega arith), low_escape c n1 n2 n3 n4) (other_one n1 n5))
     (λ l. let e = escape_highs (encode_highs c l) in rw e (high_others (rw e at (char_written c h).least) (encode_highs c l)))
 
 spell_ascii : (c : ℕ) (cs : List ℕ) → c < 128 → spell (c ∷ cs) ≡ escape (c ∷ []) ++ spell cs
@@ -150,11 +150,29 @@ spelled_slash cs = spell_ascii 47 cs (omega arith) ∙ (unfold escape escape_cha
 spelled_blank : (cs : List ℕ) → spell (32 ∷ cs) ≡ 32 ∷ spell cs
 spelled_blank cs = spell_ascii 32 cs (omega arith) ∙ (unfold escape escape_char in refl)
 
-spelled_tab : (cs : List ℕ) → spell (9 ∷ cs) ≡ 92 ∷ 116 ∷ spell cs
-spelled_tab cs = spell_ascii 9 cs (omega arith) ∙ (unfold escape escape_char in refl)
+-- c is spelled by a letter, and neither is the letter a separator or a blank nor c
+record BySpelled (c d : ℕ) : Type 0 where
+  low : c < 128
+  is : escape (c ∷ []) ≡ 92 ∷ d ∷ []
+  no_back : c ≡ 92 → ⊥
+  no_blank : c ≡ 32 → ⊥
+  letter_back : d ≡ 92 → ⊥
+  letter_blank : d ≡ 32 → ⊥
 
-spelled_lf : (cs : List ℕ) → spell (10 ∷ cs) ≡ 92 ∷ 110 ∷ spell cs
-spelled_lf cs = spell_ascii 10 cs (omega arith) ∙ (unfold escape escape_char in refl)
+by_t : BySpelled 9 116
+unfolding escape escape_char
+by_t = record { low = omega arith; is = refl; no_back = λ e. omega arith; no_blank = λ e. omega arith; letter_back = λ e. omega arith; letter_blank = λ e. omega arith }
+
+by_n : BySpelled 10 110
+unfolding escape escape_char
+by_n = record { low = omega arith; is = refl; no_back = λ e. omega arith; no_blank = λ e. omega arith; letter_back = λ e. omega arith; letter_blank = λ e. omega arith }
+
+by_r : BySpelled 13 114
+unfolding escape escape_char
+by_r = record { low = omega arith; is = refl; no_back = λ e. omega arith; no_blank = λ e. omega arith; letter_back = λ e. omega arith; letter_blank = λ e. omega arith }
+
+spelled_letter : {c d : ℕ} → BySpelled c d → (cs : List ℕ) → spell (c ∷ cs) ≡ 92 ∷ d ∷ spell cs
+spelled_letter {c} b cs = spell_ascii c cs b.low ∙ rw b.is
 
 each_other : (c : ℕ) (cs : List ℕ) → (c ≡ 92 → ⊥) → each as_slash (c ∷ cs) ≡ c ∷ each as_slash cs
 unfolding each as_slash
@@ -190,23 +208,19 @@ module _ (p : ℕ) (cs : List ℕ) (i : path_bytes 0 (spell cs) ≡ spell (each 
           rw (retain_keeps p 32 cs (eqb-false p 32 e), each_other 32 (retain 32 cs) (λ q. omega arith), spelled_blank (each as_slash (retain 32 cs)))
           (ap (λ (x : List ℕ). 32 ∷ x) j)
 
-  turn_tab : path_bytes p (spell (9 ∷ cs)) ≡ spell (each as_slash (retain p (9 ∷ cs)))
-  turn_tab =
-      rw (spelled_tab cs, path_escape p 116 (spell cs) (λ e. omega arith) (λ e. omega arith), i, retain_other p 9 cs (λ e. omega arith), each_other 9 (retain 0 cs) (λ e. omega arith))
-      (sym (spelled_tab (each as_slash (retain 0 cs))))
-
-  turn_lf : path_bytes p (spell (10 ∷ cs)) ≡ spell (each as_slash (retain p (10 ∷ cs)))
-  turn_lf =
-      rw (spelled_lf cs, path_escape p 110 (spell cs) (λ e. omega arith) (λ e. omega arith), i, retain_other p 10 cs (λ e. omega arith), each_other 10 (retain 0 cs) (λ e. omega arith))
-      (sym (spelled_lf (each as_slash (retain 0 cs))))
+  turn_letter : {c d : ℕ} → BySpelled c d → path_bytes p (spell (c ∷ cs)) ≡ spell (each as_slash (retain p (c ∷ cs)))
+  turn_letter {c} {d} b =
+      rw (spelled_letter b cs, path_escape p d (spell cs) b.letter_back b.letter_blank, i, retain_other p c cs b.no_blank, each_other c (retain 0 cs) b.no_back)
+      (sym (spelled_letter b (each as_slash (retain 0 cs))))
 
   turn_path : (c : ℕ) → Scalar c → path_bytes p (spell (c ∷ cs)) ≡ spell (each as_slash (retain p (c ∷ cs)))
   turn_path c h =
       by_eq c 92 (λ e. rw e turn_back)
       (λ n1. by_eq c 32 (λ e. rw e turn_blank)
-      (λ n2. by_eq c 9 (λ e. rw e turn_tab)
-      (λ n3. by_eq c 10 (λ e. rw e turn_lf)
-      (λ n4. rw (spell_cons c cs, path_others p (spell cs) (char_others c h n1 n3 n4 n2), i) (sym (kept_one p c cs n1 n2))))))
+      (λ n2. by_eq c 9 (λ e. rw e (turn_letter by_t))
+      (λ n3. by_eq c 10 (λ e. rw e (turn_letter by_n))
+      (λ n4. by_eq c 13 (λ e. rw e (turn_letter by_r))
+      (λ n5. rw (spell_cons c cs, path_others p (spell cs) (char_others c h n1 n3 n4 n5 n2), i) (sym (kept_one p c cs n1 n2)))))))
 
 path_spelled : (p : ℕ) {cs : List ℕ} → Scalars cs → path_bytes p (spell cs) ≡ spell (each as_slash (retain p cs))
 unfolding encode escape retain each path_bytes

@@ -14,7 +14,7 @@ use Rattle.rules.specs.Text.{retain}
 use Rattle.rules.proofs.Basics.{no_truth, by_order, and_false}
 use Rattle.output.specs.Put.{Put}
 use Rattle.sheet.specs.Runs.{lacks}
-use Rattle.sheet.proofs.Runs.{last_of}
+use Rattle.sheet.proofs.Runs.{last_of, no_byte}
 use Rattle.text.specs.Singles.{stay, NextBlank}
 use Rattle.text.proofs.Writes.{retain_stays, retain_none}
 
@@ -76,12 +76,12 @@ module _ (w : List ℕ) (i : ℕ) (e : true ≡ stay w 0 i) (gone : Bool) (g : g
   stays_not_one m l h = stays_not w i 1 e (not gone) one m l (rw h refl)
 
 -- ---- up to a blank
-lacks_stay : (w : List ℕ) (at n : ℕ) → lacks blank w at n ≡ true → true ≡ stay w at n
+lacks_stay : (w : List ℕ) (at n : ℕ) → lacks (eqb blank) w at n ≡ true → true ≡ stay w at n
 unfolding stay
 lacks_stay w at zero h = refl
 lacks_stay w at (suc n) h =
-    let l = last_of blank w at n h in
-    rw (ne_eqb (get_or w (at + n) 0) blank l.last, and_false (eqb (get_or w (at + n + 1) 0) blank)) (lacks_stay w at n l.before)
+    let l = last_of (eqb blank) w at n h in
+    rw (ne_eqb (get_or w (at + n) 0) blank (no_byte blank _ l.last), and_false (eqb (get_or w (at + n + 1) 0) blank)) (lacks_stay w at n l.before)
 
 module _ (w : List ℕ) (i j : ℕ) (e : true ≡ stay w 0 i) (a : NextBlank w i j) where
   to_blank : true ≡ stay w 0 j

@@ -10,6 +10,6 @@ stay w at (suc n) = pick (eqb (get_or w (at + n + 1) 0) blank && eqb (get_or w (
 
 -- r is the place of the first blank of w from `at` on, or the end
 pub record NextBlank (w : List ℕ) (at r : ℕ) : Type 0 where
-  pub before : Lacking blank w at r
+  pub before : Lacking (eqb blank) w at r
   pub inside : r ≤ length w
   pub here : r < length w → get_or w r 0 ≡ blank

@@ -1,5 +1,5 @@
 use Rattle.std.proofs.Common.{rules}
-use Rattle.output.proofs.Texts.{text_is, char_backslash, char_tab, char_lf, char_plain}
+use Rattle.output.proofs.Texts.{text_is, char_backslash, char_tab, char_lf, char_cr, char_plain}
 use Rattle.output.proofs.put_escaped_byte.Goals as goal
 
 pub returns-in-92 : goal.returns-in-92
@@ -11,5 +11,8 @@ returns-in-9 c = text_is _ (char_tab _ c.in-9.is) c.put_pair-in-9.ensures
 pub returns-in-10 : goal.returns-in-10
 returns-in-10 c = text_is _ (char_lf _ c.in-10.is) c.put_pair-in-10.ensures
 
+pub returns-in-13 : goal.returns-in-13
+returns-in-13 c = text_is _ (char_cr _ c.in-13.is) c.put_pair-in-13.ensures
+
 pub returns-in_default : goal.returns-in_default
-returns-in_default c = text_is _ (char_plain c.args.c (search rules) (search rules) (search rules)) c.put_byte.ensures
+returns-in_default c = text_is _ (char_plain c.args.c (search rules) (search rules) (search rules) (search rules)) c.put_byte.ensures

@@ -3,7 +3,7 @@ use Rattle.sheet.proofs.Runs.{lacking_on}
 use Rattle.parts.proofs.past_plain.Goals as goal
 
 pub loop-i-init : goal.loop-i-init
-loop-i-init c = (c.past_sixteens-i.ensures.0.inside c.requires, c.past_sixteens-i.ensures.0, c.past_sixteens-i.ensures.1)
+loop-i-init c = (c.past_sixteens-i.ensures.inside c.requires, c.past_sixteens-i.ensures)
 
 pub loop-i-preserved : goal.loop-i-preserved
-loop-i-preserved c = (omega arith, lacking_on 8 c.loop-i.invariant.1 (omega arith) _ c.eight_lack.ensures c.if-not-eight_lack.false-raw, lacking_on 8 c.loop-i.invariant.2 (omega arith) _ c.eight_lack-in-loop-i.ensures c.if-not-eight_lack-2.false-raw)
+loop-i-preserved c = (omega arith, lacking_on 8 c.loop-i.invariant.1 (omega arith) _ c.eight_plain.ensures c.if-not-eight_plain.false-raw)

@@ -3,7 +3,7 @@ use Rattle.sheet.proofs.Runs.{lacking_none, lacking_on}
 use Rattle.parts.proofs.past_sixteens.Goals as goal
 
 pub loop-i-init : goal.loop-i-init
-loop-i-init c = (c.requires, lacking_none _ _ _, lacking_none _ _ _)
+loop-i-init c = (c.requires, lacking_none _ _ _)
 
 pub loop-i-preserved : goal.loop-i-preserved
-loop-i-preserved c = (omega arith, lacking_on 16 c.loop-i.invariant.1 (omega arith) _ c.sixteen_lack.ensures c.if-not-sixteen_lack.false-raw, lacking_on 16 c.loop-i.invariant.2 (omega arith) _ c.sixteen_lack-in-loop-i.ensures c.if-not-sixteen_lack-2.false-raw)
+loop-i-preserved c = (omega arith, lacking_on 16 c.loop-i.invariant.1 (omega arith) _ c.sixteen_plain.ensures c.if-not-sixteen_plain.false-raw)

@@ -1,10 +1,9 @@
 use Rattle.std.proofs.Common.{◌-◌, ◌≤◌, length}
-use Rattle.rules.specs.Basic.{tab, backslash}
-use Rattle.sheet.specs.Runs.{Lacking}
+use Rattle.sheet.specs.Runs.{is_stop, Lacking}
 use Rattle.parts.proofs.past_sixteens.Given as goal
 
 abbrev pub invariant-loop-i : goal.invariant-loop-i
-invariant-loop-i l = (l.i ≤ length l.line) × Lacking tab l.line l.at l.i × Lacking backslash l.line l.at l.i
+invariant-loop-i l = (l.i ≤ length l.line) × Lacking is_stop l.line l.at l.i
 
 abbrev pub decreases-loop-i : goal.decreases-loop-i
 decreases-loop-i l = length l.line - l.i

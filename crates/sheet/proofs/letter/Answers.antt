@@ -15,5 +15,9 @@ pub returns-in-110 : goal.returns-in-110
 unfolding escaped
 returns-in-110 c = rw c.in-110.is
 
+pub returns-in-114 : goal.returns-in-114
+unfolding escaped
+returns-in-114 c = rw c.in-114.is
+
 pub returns-in_default : goal.returns-in_default
-returns-in_default c = letter_other c.args.c (search rules) (search rules) (search rules)
+returns-in_default c = letter_other c.args.c (search rules) (search rules) (search rules) (search rules)
