@@ -7,6 +7,8 @@
  *
  * A slice is a pointer and a length. A pointer must not be null, also where its length is 0, and must be aligned for
  * its type. What is written to (words, bytes, out) must overlap nothing else that is lent.
+ *
+ * Fields of sheets, pages and plain forms spell tab, LF, CR and backslash by escapes: \t, \n, \r and \\.
  */
 #ifndef RECIPE_H
 #define RECIPE_H

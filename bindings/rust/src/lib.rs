@@ -8,6 +8,8 @@
 //!     Err(refusal) => println!("{refusal}"),
 //! }
 //! ```
+//!
+//! Fields of sheets, pages and plain forms spell tab, LF, CR and backslash by escapes: `\t`, `\n`, `\r` and `\\`.
 
 use std::fmt;
 

@@ -76,6 +76,25 @@ fn refusals() {
 }
 
 #[test]
+fn carriage_returns() {
+    let sheet = b"start\tstep\ningredient\t0\t3\t0\t3\ta\\rb\t-\t-\t-\t.\t0\t0\t-\ntext\t3\t5\t\\r\\n\nend\tstep\n";
+    let page = b"recipe\tyes\nsection\t-\nstep\t1\nitem\tingredient\t0\nitem\ttext\t\\r\\n\n\
+ingredient\t0\ta\\rb\t-\t-\t-\t-\t.\tdef\tstep\t-\n";
+    let mut out = vec![0x55; 200];
+    assert_eq!(collect(sheet, b"a\rb\r\n", b"", 0, &mut dirty(), &mut out), Ok(&page[..]));
+}
+
+#[test]
+fn bare_carriage_returns() {
+    let sheets = [&b"warning\t1\nsection\t0\t0\ta\r\n"[..], b"warning\t1\nsection\t0\t0\ta\rb\n", b"warning\t1\nwarning\t2\r\n"];
+    for sheet in sheets {
+        let mut out = vec![0x55; 100];
+        assert_eq!(collect(sheet, b"", b"", 7, &mut dirty(), &mut out), Err(Refusal { number: 8, line: 2 }));
+        assert!(out.iter().all(|&b| b == 0));
+    }
+}
+
+#[test]
 fn short_work_memory() {
     for (words, bytes) in [(1, 0), (0, 1), (1, 1)] {
         let mut m = dirty();

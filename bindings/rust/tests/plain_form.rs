@@ -80,6 +80,14 @@ fn a_form_longer_than_the_sheet() {
 }
 
 #[test]
+fn carriage_returns() {
+    let sheet = b"meta\t0\t0\t[mode]\t0\t0\ttext\nstart\tstep\ntimer\t0\t3\t-\t-\ntext\t3\t5\t\\r\\n\nend\tstep\n";
+    let form = b"start\ttext\ntext\t0\t3\ta\\rb\ntext\t3\t5\t\\r\\n\nend\ttext\n";
+    assert_eq!(form_in_room(sheet, b"a\rb\r\n", b"", 1, 1000).unwrap(), form);
+    assert_eq!(form_in_room(form, b"a\rb\r\n", b"", 1, 1000).unwrap(), form);
+}
+
+#[test]
 fn refusals_of_the_form() {
     let error = b"warning\t1\nerror\t2\nerror\t3\n";
     let listed = b"meta\t0\t1\t[mode]\t1\t2\tcomponents\nstart\tstep\ntext\t0\t1\t.\ntimer\t0\t1\t-\t-\nend\tstep\n";
@@ -103,11 +111,12 @@ fn refusals_of_the_form() {
 
 #[test]
 fn refusals_of_the_collection() {
-    let cases: [(&[u8], &[u8], &[u8], u32, Refusal); 5] = [
+    let cases: [(&[u8], &[u8], &[u8], u32, Refusal); 6] = [
         (b"", b"\xff", b"", 7, Refusal { number: 4, line: 0 }),
         (b"", b"", b"kg\tweight\n", 7, Refusal { number: 5, line: 0 }),
         (b"", b"", b"", 8, Refusal { number: 7, line: 0 }),
         (b"error\t1\nnothing\n", b"", b"", 7, Refusal { number: 8, line: 2 }),
+        (b"error\t1\nwarning\t2\r\n", b"", b"", 7, Refusal { number: 8, line: 2 }),
         (b"start\tstep\n", b"", b"", 7, Refusal { number: 19, line: 0 }),
     ];
     for (sheet, text, units, flags, refusal) in cases {
