@@ -17,6 +17,7 @@ mod page;
 mod pass;
 mod plain;
 mod repeat;
+mod returns;
 mod sheet;
 
 use case::{Case, ROOM};
