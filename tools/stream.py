@@ -37,6 +37,9 @@ LINES = [line.encode("utf-8") for line in [
     # CR, spelled and bare: no sheet has a bare one, and it reads as what it is
     b"\\r", b"\r", b"\\r\\r", b"\r\r", b"\\r\r", b"\\R", b"\\\\r", b"\\\\\\r", b"\\\r", b"\\r\\", b"\\r\\n", b"\r\\n", b"\\r A\\r \\rB \\r", b"\r a\r \rb \r", b"\\r  a  \\r", b" \\r a", b"A\\rB", b"a\rb",
     b"cr\xc3\xa8me\\r\xc3\xa9", b"CR\xc3\x88ME\r\xc3\x89", b"5\\rkg", b"5\rKG",
+    # an escape's letter beside a letter
+    b"a\\rb", b"arb", b"a\\rb", b"ARB", b"a\\\\rb", b"a\\rb", b"a\\nb", b"r\\rr", b"R\\rR", b"R\\RR", b"abcdefg\\r", b"abcdefgr", b"abcdefg\\r", b"ABCDEFG\\r", b"ABCDEFGR", b"abcdefgh\\r", b"ABCDEFGH\r",
+    b"12345678\\r\xc3\x9f", b"12345678\\rSS", b"1234567\\r\xc3\x9f", b"1234567\\rss", b"123456\\rK", b"123456\\r\xe2\x84\xaa", b"\\r\\r\\r\\rab", b"\\r\\r\\r\\rAB", b"\\r\\r\\r\\nAB",
     b"./a\\r/b", b"./a\r/b", b".\\rb", b".\\\\rb", b"./\\rb", b"./\\r", b"..\\r/b", b"..\\\\\\rb", b"\\r./b",
     # paths
     b"./", b"./bread", b"../bread", b"./my/bread", b"./my\\\\bread", b".\\\\my\\\\bread", b"..\\\\bread", b".\\bread", b"./bread/", b"./ bread  and   butter", b".../x", b".bread/x", b". /x", b"./\\t/a\\n", b"..", b".", b"../..",

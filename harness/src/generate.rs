@@ -43,7 +43,7 @@ const NAMES: &[&[&str]] = &[
     &["ᾳ", "ᾼ", "αι", "ΑΙ"],
     &["eau", "l'eau", "-", "."],
     &["ŉ", "ʼn", "ʼN"],
-    &["a\rb", "A\rB", "\ra\rb", "a\rB\r\n", "a\\rb", "./a\r/a\rb", ".\ra\rb"],
+    &["a\rb", "A\rB", "\ra\rb", "a\rB\r\n", "a\\rb", "arb", "./a\r/a\rb", ".\ra\rb"],
 ];
 
 const TEXTS: &[&str] = &[

@@ -2,6 +2,7 @@
 use crate::case::Case;
 use crate::cases::{bars, inline, named, raw, short, trimmed};
 use crate::limits::limit;
+use crate::page::escape;
 
 /// A line of each kind with all that it can have, and which of its fields are contents.
 const LINES: &[(&str, &[usize])] = &[
@@ -104,6 +105,16 @@ fn returns_in_pass(add: &mut impl FnMut(Case)) {
     add(short("1", "W3 salt", "S\ni salt\r;\ni Salt;&\nc \rpot;\nc POT\r;&\nE"));
     add(short("1", "W3 a b", "S\ni a\rb;\ni A\rB;&\ni a b;&\ni ab;&\ni a\r\rb;&\nc a\rb\nc A\rB;&\nE"));
     add(short("1", "W3 implicit", "dup ref\nS\ni a\rb\ni \rA\rB\r;\ni a\\rb\ni A\\RB\nE"));
+    // an escape's letter beside a letter, and an escape at the edges of eight bytes
+    for (a, b) in [
+        ("a\rb", "arb"), ("a\rb", "ARB"), ("a\rb", "a\\rb"), ("a\rb", "a\nb"), ("a\rb", "a\tb"), ("a\rb", "a\\\rb"), ("\rr", "r"), ("r\rr", "R\rR"), ("1234567\rb", "1234567\rB"), ("123456\rb", "123456\rB"),
+        ("12345678\rß", "12345678\rSS"), ("123456789012345\rK", "123456789012345\r\u{212a}"), ("a\\\rb", "A\\\rB"), ("a\r b", "a\r  b"), ("./x\r/B", "b"), ("a\r\nb", "A\r\nB"), ("abcdefg\r", "abcdefgr"),
+    ] {
+        let (e, f) = (escape(a), escape(b));
+        let line = |word: &str, name: &str, tail: &str| format!("{word}|0|1|0|1|{name}|-|-|-|.|0|0{tail}\n");
+        let sheet = [line("ingredient", &e, "|-"), line("ingredient", &f, "|-"), line("cookware", &e, ""), line("cookware", &f, "")].concat();
+        add(bars("1", &format!("W3 {a:?} {b:?}"), &format!("meta|0|1|[duplicate]|1|2|ref\nstart|step\n{sheet}end|step\n")));
+    }
     for (name, units) in [("W3 unit", "a\rb\tmass\nl\tvolume\nt\rm\ttime\nkg\tmass\n"), ("W3 unit not listed", "a b\tmass\na\\rb\tmass\nl\tvolume\nkg\tmass\n"), ("W3 unit not trimmed", "a\rb\r\tmass\nkg\r\tmass\nl\tvolume\n")] {
         let mut c = short("7", name, "S\ni x;;q=n:1:a\rb\ni x;&;q=n:1:l\ni x;&;q=n:1:\ra\rb\r\ni x;&;q=n:1:kg\r;\nt -;q=n:1:t\rm\nt -;q=n:1:a\rb\n\" 5 a\rb, 5\rkg\r, 5 l\r;\nE");
         c.units = units.into();
