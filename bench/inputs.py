@@ -340,6 +340,7 @@ def further():
     sheet, text, none = one_text("。" * 20000, "")
     yield "a text of 20,000 full stops in components mode", "meta\t0\t1\t[mode]\t0\t1\tcomponents\n" + sheet, text, none
     yield ("a text of 24,000 escapes",) + one_text("a\\n\\\\" * 12000, "")
+    yield ("a text of 24,000 carriage returns",) + one_text("\\r" * 24000, "")
     yield ("a text of 15,000 numbers",) + one_text("1.5 " * 15000, "g\tmass\n")
     yield "3,600 times one metadata key", "meta\t0\t0\tk\t0\t0\tv\n" * 3600, b"", ""
     yield "a metadata value of 60 KB", "meta\t0\t0\tk\t0\t0\t" + "v w " * 15000 + "\n", b"", ""

@@ -14,7 +14,7 @@ VALUES = b"n r t".split()
 KEYS = {b"[mode]": 1, b"[define]": 1, b"[duplicate]": 2}
 DEFINES = {b"all": 1, b"default": 1, b"components": 2, b"ingredients": 2, b"steps": 3, b"text": 4}
 DUPLICATES = {b"new": 1, b"default": 1, b"reference": 2, b"ref": 2}
-LETTERS = {ord("\\"): b"\\", ord("t"): b"\t", ord("n"): b"\n"}
+LETTERS = {ord("\\"): b"\\", ord("t"): b"\t", ord("n"): b"\n", ord("r"): b"\r"}
 
 GOOD = [
     [b"meta", b"3", b"14", b"[duplicate]", b"15", b"19", b" ref"],
@@ -33,15 +33,21 @@ NUMBERS = [
     b"00", b"01", b"007", b"+1", b"1+", b" 1", b"1 ", b"1.5", b"1e3", b"0x10", b"a", b"1a", b"/", b":", b"1/", b"1:",
     b"-", b"--1", b"-0", b"-00", b"-01", b"-1", b"-9", b"-10", b"-32767", b"-32768", b"-32769", b"-65535", b"-65536",
     b"32766", b"32767", b"32768", b"32769", b"\xe2\x88\x921", b"\xd9\xa1", b"1\xd9\xa1",
+    b"1\r", b"\r1", b"1\\r", b"\\r1", b"-1\r", b"-\r1",
 ]
 ESCAPES = [
     b"", b"\\\\", b"\\t", b"\\n", b"\\", b"a\\", b"\\a", b"\\r", b"\\0", b"\\T", b"\\N", b"\\ ", b"a\\\\", b"a\\\\\\",
     b"\\\\\\\\", b"\\\\t", b"\\\\\\t", b"\\t\\n\\\\", b"x\\ty\\nz", b"12345678", b"123456789", b"1234567\\t", b"12345678\\t",
     b"\\t\\t\\t\\t\\t\\t\\t\\t", b"\\t\\t\\t\\t\\t\\t\\t\\t\\t", b"12345678\\", b"123456789\\x", b"\\nab\\", b"\r", b"a\rb", b"\x00", b"a\x00b",
+    b"\\R", b"\\\\r", b"\\\\\\r", b"\\r\\n", b"\\r\\", b"\\\r", b"\\\\\r", b"\\r\r", b"\r\\r", b"\r\r",
+    b"\\r\\r", b"\\r\\r\\r\\r\\r\\r\\r\\r", b"\\r\\r\\r\\r\\r\\r\\r\\r\\r", b"a\\rb\\tc\\nd\\\\e", b"caf\xc3\xa9\\r\xc3\xa9", b"caf\xc3\xa9\r\xc3\xa9",
 ]
+# a CR, spelled and bare, at these places of a field, and more after it or nothing
+ESCAPES += [b"a" * n + cr + after for n in (0, 6, 7, 8, 15, 16, 17, 31, 32) for cr in (b"\\r", b"\r") for after in (b"", b"bcdefghi")]
+
 DAMAGED = [
     b"caf\xc3\xa9", b"\xc3", b"\xa9", b"\xff", b"\xfe\xff", b"\xc0\xaf", b"\xed\xa0\x80", b"\xf4\x90\x80\x80", b"a\xc3\\t", b"\\\xc3\xa9", b"meta\xff",
-    b"\xef\xbb\xbfmeta", b"Meta", b"META", b"metas", b"met", b"meta ", b"text\r", b"\xe2\x82\xac\xe2\x82\xac\xe2\x82\xac", b"[define]\x00",
+    b"\xef\xbb\xbfmeta", b"Meta", b"META", b"metas", b"met", b"meta ", b"text\r", b"\rtext", b"text\\r", b"n\r", b"[mode]\r", b"ref\\r", b"\xe2\x82\xac\xe2\x82\xac\xe2\x82\xac", b"[define]\x00",
 ]
 
 
@@ -55,10 +61,12 @@ def sheet():
 
 
 def escape(text):
-    return text.replace(b"\\", b"\\\\").replace(b"\t", b"\\t").replace(b"\n", b"\\n")
+    return text.replace(b"\\", b"\\\\").replace(b"\t", b"\\t").replace(b"\n", b"\\n").replace(b"\r", b"\\r")
 
 
 def unescape(field):
+    if b"\r" in field:
+        return None
     text, i = b"", 0
     while i < len(field):
         if field[i] != ord("\\"):

@@ -34,6 +34,13 @@ LINES = [line.encode("utf-8") for line in [
     # escapes, and backslashes that escape nothing
     b"\\n\\t two\\\\eggs \\t\\n", b"\\t Two\\\\Eggs", b"two\\\\eggs", b"two\\eggs", b"\\", b"\\\\", b"\\\\\\", b"a\\", b"\\ \\x \\\xc3\xa9", b"\xc3\\n", b"\xe2\x80\\t",
     b"a\\t  \\t  b", b"A\\t \\t b", b"  a   b  ", b" A B ", b"\\N\\T", b"\\n\\T",
+    # CR, spelled and bare: no sheet has a bare one, and it reads as what it is
+    b"\\r", b"\r", b"\\r\\r", b"\r\r", b"\\r\r", b"\\R", b"\\\\r", b"\\\\\\r", b"\\\r", b"\\r\\", b"\\r\\n", b"\r\\n", b"\\r A\\r \\rB \\r", b"\r a\r \rb \r", b"\\r  a  \\r", b" \\r a", b"A\\rB", b"a\rb",
+    b"cr\xc3\xa8me\\r\xc3\xa9", b"CR\xc3\x88ME\r\xc3\x89", b"5\\rkg", b"5\rKG",
+    # an escape's letter beside a letter
+    b"a\\rb", b"arb", b"a\\rb", b"ARB", b"a\\\\rb", b"a\\rb", b"a\\nb", b"r\\rr", b"R\\rR", b"R\\RR", b"abcdefg\\r", b"abcdefgr", b"abcdefg\\r", b"ABCDEFG\\r", b"ABCDEFGR", b"abcdefgh\\r", b"ABCDEFGH\r",
+    b"12345678\\r\xc3\x9f", b"12345678\\rSS", b"1234567\\r\xc3\x9f", b"1234567\\rss", b"123456\\rK", b"123456\\r\xe2\x84\xaa", b"\\r\\r\\r\\rab", b"\\r\\r\\r\\rAB", b"\\r\\r\\r\\nAB",
+    b"./a\\r/b", b"./a\r/b", b".\\rb", b".\\\\rb", b"./\\rb", b"./\\r", b"..\\r/b", b"..\\\\\\rb", b"\\r./b",
     # paths
     b"./", b"./bread", b"../bread", b"./my/bread", b"./my\\\\bread", b".\\\\my\\\\bread", b"..\\\\bread", b".\\bread", b"./bread/", b"./ bread  and   butter", b".../x", b".bread/x", b". /x", b"./\\t/a\\n", b"..", b".", b"../..",
     b"\xff", b"\x80\xbf", b"bad \xc3", b"bad \xc3 bad", b"\xe2\x80", b"\xe2\x80\x20\x20\x83\xe2\x80\x83", b"\xf0\x9f\x8d", b" \xf0\x9f\x8d\x20 \x20",
@@ -44,6 +51,9 @@ LINES = [line.encode("utf-8") for line in [
 
 def text():
     lines = list(LINES)
+    # a CR, spelled and bare, at these places of a line, and more after it or nothing
+    for n in (7, 8, 15, 16, 17, 31, 32):
+        lines += [b"a" * n + cr + after for after in (b"", b"bcdefghi") for cr in (b"\\r", b"\r")]
     # each blank at both ends of a line and within it
     for c in sorted(IS_WHITE - {0x0A}):
         b = chr(c).encode("utf-8")
@@ -56,7 +66,7 @@ def text():
     return b"\n".join(lines) + b"\n"
 
 
-ESCAPES = {b"\\\\": 0x5C, b"\\t": 0x09, b"\\n": 0x0A}
+ESCAPES = {b"\\\\": 0x5C, b"\\t": 0x09, b"\\n": 0x0A, b"\\r": 0x0D}
 
 
 def chars(s):

@@ -97,7 +97,7 @@ pub const TEXT: &str = "abcdefghij";
 pub const UNITS: &str = "kg\tmass\ng\tmass\nl\tvolume\nmin\ttime\n";
 
 /// a case in the short form, with the text and the units of docs/DECISIONS.md
-fn short(flags: &str, name: &str, lines: &str) -> Case {
+pub fn short(flags: &str, name: &str, lines: &str) -> Case {
     let mut s = Short { next: 0 };
     let mut sheet = String::new();
     for l in lines.lines() {
@@ -107,13 +107,34 @@ fn short(flags: &str, name: &str, lines: &str) -> Case {
     Case { name: name.into(), room: ROOM, sheet: sheet.into_bytes(), text: TEXT.into(), units: UNITS.into(), flags: flags.into() }
 }
 
-fn raw(flags: &str, name: &str, sheet: &[u8], text: &[u8], units: &[u8]) -> Case {
+pub fn raw(flags: &str, name: &str, sheet: &[u8], text: &[u8], units: &[u8]) -> Case {
     Case { name: name.into(), room: ROOM, sheet: sheet.into(), text: text.into(), units: units.into(), flags: flags.into() }
 }
 
 /// with `|` for tab
-fn bars(flags: &str, name: &str, sheet: &str) -> Case {
+pub fn bars(flags: &str, name: &str, sheet: &str) -> Case {
     raw(flags, name, sheet.replace('|', "\t").as_bytes(), TEXT.as_bytes(), UNITS.as_bytes())
+}
+
+/// an ingredient of this name, as a sheet spells it
+pub fn named(name: &str, spelled: &str) -> Case {
+    bars("0", name, &format!("start|step\ningredient|0|1|0|1|{spelled}|-|-|-|.|0|0|-\nend|step\n"))
+}
+
+/// a text in which inline quantities are looked for
+pub fn inline(name: &str, text: &str) -> Case {
+    let mut c = short("2", name, "S");
+    c.sheet.extend(format!("text\t0\t1\t{}\nend\tstep\n", escape(text)).bytes());
+    c.units.extend(b"C\ttemperature\n");
+    c
+}
+
+/// one content for all that is trimmed
+pub fn trimmed(name: &str, content: &str) -> Case {
+    let mut c = short("0", name, "S");
+    let e = escape(content);
+    c.sheet.extend(format!("cookware\t0\t1\t0\t1\t{e}\t0\t1\t{e}\t-\t0\t1\t{e}\t.\t0\t0\nend\tstep\nsection\t0\t1\t{e}\nmeta\t0\t1\t{e}\t1\t2\t{e}\n").bytes());
+    c
 }
 
 const MODIFIERS: &[&str] = &[
@@ -132,9 +153,8 @@ pub fn paper() -> Vec<Case> {
         raw("7", "flags 7", b"", b"", b""),
         raw("8", "flags 8", b"", b"", b""),
     ];
-    let name = |n: &str| bars("0", &format!("name {n}"), &format!("start|step\ningredient|0|1|0|1|{}|-|-|-|.|0|0|-\nend|step\n", n.replace('\\', "\\\\")));
     for n in ["./", "./bread", "../bread", ".\\bread", "..\\a\\bread", "./a//b", "./ b", "./a/", ".bread", "bread/x", "...", ".//", "./a b/c", " ./x ", "a./b", ".", "../", "./.", "./..", "./a\\b/c", "..a/b"] {
-        out.push(name(n));
+        out.push(named(&format!("name {n}"), &escape(n)));
     }
     for t in ["5 10 kg", "1-2kg", "1.5.2 kg"] {
         let mut c = bars("2", &format!("inline {t}"), &format!("start|step\ntext|0|1|{t}\nend|step\n"));
@@ -174,6 +194,9 @@ pub fn decisions() -> Vec<Case> {
     }
     for (i, s) in ["warning|1\r\n", "start|step\ntext|0|0|a\r\nend|step\n", "\u{feff}warning|1\n", "section|0|1|\u{0}\u{2028}\u{feff}\n", "start|step\r\n", "section|0|1|a\r\n"].iter().enumerate() {
         add(bars("7", &format!("B4 {i}"), s));
+        if s.contains('\r') {
+            add(bars("7", &format!("B4 {i} spelled"), &s.replace('\r', "\\r")));
+        }
     }
     let t = |s: &[u8]| s.iter().map(|&b| if b == b'|' { b'\t' } else { b }).collect::<Vec<u8>>();
     for (i, s) in [
@@ -272,18 +295,12 @@ pub fn decisions() -> Vec<Case> {
         "1 kg 2 g", "1kg2kg 3 kg", "1\u{a0}kg", "1\u{200b}kg", "1\tkg\n2 kg", "-1.5kg-", "a-1kg", "1kg", "0kg", "12345678901234567890123456789012345 kg", "0.000 kg", "1 2 3 kg", "1 kg1 kg", "½ kg 2½kg", "1 g\u{308}",
         "x 1. kg y", "1.5kg", "(1 kg)", "1 (kg)", "1,5 kg", "1 K\u{212a}", "5 \u{1680} l \u{3000} 6 l", "9", "9 9 9 kg", "-", "--", "kg 1", "1 kg -2 kg --3 kg", "4\u{1f35e} kg", "4\u{1f35e}kg",
     ] {
-        let mut c = short("2", &format!("C2-C7 {t:?}"), "S");
-        c.sheet.extend(format!("text\t0\t1\t{}\nend\tstep\n", escape(t)).bytes());
-        c.units.extend(b"C\ttemperature\n");
-        add(c.clone());
+        add(inline(&format!("C2-C7 {t:?}"), t));
     }
     add(short("0", "C3", "S\n\" \nE"));
     add(short("2", "C3 inline", "S\n\" \nE"));
     for n in ["a \t  b", " a  b ", "\u{85}a\u{200b}", "\u{1680}\u{2000}a\u{202f}\u{205f}", "\u{180e}a\u{feff}", "a\u{3000}\u{3000}b", "\u{1c}a\u{1f}", "\u{b}a\u{c}", "  ", "a   b    c", "\u{2028}a\u{2029}", "a \u{a0} b"] {
-        let mut c = short("0", &format!("C7 {n:?}"), "S");
-        let e = escape(n);
-        c.sheet.extend(format!("cookware\t0\t1\t0\t1\t{e}\t0\t1\t{e}\t-\t0\t1\t{e}\t.\t0\t0\nend\tstep\nsection\t0\t1\t{e}\nmeta\t0\t1\t{e}\t1\t2\t{e}\n").bytes());
-        add(c);
+        add(trimmed(&format!("C7 {n:?}"), n));
     }
     for k in ["[mode]", "[define]", "[duplicate]", "[ mode ]", "[Mode]", "[]", "[mode", "[", "]", " [mode] ", "[mo  de]", "mode]", "[mode]x", "[[mode]]", "[mode]\u{a0}"] {
         for v in ["Text", " text ", "ref", "  "] {

@@ -122,11 +122,15 @@ impl Comparison {
         match answer {
             Ok(c) => {
                 self.counts.accepted += 1;
+                self.counts.returns.see_page(input.sheet, input.units, &c.page);
                 self.counts.without_recipe += c.recipe.is_none() as usize;
                 self.counts.longest = self.counts.longest.max(c.page.len());
                 self.counts.findings.iter_mut().zip(c.codes).for_each(|(a, n)| *a += n);
             }
-            Err(r) => self.counts.refused[r.0 as usize] += 1,
+            Err(r) => {
+                self.counts.refused[r.0 as usize] += 1;
+                self.counts.returns.see_refused(r.0, input.sheet);
+            }
         }
         self.rooms(Asked::Page, input, answer.as_ref().map(|c| &c.page[..]).map_err(refused))
     }
@@ -139,6 +143,7 @@ impl Comparison {
         match &formed {
             Ok(f) => {
                 self.counts.forms += 1;
+                self.counts.returns.see_form(input.sheet, &f.form);
                 self.counts.changed += (f.form != input.sheet) as usize;
                 self.counts.longer += (f.form.len() > input.sheet.len()) as usize;
                 self.counts.empty += f.form.is_empty() as usize;

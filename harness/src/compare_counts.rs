@@ -1,4 +1,5 @@
 //! What `compare` counts.
+use crate::returns;
 
 /// Calls of the library; of these with a room that is too small, just enough, or with work memory one short.
 #[derive(Clone, Copy, Default)]
@@ -46,6 +47,7 @@ pub struct Counts {
     pub refused_forms: [usize; 25],
     pub page_calls: Calls,
     pub form_calls: Calls,
+    pub returns: returns::Counts,
     /// sheets on which anything differed
     pub differences: usize,
     /// sheets on which the Rust side itself panicked in a way that no number stands for
@@ -77,6 +79,7 @@ impl Counts {
         self.held += o.held;
         self.page_calls.add(o.page_calls);
         self.form_calls.add(o.form_calls);
+        self.returns.add(&o.returns);
         self.differences += o.differences;
         self.uncaught += o.uncaught;
         self.kept.extend(o.kept);
@@ -98,6 +101,7 @@ impl Counts {
         println!("pages refused by number: {}", list(&self.refused[..20], 1));
         println!("findings by code: {}", list(&self.findings, 1));
         println!("parser findings: {}", self.findings[0]);
+        self.returns.print_pages();
         self.page_calls.print("page");
     }
 
@@ -109,6 +113,7 @@ impl Counts {
         println!("forms refused by numbers of the collection: {}", self.refused_forms[..20].iter().sum::<usize>());
         println!("forms refused by their own: {}", list(&self.refused_forms, 21));
         println!("forms collected again, and formed again: {}", self.held);
+        self.returns.print_forms();
         self.form_calls.print("form");
     }
 

@@ -14,7 +14,8 @@ const LETTERS: &[&[&str]] = &[
     &["s", "S", "ſ", "ß", "ẞ"],
     &["ж", "Ж", "я", "Я"],
     &["米", "水", "鹽"],
-    &["x", " ", "\\", "\t", "\n", "é", "e\u{301}"],
+    &["x", " ", "\\", "\t", "\n", "\r", "é", "e\u{301}"],
+    &["x", "X", "r", "R", "\r", "\\"],
     &["a", "b", "c", "d", "e", "f", "g", "h", "i", "j", "k", "l", "m", "n", "o", "p", "q", "r", "s", "t", "u", "v", "w", "y", "z"],
 ];
 
@@ -26,7 +27,7 @@ fn words(rng: &mut Rng, n: usize) -> Vec<String> {
 }
 
 fn metadata(rng: &mut Rng, n: usize) -> String {
-    let keys: Vec<_> = if rng.chance(50) { words(rng, n) } else { (0..n).map(|_| word(rng, LETTERS[6], 3)).collect() };
+    let keys: Vec<_> = if rng.chance(50) { words(rng, n) } else { (0..n).map(|_| word(rng, LETTERS[LETTERS.len() - 1], 3)).collect() };
     keys.iter()
         .map(|k| {
             let pad = *rng.one(&["", "", " ", "\u{a0}"]);

@@ -4,6 +4,7 @@ use crate::generate::{damaged, recipe, Rng};
 use crate::limits::{limit, LIMITS};
 use crate::pass::{collect, last_panic};
 use crate::plain::plain_form;
+use crate::returns;
 use crate::sheet::Refusal;
 use std::cell::Cell;
 
@@ -19,6 +20,7 @@ pub struct Counts {
     pub findings: [usize; 24],
     pub with_finding: [usize; 24],
     pub too_long: [usize; 2],
+    pub returns: returns::Counts,
     pub uncaught: usize,
 }
 
@@ -35,8 +37,12 @@ impl Counts {
 
     fn see_answers(&mut self, c: &Case) {
         match collect(&c.input()) {
-            Err(Refusal(n, _)) => self.refused[n as usize] += 1,
+            Err(Refusal(n, _)) => {
+                self.refused[n as usize] += 1;
+                self.returns.see_refused(n, &c.sheet);
+            }
             Ok(p) => {
+                self.returns.see_page(&c.sheet, &c.units, &p.page);
                 self.accepted += 1;
                 self.without_recipe += p.recipe.is_none() as usize;
                 self.too_long[0] += (p.page.len() > c.room) as usize;
@@ -49,6 +55,7 @@ impl Counts {
         match plain_form(&c.input()) {
             Err(Refusal(n, _)) => self.refused_plain[n as usize] += 1,
             Ok(f) => {
+                self.returns.see_form(&c.sheet, &f);
                 self.forms += 1;
                 self.changed_forms += (f != c.sheet) as usize;
                 self.too_long[1] += (f.len() > c.room) as usize;
@@ -66,6 +73,8 @@ impl Counts {
         println!("findings by code: {}", list(&self.findings));
         println!("pages with the code: {}", list(&self.with_finding));
         println!("parser findings: {}", self.findings[0]);
+        self.returns.print_pages();
+        self.returns.print_forms();
     }
 }
 

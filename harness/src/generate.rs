@@ -1,6 +1,7 @@
 //! Sheets by chance, from a seed: recipes with dense interactions, and damaged copies.
 use crate::case::{Case, ROOM};
 use crate::page::escape;
+use crate::returns;
 
 /// splitmix64
 pub struct Rng(pub u64);
@@ -42,6 +43,7 @@ const NAMES: &[&[&str]] = &[
     &["ᾳ", "ᾼ", "αι", "ΑΙ"],
     &["eau", "l'eau", "-", "."],
     &["ŉ", "ʼn", "ʼN"],
+    &["a\rb", "A\rB", "\ra\rb", "a\rB\r\n", "a\\rb", "arb", "./a\r/a\rb", ".\ra\rb"],
 ];
 
 const TEXTS: &[&str] = &[
@@ -49,25 +51,26 @@ const TEXTS: &[&str] = &[
     "007 kg 1. g", "3 ", "½ kg", "5٣kg", "٣ kg", "1 x2kg", "1x 2kg", "a\tb 2\tl", "line\nbreak 3\u{a0}kg", "back\\slash", "2 l2 l", "100g100g 7 g",
     "…", "-, ", "Ⅷ", "²", "\u{364}", "1kg\u{364} 2 kg", "1 \u{2003} kg", "12 (kg)", "0.25 l,", "9 KG", "4 cup", "1 2 3 kg", "a1kg", "-1kg", "1.kg", "1..2kg",
     "10 kgkg 3 kg", "5\u{85}min", "5\u{200b}min", "77 Maß",
+    "5\rkg", "mix\r\n2\r\nl", "\r", "-\r5 g\r",
 ];
 
 const KEYS: &[&str] = &[
     "[mode]", "[define]", "[duplicate]", " [mode] ", "[mode", "[]", "[x]", "[", "]", "title", "Title", " title", "servings", "a  b", "a b", "", "[Mode]", "[ mode ]", "time", "prep time",
-    "[duplicate]\u{a0}", "tags", "[du plicate]",
+    "[duplicate]\u{a0}", "tags", "[du plicate]", "[mode]\r", "a\rb",
 ];
 
 const VALUES: &[&str] = &[
-    "all", "default", "components", "ingredients", "steps", "text", "new", "reference", "ref", " ref ", "Text", "x", "", "  steps  ", "a  b", "10 min", "\u{2003}text",
+    "all", "default", "components", "ingredients", "steps", "text", "new", "reference", "ref", " ref ", "Text", "x", "", "  steps  ", "a  b", "10 min", "\u{2003}text", "\rtext\r\n",
 ];
 
 const UNITS: &[(&str, &str)] = &[
     ("kg", "mass"), ("g", "mass"), ("l", "volume"), ("cup", "volume"), ("min", "time"), ("C", "temperature"), ("cm", "length"), ("h", "time"), ("Maß", "volume"),
-    ("10", "mass"), ("kg.", "mass"), (" kg", "volume"), ("x y", "length"), ("°C", "temperature"),
+    ("10", "mass"), ("kg.", "mass"), (" kg", "volume"), ("x y", "length"), ("°C", "temperature"), ("a\rb", "mass"), ("\r", "time"),
 ];
 
-const UNIT_WORDS: &[&str] = &["kg", "g", "l", "cup", "min", "h", "pinch", "KG", "", " kg ", "cm", "C", "x  y", "x y", "Maß", "MASS"];
-const VALUE_WORDS: &[&str] = &["1", "2", "1/2", "1 1/2", "007", "0", "some", "", " 3 ", "1-2", "2.50", "a\tb"];
-const NOTES: &[&str] = &["chopped", "", " fine  ly ", "\u{e9}t\u{e9}", "a\\b"];
+const UNIT_WORDS: &[&str] = &["kg", "g", "l", "cup", "min", "h", "pinch", "KG", "", " kg ", "cm", "C", "x  y", "x y", "Maß", "MASS", "a\rb", "\rkg\r"];
+const VALUE_WORDS: &[&str] = &["1", "2", "1/2", "1 1/2", "007", "0", "some", "", " 3 ", "1-2", "2.50", "a\tb", "1\r2"];
+const NOTES: &[&str] = &["chopped", "", " fine  ly ", "\u{e9}t\u{e9}", "a\\b", "\rto\rtaste"];
 const MODIFIERS: &[&str] = &[
     ".", "@", "&", "@&", "-", "@-", "&-", "@&-", "?", "@?", "&?", "@&?", "-?", "@-?", "&-?", "@&-?", "+", "@+", "&+", "@&+", "-+", "@-+", "&-+", "@&-+", "?+",
     "@?+", "&?+", "@&?+", "-?+", "@-?+", "&-?+", "@&-?+",
@@ -81,6 +84,10 @@ struct Maker<'r> {
     /// spans of the text that is written (else by chance)
     true_spans: bool,
     plain_modifiers: usize,
+    /// how many percent of the contents are given a CR
+    returns: usize,
+    /// what ends a line of the text
+    end: &'static str,
 }
 
 type Span = (usize, usize);
@@ -108,6 +115,19 @@ impl Maker<'_> {
         (a, self.text.len())
     }
 
+    /// It, perhaps with a CR put in.
+    fn content(&mut self, s: &str) -> String {
+        if self.rng.chance(self.returns) {
+            return returns::with_return(self.rng, s);
+        }
+        s.to_string()
+    }
+
+    fn one_of(&mut self, of: &[&str]) -> String {
+        let s = *self.rng.one(of);
+        self.content(s)
+    }
+
     fn here(&self) -> Span {
         (self.text.len(), self.text.len())
     }
@@ -123,29 +143,28 @@ impl Maker<'_> {
     }
 
     fn amount(&mut self) -> String {
-        let unit = self.rng.chance(70).then(|| *self.rng.one(UNIT_WORDS));
-        let value = *self.rng.one(VALUE_WORDS);
+        let unit = if self.rng.chance(70) { Some(self.one_of(UNIT_WORDS)) } else { None };
+        let value = self.one_of(VALUE_WORDS);
         let start = self.text.len();
-        let v = self.write(value);
+        let v = self.write(&value);
         let unit = match unit {
             None => "-".to_string(),
             Some(u) => {
                 self.write("%");
-                let s = self.write(u);
-                self.put_text(s, u)
+                let s = self.write(&u);
+                self.put_text(s, &u)
             }
         };
         let q = self.span((start, self.text.len()));
         let v = self.span(v);
         let kind = *self.rng.one(&["n", "n", "n", "r", "t"]);
         let lock = if self.rng.chance(15) { "l" } else { "-" };
-        format!("{}\t{}\t{kind}\t{}\t{}\t{}\t{lock}\t{unit}", q.0, q.1, v.0, v.1, escape(value))
+        format!("{}\t{}\t{kind}\t{}\t{}\t{}\t{lock}\t{unit}", q.0, q.1, v.0, v.1, escape(&value))
     }
 
-    fn name(&mut self) -> &'static str {
+    fn name(&mut self) -> String {
         let i = self.rng.below(self.names.len());
-        let group = self.names[i];
-        group[self.rng.below(group.len())]
+        self.one_of(self.names[i])
     }
 
     fn component(&mut self, word: &str) {
@@ -165,13 +184,13 @@ impl Maker<'_> {
             inter = format!("{}\t{}\t{value}\t{a}\t{b}", self.rng.one(&["n", "r"]), self.rng.one(&["step", "section"]));
         }
         let name = self.name();
-        let s = self.write(name);
-        let name = self.put_text(s, name);
+        let s = self.write(&name);
+        let name = self.put_text(s, &name);
         let alias = if self.rng.chance(12) {
             self.write("|");
             let a = self.name();
-            let s = self.write(a);
-            self.put_text(s, a)
+            let s = self.write(&a);
+            self.put_text(s, &a)
         } else {
             "-".to_string()
         };
@@ -180,9 +199,9 @@ impl Maker<'_> {
         self.write("}");
         let note = if self.rng.chance(18) {
             self.write("(");
-            let n = *self.rng.one(NOTES);
-            let s = self.write(n);
-            let t = self.put_text(s, n);
+            let n = self.one_of(NOTES);
+            let s = self.write(&n);
+            let t = self.put_text(s, &n);
             self.write(")");
             t
         } else {
@@ -200,8 +219,8 @@ impl Maker<'_> {
         self.write("~");
         let name = if self.rng.chance(40) {
             let n = self.name();
-            let s = self.write(n);
-            self.put_text(s, n)
+            let s = self.write(&n);
+            self.put_text(s, &n)
         } else {
             "-".to_string()
         };
@@ -214,27 +233,27 @@ impl Maker<'_> {
     }
 
     fn text_line(&mut self) {
-        let t = *self.rng.one(TEXTS);
-        let s = self.write(t);
-        let t = self.put_text(s, t);
+        let t = self.one_of(TEXTS);
+        let s = self.write(&t);
+        let t = self.put_text(s, &t);
         self.line(&format!("text\t{t}"));
     }
 
     fn meta(&mut self, mode_only: bool) {
         let (k, v) = if mode_only || self.rng.chance(60) {
             let k = *self.rng.one(&["[mode]", "[mode]", "[define]", "[duplicate]", "[duplicate]"]);
-            let v = if k == "[duplicate]" { *self.rng.one(&["ref", "ref", "reference", " ref", "new", "default", "x"]) } else { *self.rng.one(&VALUES[..8]) };
-            (k, v)
+            let v = if k == "[duplicate]" { self.one_of(&["ref", "ref", "reference", " ref", "new", "default", "x"]) } else { self.one_of(&VALUES[..8]) };
+            (self.content(k), v)
         } else {
-            (*self.rng.one(KEYS), *self.rng.one(VALUES))
+            (self.one_of(KEYS), self.one_of(VALUES))
         };
         self.write(">> ");
-        let s = self.write(k);
-        let key = self.put_text(s, k);
+        let s = self.write(&k);
+        let key = self.put_text(s, &k);
         self.write(":");
-        let s = self.write(v);
-        let value = self.put_text(s, v);
-        self.write("\n");
+        let s = self.write(&v);
+        let value = self.put_text(s, &v);
+        self.write(self.end);
         self.line(&format!("meta\t{key}\t{value}"));
     }
 
@@ -263,16 +282,17 @@ impl Maker<'_> {
         }
         let end = if self.rng.chance(2) { "text" } else { kind };
         self.line(&format!("end\t{end}"));
-        self.write("\n\n");
+        self.write(self.end);
+        self.write(self.end);
     }
 
     fn section(&mut self) {
         let l = if self.rng.chance(70) {
             self.write("== ");
-            let n = *self.rng.one(&["Dough", "", "  ", "Filling  one", "Straße"]);
-            let s = self.write(n);
-            let t = self.put_text(s, n);
-            self.write("\n");
+            let n = self.one_of(&["Dough", "", "  ", "Filling  one", "Straße"]);
+            let s = self.write(&n);
+            let t = self.put_text(s, &n);
+            self.write(self.end);
             format!("section\t{t}")
         } else {
             "section\t-".to_string()
@@ -299,7 +319,9 @@ pub fn recipe(rng: &mut Rng, blocks: usize, items: usize) -> Case {
     let names = (0..1 + rng.below(4)).map(|_| *rng.one(NAMES)).collect();
     let true_spans = rng.chance(75);
     let plain_modifiers = *rng.one(&[30, 60, 85]);
-    let mut m = Maker { rng, text: String::new(), sheet: String::new(), names, true_spans, plain_modifiers };
+    let returns = *rng.one(&[0, 0, 0, 0, 0, 4, 4, 20]);
+    let end = if rng.chance(15) { "\r\n" } else { "\n" };
+    let mut m = Maker { rng, text: String::new(), sheet: String::new(), names, true_spans, plain_modifiers, returns, end };
     if m.rng.chance(70) {
         m.meta(true);
     }
@@ -372,7 +394,7 @@ fn change_field(rng: &mut Rng, sheet: &mut Vec<u8>) {
         _ => {
             const BAD: &[&str] = &[
                 "65536", "65535", "00", "01", "+1", "-0", "-1", "99999999999999999999", "", "-", "\\", "\\x", "a\\", "&@", ".&", "&&", "step", "text", "n", "0",
-                "\u{2212}1", "1 ", " 1", "0x1", "1.0", "٣", "\r", "32768", "-32768", "-32769", "\u{feff}", ".",
+                "\u{2212}1", "1 ", " 1", "0x1", "1.0", "٣", "\r", "a\rb", "\\r", "step\\r", "\\R", "32768", "-32768", "-32769", "\u{feff}", ".",
             ];
             fields[f] = rng.one(BAD).as_bytes().to_vec();
         }
@@ -411,7 +433,7 @@ fn flip(rng: &mut Rng, bytes: &mut Vec<u8>) {
 pub fn damaged(rng: &mut Rng, case: &Case) -> Case {
     let mut c = case.clone();
     for _ in 0..1 + rng.below(2) {
-        match rng.below(16) {
+        match rng.below(17) {
             0..=4 => shuffle_line(rng, &mut c.sheet),
             5..=9 => change_field(rng, &mut c.sheet),
             10..=11 => flip(rng, &mut c.sheet),
@@ -421,6 +443,7 @@ pub fn damaged(rng: &mut Rng, case: &Case) -> Case {
                 let twice = c.units.split_inclusive(|&b| b == b'\n').next().unwrap_or(b"").to_vec();
                 c.units.extend(twice);
             }
+            15 => returns::damage(rng, &mut c),
             _ => c.flags = rng.one(&["8", "9", "", "7\n", "07", "x", "\u{ff17}", "6"]).as_bytes().to_vec(),
         }
     }

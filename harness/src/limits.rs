@@ -12,9 +12,10 @@ pub const LIMITS: &[(&str, usize)] = &[
     ("form-bytes", 65536), ("form-findings", 1024), ("number", 65535),
 ];
 
-/// Limits of the plain form that the fixed list does not try; the first two are tried there as well.
+/// Limits of the plain form; the last two are not tried in the fixed list.
 #[cfg(any(test, feature = "library"))]
-pub const FORM_LIMITS: &[(&str, usize)] = &[("form-bytes", 65536), ("form-findings", 1024), ("form-references", 65536), ("form-findings-end", 1024)];
+pub const FORM_LIMITS: &[(&str, usize)] =
+    &[("form-bytes", 65536), ("form-findings", 1024), ("form-returns", 65536), ("form-references", 65536), ("form-findings-end", 1024)];
 
 /// A sheet with `n` of what a limit counts.
 pub fn limit(name: &str, n: usize) -> Case {
@@ -52,6 +53,14 @@ pub fn limit(name: &str, n: usize) -> Case {
             let k = (n - 30) / (4000 + 13);
             let rest = n - 20 - k * (4000 + 13) - 10;
             format!("meta\t0\t1\t[mode]\t1\t2\ttext\nstart\tstep\n{}text\t0\t0\t{}\nend\tstep\n", line.repeat(k), "a".repeat(rest))
+        }
+        "form-returns" => {
+            // as "form-bytes" with CR; the last line is longer by what is left, and ends in one
+            c.text = "\r".repeat(2000).into_bytes();
+            let line = "timer\t0\t2000\t-\t-\n";
+            let k = (n - 35) / (4000 + 13);
+            let rest = n - 35 - k * (4000 + 13);
+            format!("meta\t0\t1\t[mode]\t1\t2\ttext\nstart\tstep\n{}end\tstep\nsection\t0\t1\t{}\\r\n", line.repeat(k), "a".repeat(rest))
         }
         "form-findings" => format!(
             "meta\t0\t1\t[mode]\t1\t2\tsteps\n{}{}",

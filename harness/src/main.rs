@@ -17,7 +17,9 @@ mod page;
 mod pass;
 mod plain;
 mod repeat;
+mod returns;
 mod sheet;
+mod wishes;
 
 use case::{Case, ROOM};
 use std::io::Write;
@@ -58,7 +60,8 @@ fn batch(file: &str) -> Vec<u8> {
 /// Writes the fixed list.
 fn list() {
     std::fs::create_dir_all(answers()).unwrap();
-    let all = [cases::paper(), cases::decisions(), generate::chosen(240, 2026), cases::limits()];
+    let (decisions, limits) = ([cases::decisions(), wishes::decisions()].concat(), [cases::limits(), wishes::limits()].concat());
+    let all = [cases::paper(), decisions, generate::chosen(240, 2026), limits];
     let mut counts = fuzz::Counts::default();
     for (file, cases) in FILES.iter().zip(all) {
         let mut out = Vec::new();

@@ -4,10 +4,10 @@ use cooklang::model::*;
 use cooklang::quantity::{IncompatibleUnits, Quantity, Value};
 
 pub fn escape(s: &str) -> String {
-    if !s.bytes().any(|b| matches!(b, b'\\' | b'\t' | b'\n')) {
+    if !s.bytes().any(|b| matches!(b, b'\\' | b'\t' | b'\n' | b'\r')) {
         return s.to_string();
     }
-    s.replace('\\', "\\\\").replace('\t', "\\t").replace('\n', "\\n")
+    s.replace('\\', "\\\\").replace('\t', "\\t").replace('\n', "\\n").replace('\r', "\\r")
 }
 
 fn optional(s: Option<&str>) -> String {

@@ -292,6 +292,7 @@ pub fn collect<'a>(input: &Input<'a>) -> Result<Collected<'a>, Refusal> {
         codes[page.finding(d)] += 1;
     }
     let out = page.out;
+    debug_assert!(!out.contains(&b'\r'));
     let mut modes: Vec<_> = seen.iter().map(|s| s.mode).collect();
     modes.truncate(lines.len());
     Ok(Collected { lines, text, recipe, modes, page: out, above, codes })

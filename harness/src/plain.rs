@@ -143,6 +143,7 @@ pub struct Formed {
 /// running are asserted.
 pub fn plain_form_of(input: &Input, c: &Collected) -> Result<Formed, Refusal> {
     let form = form_of(c, input.flags)?;
+    debug_assert!(!form.contains(&b'\r'));
     let again = Input { sheet: &form, text: input.text, units: input.units, flags: input.flags };
     if form.len() > 65536 {
         return Err(Refusal(24, 0));

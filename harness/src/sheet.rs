@@ -85,22 +85,24 @@ fn number(s: &str, most: u64) -> Read<u64> {
     (n <= most).then_some(n)
 }
 
+/// A content; a bare CR is ill-formed, as is a backslash that stands for nothing.
 pub fn unescape(s: &str) -> Read<String> {
-    if !s.as_bytes().contains(&b'\\') {
+    if !s.bytes().any(|b| matches!(b, b'\\' | b'\r')) {
         return Some(s.to_string());
     }
     let mut out = String::new();
     let mut cs = s.chars();
     while let Some(c) = cs.next() {
-        if c != '\\' {
-            out.push(c);
-            continue;
-        }
-        out.push(match cs.next()? {
-            '\\' => '\\',
-            't' => '\t',
-            'n' => '\n',
-            _ => return None,
+        out.push(match c {
+            '\\' => match cs.next()? {
+                '\\' => '\\',
+                't' => '\t',
+                'n' => '\n',
+                'r' => '\r',
+                _ => return None,
+            },
+            '\r' => return None,
+            c => c,
         });
     }
     Some(out)
@@ -272,6 +274,7 @@ pub fn read_sheet<'a>(sheet: &'a [u8], text: &str) -> Result<Vec<Line<'a>>, Refu
                 return Err(Refusal(10, line));
             }
         }
+        debug_assert!(!bytes.contains(&b'\r'));
         out.push(Line { bytes, event });
     }
     Ok(out)
