@@ -33,7 +33,8 @@ pub fn limit(name: &str, n: usize) -> Case {
         "findings" => "warning\t1\n".repeat(n),
         "findings-end" => format!("{}meta\t0\t1\ta\t1\t2\tb\n", "warning\t1\n".repeat(n - 1)),
         "lines" => format!("error\t1\n{}", "warning\t1\n".repeat(n - 1)),
-        "sheet-bytes" => format!("section\t0\t1\t{}\n", "a".repeat(n - 13)),
+        // the last of them spell a CR, which counts two
+        "sheet-bytes" => format!("section\t0\t1\t{}\\r\n", "a".repeat(n - 15)),
         "text-bytes" => {
             c.text = "a".repeat(n).into_bytes();
             format!("section\t0\t{}\ta\n", n.min(65535))
