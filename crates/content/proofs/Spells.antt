@@ -8,13 +8,13 @@ use native.Mathlib.Omega.{arith}
 use lib.Dec.{eqb}
 use lib.ListN.{length, take, drop, length-append}
 use lib.Seq.{take-append_seam, drop-append_seam}
-use borrow.Author.Tests.{ne_eqb, eqb-true, eqb-false}
+use borrow.Author.Tests.{eqb-true, eqb-false}
 use Rattle.rules.specs.Basic.{pick, tab, lf, is_some}
 use Rattle.rules.specs.Sheet.{escaped, unescape, escape_char, escape, Without}
 use Rattle.rules.specs.Utf8.{char_or, followers, is_utf8, encode_char, encode, Scalar}
 use Rattle.rules.proofs.Basics.{pick_either, by_order, no_truth}
 use Rattle.rules.proofs.Begins.{one, begins_more, first_some, size_1}
-use Rattle.rules.proofs.Fields.{escape_unescape, unescape_escape, escape_no_tab, escape_no_lf}
+use Rattle.rules.proofs.Fields.{char_past, escape_unescape, unescape_escape, escape_no_tab, escape_no_lf}
 use Rattle.rules.proofs.Scalars.{Scalars, scalars_none, scalars_more, chars_scalars}
 use Rattle.rules.proofs.Encodes.{Spelled, spelled, encode_1, encode_chars, chars_encode, utf8_encode}
 use Rattle.rules.proofs.Escaped.{Highs, highs_none, highs_more, encode_highs, utf8_escape, utf8_unescape}
@@ -113,10 +113,9 @@ low_char c h =
         }
 
 pub escape_highs : {w : List ℕ} → Highs w → escape w ≡ w
-unfolding escape escape_char
+unfolding escape
 escape_highs highs_none = refl
-escape_highs (highs_more {a} {s} h g) =
-    rw (ne_eqb a 92 (λ e. omega arith), ne_eqb a 9 (λ e. omega arith), ne_eqb a 10 (λ e. omega arith), ne_eqb a 13 (λ e. omega arith), escape_highs g)
+escape_highs (highs_more {a} {s} h g) = rw (char_past a (omega arith) (λ e. omega arith), escape_highs g)
 
 high_char : {c : ℕ} {w : List ℕ} → Highs w → Spelled c w → Written c w
 high_char {c} {w} h g = go h g.is

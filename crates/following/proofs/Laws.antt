@@ -6,7 +6,7 @@ use mathlib.Core.Bool.{false}
 use Rattle.std.specs.Prelude.{Option}
 use native.Mathlib.Omega.{arith}
 use lib.Dec.{ltb}
-use borrow.Author.Tests.{ne_eqb, ltb-true}
+use borrow.Author.Tests.{ltb-true}
 use lib.ListN.{length, length-reverse_aux}
 use native.Mathlib.Nat.{add_comm}
 use Rattle.rules.specs.Input.{Context}
@@ -23,6 +23,7 @@ use Rattle.rules.specs.State.{State, first_state, Metadata, Kept, Tables, no_blo
 use Rattle.rules.specs.Pass.{is_open, is_empty_section, close_section, on_event, ended}
 use Rattle.rules.specs.Page.{lines_onto, table_lines, section_lines, timer_line, inline_line, finding_line, span_word}
 use Rattle.rules.proofs.Basics.{pick_either, no_truth}
+use Rattle.rules.proofs.Fields.{char_past}
 use Rattle.following.specs.declared.Part.{Part}
 use Rattle.following.specs.declared.Part.TheVariants.{Sections, Timers, Inline, Old}
 use Rattle.following.specs.declared.Follow.{Follow}
@@ -129,9 +130,9 @@ plain_both plain_none h = h
 plain_both (plain_more a b g) h = plain_more a b (plain_both g h)
 
 plain_escape : {s : List ℕ} → Plain s → escape s ≡ s
-unfolding escape escape_char
+unfolding escape
 plain_escape plain_none = refl
-plain_escape (plain_more {c} {s} a b g) = rw (ne_eqb c 92 (λ q. omega arith), ne_eqb c 9 (λ q. omega arith), ne_eqb c 10 (λ q. omega arith), plain_escape g)
+plain_escape (plain_more {c} {s} a b g) = rw (char_past c (omega arith) (λ q. omega arith), plain_escape g)
 
 plain_digits : (k n : ℕ) → Plain (digits k n)
 unfolding digits

@@ -11,10 +11,10 @@ use lib.ListN.{length, get_or, take, drop, set, take-append-drop, drop_of_length
 use lib.Seq.{drop-cons, drop-drop, take-add, take-suc, take_all}
 use Rattle.rules.specs.Sheet.{escape_char, escape}
 use Rattle.rules.proofs.Basics.{and_left, and_right, and_both, by_order, and_assoc, and_true}
+use Rattle.rules.proofs.Fields.{char_past}
 use Rattle.output.specs.Put.{Put}
 use Rattle.output.specs.Runs.{is_plain, all_plain, PlainTo}
 use Rattle.output.proofs.Puts.{put_seq, one_in, put_none}
-use Rattle.output.proofs.Texts.{char_plain}
 
 -- ---- all bytes asked
 module _ (f : List ℕ) (i : ℕ) where
@@ -32,7 +32,7 @@ unfolding is_plain
 plain_char c e =
     let l : 13 < c = ltb-true 13 c (and_left (ltb 13 c) (not (eqb c 92)) e) in
     let n : c ≡ 92 → ⊥ = eqb-false c 92 (not-true (eqb c 92) (and_right (ltb 13 c) (not (eqb c 92)) e)) in
-    char_plain c n (λ q. omega arith) (λ q. omega arith) (λ q. omega arith)
+    char_past c l n
 
 plain_front : (xs t : List ℕ) → all_plain xs ≡ true → escape (xs ++ t) ≡ xs ++ escape t
 unfolding all_plain escape

@@ -10,7 +10,7 @@ use borrow.Author.Tests.{ltb-true, eqb-true, eqb-false, ne_eqb}
 use Rattle.rules.specs.Utf8.{is_utf8, encode_char, encode, Scalar}
 use Rattle.rules.specs.Sheet.{escaped, bare, onto, unescape, escape_char, escape}
 use Rattle.rules.proofs.Basics.{pick_either, by_order, no_some, some_inj}
-use Rattle.rules.proofs.Fields.{unescape_one, bare_is}
+use Rattle.rules.proofs.Fields.{unescape_one, bare_is, char_past}
 use Rattle.rules.proofs.Chars.{well_utf8, utf8_none, utf8_ascii}
 use Rattle.rules.proofs.Scalars.{Scalars, scalars_none, scalars_more, chars_scalars}
 use Rattle.rules.proofs.Encodes.{spelled, spelled_well, encode_1, encode_chars}
@@ -37,14 +37,10 @@ utf8_char c t h = rw (well_utf8 (encode_char c ++ t), well_utf8 t) (spelled_well
 
 -- ---- escape
 
-escape_high : (a : ℕ) → 128 ≤ a → escape_char a ≡ a ∷ []
-unfolding escape_char
-escape_high a h = rw (ne_eqb a 92 (λ e. omega arith), ne_eqb a 9 (λ e. omega arith), ne_eqb a 10 (λ e. omega arith), ne_eqb a 13 (λ e. omega arith))
-
 escape_highs : {w : List ℕ} (t : List ℕ) → Highs w → escape (w ++ t) ≡ w ++ escape t
 unfolding escape
 escape_highs t highs_none = refl
-escape_highs t (highs_more {a} {s} h g) = rw (escape_high a h, escape_highs t g)
+escape_highs t (highs_more {a} {s} h g) = rw (char_past a (omega arith) (λ e. omega arith), escape_highs t g)
 
 escape_ascii : (c : ℕ) (t : List ℕ) → c < 128 → is_utf8 (escape_char c ++ t) ≡ is_utf8 t
 unfolding escape_char

@@ -1,11 +1,12 @@
 -- Escapes, fields and lines: what is written reads back, and what was read writes back.
-use Prim.Native.Nat.{ℕ}
+use Prim.Native.Nat.{ℕ, ◌<◌}
 use mathlib.Core.Path.{◌≡◌, refl, sym, ap, ◌∙◌}
 use mathlib.Core.List.{List, [], ◌∷◌, ◌++◌, append_assoc}
 use mathlib.Core.Bool.{true, false}
 use Rattle.std.specs.Prelude.{Option, None, Some}
 use lib.Dec.{eqb}
-use borrow.Author.Tests.{eqb-true}
+use native.Mathlib.Omega.{arith}
+use borrow.Author.Tests.{eqb-true, ne_eqb}
 use Rattle.rules.specs.Basic.{tab, lf, cr, backslash, on_first, split_at, join_by, each}
 use Rattle.rules.specs.Sheet.{Without, without_none, without_more, Lines, last, more, on_line, lines, fields_of, escaped, bare, onto, unescape, escape_char, escape, line_of}
 use Rattle.rules.proofs.Basics.{pick_either, no_some, some_inj}
@@ -103,6 +104,10 @@ escape_no_cr = escape_without (record { slash = refl; letter_t = refl; letter_n 
 char_itself : (c : ℕ) → eqb c backslash ≡ false → eqb c tab ≡ false → eqb c lf ≡ false → eqb c cr ≡ false → escape_char c ≡ c ∷ []
 unfolding escape_char
 char_itself c p q r s = rw (p, q, r, s)
+
+-- past CR only the backslash is escaped
+pub char_past : (c : ℕ) → 13 < c → (c ≡ 92 → ⊥) → escape_char c ≡ c ∷ []
+char_past c h n = char_itself c (ne_eqb c 92 n) (ne_eqb c 9 (λ e. omega arith)) (ne_eqb c 10 (λ e. omega arith)) (ne_eqb c 13 (λ e. omega arith))
 
 -- a text with nothing to escape is its own escaped form
 pub escape_plain : {s : List ℕ} → Without backslash s → Without tab s → Without lf s → Without cr s → escape s ≡ s
