@@ -150,29 +150,26 @@ spelled_slash cs = spell_ascii 47 cs (omega arith) ∙ (unfold escape escape_cha
 spelled_blank : (cs : List ℕ) → spell (32 ∷ cs) ≡ 32 ∷ spell cs
 spelled_blank cs = spell_ascii 32 cs (omega arith) ∙ (unfold escape escape_char in refl)
 
--- c is spelled by a letter, and neither is the letter a separator or a blank nor c
-record BySpelled (c d : ℕ) : Type 0 where
-  low : c < 128
+-- a control character that is spelled by a letter
+record ByLetter (c d : ℕ) : Type 0 where
+  low : c < 32
+  high : 92 < d
   is : escape (c ∷ []) ≡ 92 ∷ d ∷ []
-  no_back : c ≡ 92 → ⊥
-  no_blank : c ≡ 32 → ⊥
-  letter_back : d ≡ 92 → ⊥
-  letter_blank : d ≡ 32 → ⊥
 
-by_t : BySpelled 9 116
+by_t : ByLetter 9 116
 unfolding escape escape_char
-by_t = record { low = omega arith; is = refl; no_back = λ e. omega arith; no_blank = λ e. omega arith; letter_back = λ e. omega arith; letter_blank = λ e. omega arith }
+by_t = record { low = omega arith; high = omega arith; is = refl }
 
-by_n : BySpelled 10 110
+by_n : ByLetter 10 110
 unfolding escape escape_char
-by_n = record { low = omega arith; is = refl; no_back = λ e. omega arith; no_blank = λ e. omega arith; letter_back = λ e. omega arith; letter_blank = λ e. omega arith }
+by_n = record { low = omega arith; high = omega arith; is = refl }
 
-by_r : BySpelled 13 114
+by_r : ByLetter 13 114
 unfolding escape escape_char
-by_r = record { low = omega arith; is = refl; no_back = λ e. omega arith; no_blank = λ e. omega arith; letter_back = λ e. omega arith; letter_blank = λ e. omega arith }
+by_r = record { low = omega arith; high = omega arith; is = refl }
 
-spelled_letter : {c d : ℕ} → BySpelled c d → (cs : List ℕ) → spell (c ∷ cs) ≡ 92 ∷ d ∷ spell cs
-spelled_letter {c} b cs = spell_ascii c cs b.low ∙ rw b.is
+spelled_letter : {c d : ℕ} → ByLetter c d → (cs : List ℕ) → spell (c ∷ cs) ≡ 92 ∷ d ∷ spell cs
+spelled_letter {c} b cs = spell_ascii c cs (omega (arith, b.low)) ∙ rw b.is
 
 each_other : (c : ℕ) (cs : List ℕ) → (c ≡ 92 → ⊥) → each as_slash (c ∷ cs) ≡ c ∷ each as_slash cs
 unfolding each as_slash
@@ -208,9 +205,11 @@ module _ (p : ℕ) (cs : List ℕ) (i : path_bytes 0 (spell cs) ≡ spell (each 
           rw (retain_keeps p 32 cs (eqb-false p 32 e), each_other 32 (retain 32 cs) (λ q. omega arith), spelled_blank (each as_slash (retain 32 cs)))
           (ap (λ (x : List ℕ). 32 ∷ x) j)
 
-  turn_letter : {c d : ℕ} → BySpelled c d → path_bytes p (spell (c ∷ cs)) ≡ spell (each as_slash (retain p (c ∷ cs)))
+  turn_letter : {c d : ℕ} → ByLetter c d → path_bytes p (spell (c ∷ cs)) ≡ spell (each as_slash (retain p (c ∷ cs)))
   turn_letter {c} {d} b =
-      rw (spelled_letter b cs, path_escape p d (spell cs) b.letter_back b.letter_blank, i, retain_other p c cs b.no_blank, each_other c (retain 0 cs) b.no_back)
+      let l = b.low in
+      let h = b.high in
+      rw (spelled_letter b cs, path_escape p d (spell cs) (λ e. omega arith) (λ e. omega arith), i, retain_other p c cs (λ e. omega arith), each_other c (retain 0 cs) (λ e. omega arith))
       (sym (spelled_letter b (each as_slash (retain 0 cs))))
 
   turn_path : (c : ℕ) → Scalar c → path_bytes p (spell (c ∷ cs)) ≡ spell (each as_slash (retain p (c ∷ cs)))
