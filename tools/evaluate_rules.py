@@ -4,7 +4,7 @@
 Has the checker evaluate the definitions of crates/rules on cases of crates/replay/data: for each case two theorems by `refl`,
 what `collect` prints and what `plain_form` prints, each against the bytes that stand in the list. The theorems are
 written to a throw-away repository under target/evaluate, which holds a copy of crates/rules. Each case is reported as
-equal, different, or too large for the checker's limits on steps and memory; the exit status is 1 if one differs."""
+equal, different, or too large for the checker's limits on steps, memory and stack; the exit status is 1 if one differs."""
 import argparse
 import os
 import re
@@ -20,6 +20,8 @@ ANSWERS = os.path.join(HERE, "crates", "replay", "data")
 FILES = [name + ".txt" for name in replay.FILES]
 PARTS = ("sheet", "text", "units", "flags", "collect", "plain")
 WORK = os.path.join(HERE, "target", "evaluate")
+# what the checker says where a theorem is too large for it
+BOUNDS = ("step limit", "memory limit", "deep recursion")
 
 
 class Case:
@@ -147,7 +149,7 @@ def main():
             for part, line, message in re.findall(r"(Part\d+)\.antt:(\d+):\d+: error: (.*)", log):
                 at = [n for start, n in places[part] if start <= int(line)]
                 if at:
-                    found[at[-1]] = "too large" if "step limit" in message or "memory limit" in message else "different"
+                    found[at[-1]] = "too large" if any(of in message for of in BOUNDS) else "different"
             if not found:
                 print(log)
                 sys.exit("the checker stopped without naming a theorem")
