@@ -10,7 +10,7 @@ use lib.Dec.{eqb, ltb}
 use lib.ListN.{length, get_or}
 use borrow.Author.Tests.{eqb-true}
 use Rattle.rules.specs.Basic.{pick, within}
-use Rattle.rules.specs.Ranges.{◌to◌, ascending, FoldLine, ◌folds_to◌, lookup, keys_ascend}
+use Rattle.rules.specs.Ranges.{ascending, FoldLine, ◌folds_to◌, lookup, keys_ascend}
 use Rattle.rules.specs.Alphabetic.{alphabetic}
 use Rattle.rules.specs.Numeric.{numeric}
 use Rattle.rules.specs.WhiteSpace.{white_space}

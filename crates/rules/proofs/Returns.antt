@@ -18,7 +18,7 @@ use Rattle.rules.specs.State.{State, Outcome, recipe, no_recipe, refusal}
 use Rattle.rules.specs.Page.{lines_onto, table_lines, meta_line, item_line, block_lines, section_lines, ingredient_line, cookware_line, timer_line, inline_line, finding_line, recipe_part, recipe_page, failed_page}
 use Rattle.rules.specs.Plain.{Traced, plain_events, plain_fault, sheet_of}
 use Rattle.rules.specs.Input.{Input, with_sheet, context_of, Context}
-use Rattle.rules.specs.Answer.{Answer, answered, declined, events, read_sheet, events_of, Lent, is_short, hand_out, written, collection, collect_answer, gives17, form_answer, fault_or, unless_faulty, form_of, plain_of, plain_answer, printed}
+use Rattle.rules.specs.Answer.{Answer, answered, declined, events_of, Lent, is_short, hand_out, written, collection, collect_answer, gives17, form_answer, fault_or, unless_faulty, form_of, plain_of, plain_answer, printed}
 use Rattle.rules.specs.Returns.{Returns}
 use Rattle.rules.proofs.Basics.{pick_either, no_truth}
 use Rattle.rules.proofs.Fields.{without_both, without_left, unescape_escape, escape_unescape, escape_no_cr, unescape_no_cr, join_no_cr}

@@ -10,7 +10,6 @@ use Rattle.rules.specs.Unicode.{fold_name}
 use Rattle.rules.specs.Modes.{Modes, first_modes, is_steps, is_reference}
 use Rattle.rules.specs.Model.{Kind, either, with_ref, Amount, Relation, Source, Entry, set_relation, set_modifiers}
 use Rattle.rules.specs.Reference.{Earlier, same_name_in, same_name_of, entry_at, is_explicit, treat_as_reference, refers_to, as_referring}
-use Rattle.rules.specs.State.{recipe}
 use Rattle.rules.specs.Components.{found_same}
 use Rattle.rules.specs.Plain.{is_last, implicit_fault}
 use Rattle.rules.proofs.Basics.{no_some, no_truth, some_inj}

@@ -1,6 +1,6 @@
 -- Wish 3, "Carriage returns from the editors' machines": what reading a field and writing a field promise of a CR, and what follows
 -- for lines, sheets, pages and plain forms.
-use Rattle.std.specs.Prelude.{ℕ, ◌≡◌, List, [], ◌∷◌, true, eqb, Option, None, Some}
+use Rattle.std.specs.Prelude.{ℕ, ◌≡◌, List, [], ◌∷◌, true, eqb, None, Some}
 use Rattle.rules.specs.Basic.{tab, lf, cr, backslash, any}
 use Rattle.rules.specs.Sheet.{Without, unescape, escape}
 use Rattle.rules.specs.Event.{Event}
