@@ -27,7 +27,7 @@ module _ (f : List ℕ) (i : ℕ) where
   all_end {p} e h = sym (and_true p) ∙ (rw (drop_of_length-le f h) at e)
 
 -- ---- such bytes stand for themselves
-plain_char : (c : ℕ) → is_plain c ≡ true → escape_char c ≡ c ∷ []
+pub plain_char : (c : ℕ) → is_plain c ≡ true → escape_char c ≡ c ∷ []
 unfolding is_plain
 plain_char c e =
     let l : 13 < c = ltb-true 13 c (and_left (ltb 13 c) (not (eqb c 92)) e) in

@@ -74,10 +74,21 @@ fn put_pair(out: &mut [u8], at: usize, letter: u8) -> usize
     put_byte(out, n, letter)
 }
 
+// Whether a byte is seen at a glance to need no escape.
+fn is_plain(c: u8) -> bool
+    ensures { result ≡ is_plain c }
+{
+    (13 < c) & (c != b'\\')
+}
+
 // One byte of a field, escaped.
 fn put_escaped_byte(out: &mut [u8], at: usize, c: u8) -> usize
     ensures { Put (escape_char c) out.old at out.new result }
 {
+    // most bytes
+    if is_plain(c) {
+        return put_byte(out, at, c);
+    }
     match c {
         b'\\' => put_pair(out, at, b'\\'),
         b'\t' => put_pair(out, at, b't'),
@@ -96,13 +107,6 @@ fn put_each_escaped(out: &mut [u8], at: usize, f: &[u8]) -> usize
         n = put_escaped_byte(out, n, c);
     }
     if n <= out.len() { n } else { out.len() + 1 }
-}
-
-// Whether a byte is seen at a glance to need no escape.
-fn is_plain(c: u8) -> bool
-    ensures { result ≡ is_plain c }
-{
-    (13 < c) & (c != b'\\')
 }
 
 // Whether all bytes are; every byte is asked, so that the machine can ask many at once.

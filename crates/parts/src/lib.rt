@@ -248,12 +248,6 @@ fn read_content(line: &[u8], at: usize) -> Option<(Part, usize)>
     let mut i = past_plain(line, at);
     while i < line.len() {
         let c = line[i];
-        if c == b'\t' {
-            return Some((Part { from: at, to: i }, i + 1));
-        }
-        if c == b'\r' {
-            return None;
-        }
         if c == b'\\' {
             let j = i + 1;
             if line.len() <= j {
@@ -261,7 +255,16 @@ fn read_content(line: &[u8], at: usize) -> Option<(Part, usize)>
             }
             sheet::letter(line[j])?;
             i = j + 1;
+        } else if b'\r' < c {
+            // most bytes
+            i += 1;
         } else {
+            if c == b'\t' {
+                return Some((Part { from: at, to: i }, i + 1));
+            }
+            if c == b'\r' {
+                return None;
+            }
             i += 1;
         }
     }

@@ -28,6 +28,11 @@ returns-in_err-letter c = rw c.from_residual.ensures (content_wrong c.loop-i.inv
 pub loop-i-preserved-then-c-eq92 : goal.loop-i-preserved-then-c-eq92
 loop-i-preserved-then-c-eq92 c = content_escaped c.loop-i.invariant c.loop-i-test.true c.if-c-eq92.true c.if-line-j.false c.letter.ensures c.in_ok-letter.was
 
+pub loop-i-preserved-then-c-gt13 : goal.loop-i-preserved-then-c-gt13
+loop-i-preserved-then-c-gt13 c =
+    let h = c.if-c-gt13.true in
+    content_plain c.loop-i.invariant c.loop-i-test.true (λ e. omega arith) c.if-c-eq92.false (λ e. omega arith)
+
 pub loop-i-preserved : goal.loop-i-preserved
 loop-i-preserved c = content_plain c.loop-i.invariant c.loop-i-test.true c.if-c-eq9.false c.if-c-eq92.false c.if-c-eq13.false
 
