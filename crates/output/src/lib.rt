@@ -81,14 +81,10 @@ fn is_plain(c: u8) -> bool
     (13 < c) & (c != b'\\')
 }
 
-// One byte of a field, escaped.
-fn put_escaped_byte(out: &mut [u8], at: usize, c: u8) -> usize
+// A byte that is not seen at a glance to need no escape.
+fn put_escape(out: &mut [u8], at: usize, c: u8) -> usize
     ensures { Put (escape_char c) out.old at out.new result }
 {
-    // most bytes
-    if is_plain(c) {
-        return put_byte(out, at, c);
-    }
     match c {
         b'\\' => put_pair(out, at, b'\\'),
         b'\t' => put_pair(out, at, b't'),
@@ -96,6 +92,16 @@ fn put_escaped_byte(out: &mut [u8], at: usize, c: u8) -> usize
         b'\r' => put_pair(out, at, b'r'),
         _ => put_byte(out, at, c),
     }
+}
+
+// One byte of a field, escaped.
+fn put_escaped_byte(out: &mut [u8], at: usize, c: u8) -> usize
+    ensures { Put (escape_char c) out.old at out.new result }
+{
+    if is_plain(c) {
+        return put_byte(out, at, c);
+    }
+    put_escape(out, at, c)
 }
 
 // A field, escaped byte by byte: for short fields.
@@ -160,7 +166,7 @@ pub fn put_escaped(out: &mut [u8], at: usize, f: &[u8]) -> usize
     let mut e = plain_end(f, 0);
     while e < f.len() {
         let m = put_bytes(out, n, &f[i..e]);
-        n = put_escaped_byte(out, m, f[e]);
+        n = put_escape(out, m, f[e]);
         i = e + 1;
         e = plain_end(f, i);
     }

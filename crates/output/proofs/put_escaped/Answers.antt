@@ -11,7 +11,7 @@ pub loop-e-preserved : goal.loop-e-preserved
 loop-e-preserved c =
     let inv = c.loop-e.invariant in
     let run = step _ (turn (run_cut inv.1) inv.0) c.put_bytes-m.ensures in
-    (step _ (turn (escape_more _ _ c.loop-e-test.true) run) c.put_escaped_byte-n.ensures, c.plain_end-e-in-loop-e.ensures)
+    (step _ (turn (escape_more _ _ c.loop-e-test.true) run) c.put_escape-n.ensures, c.plain_end-e-in-loop-e.ensures)
 
 pub returns : goal.returns
 returns c =
