@@ -214,8 +214,12 @@ fn past_sixteens(line: &[u8], at: usize) -> usize
     requires { at ≤ length line.now }
     ensures { Lacking is_stop line.now at result }
 {
+    if line.len() < 16 {
+        return at;
+    }
+    let last = line.len() - 16;
     let mut i = at;
-    while 16 <= line.len() - i {
+    while i <= last {
         if !sheet::sixteen_plain(line, i) {
             return i;
         }
@@ -230,7 +234,11 @@ fn past_plain(line: &[u8], at: usize) -> usize
     ensures { Lacking is_stop line.now at result }
 {
     let mut i = past_sixteens(line, at);
-    while 8 <= line.len() - i {
+    if line.len() < 8 {
+        return i;
+    }
+    let last = line.len() - 8;
+    while i <= last {
         if !sheet::eight_plain(line, i) {
             return i;
         }

@@ -54,14 +54,21 @@ fn row_word(units: &UnitList, codes: &mut Codes, sheet: &[u8], at: u32, end: u32
 }
 
 // Whether the unit of a field is written like the new one, without the white space around them.
+fn same_trimmed(a: &[u8], new: &NewUnit) -> bool
+    ensures { result ≡ eq_list (trimmed_in a.now) (trimmed_in new.now.field.now) }
+{
+    let y = text::text_outer_trimmed(a);
+    content::same_parts(y, new.trimmed)
+}
+
+// The same; most are written alike.
 fn same_written(a: &[u8], new: &NewUnit) -> bool
     ensures { result ≡ eq_list (trimmed_in a.now) (trimmed_in new.now.field.now) }
 {
     if sheet::same_bytes(a, new.field) {
         return true;
     }
-    let y = text::text_outer_trimmed(a);
-    content::same_parts(y, new.trimmed)
+    same_trimmed(a, new)
 }
 
 // Whether the unit of an earlier ingredient's line, whose word is w, is the new one.
@@ -77,7 +84,7 @@ fn same_unit(old: &[u8], w: u32, new: &NewUnit) -> bool
     match recall::unit_in(old) {
         UnitPlace::NoQuantity => false,
         UnitPlace::NoUnit => false,
-        UnitPlace::At(p) => same_written(parts::part_of(old, p), new),
+        UnitPlace::At(p) => same_trimmed(parts::part_of(old, p), new),
     }
 }
 

@@ -26,4 +26,4 @@ pub returns-in-NoUnit : goal.returns-in-NoUnit
 returns-in-NoUnit c = same_unitless c.unit_in.ensures c.in-NoUnit.is
 
 pub returns-in-At : goal.returns-in-At
-returns-in-At c = same_at c.unit_in.ensures c.in-At.is c.part_of.ensures c.same_written-in-At.ensures
+returns-in-At c = same_at c.unit_in.ensures c.in-At.is c.part_of.ensures c.same_trimmed.ensures
