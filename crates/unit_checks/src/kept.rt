@@ -54,21 +54,14 @@ fn row_word(units: &UnitList, codes: &mut Codes, sheet: &[u8], at: u32, end: u32
 }
 
 // Whether the unit of a field is written like the new one, without the white space around them.
-fn same_trimmed(a: &[u8], new: &NewUnit) -> bool
-    ensures { result ≡ eq_list (trimmed_in a.now) (trimmed_in new.now.field.now) }
-{
-    let y = text::text_outer_trimmed(a);
-    content::same_parts(y, new.trimmed)
-}
-
-// The same; most are written alike.
 fn same_written(a: &[u8], new: &NewUnit) -> bool
     ensures { result ≡ eq_list (trimmed_in a.now) (trimmed_in new.now.field.now) }
 {
     if sheet::same_bytes(a, new.field) {
         return true;
     }
-    same_trimmed(a, new)
+    let y = text::text_outer_trimmed(a);
+    content::same_parts(y, new.trimmed)
 }
 
 // Whether the unit of an earlier ingredient's line, whose word is w, is the new one.
@@ -76,16 +69,18 @@ fn same_unit(old: &[u8], w: u32, new: &NewUnit) -> bool
     requires { (is_of_kind ingredient (parse_line old.now) ≡ true) × (16 ≤ w → UnitPlaced old.now w) }
     ensures { SameUnit old.now new.now.field.now result }
 {
-    if 16 <= w {
+    let u = if 16 <= w {
         let from = (w / 65536) as usize;
         let to = (w % 65536) as usize;
-        return same_written(&old[from..to], new);
-    }
-    match recall::unit_in(old) {
-        UnitPlace::NoQuantity => false,
-        UnitPlace::NoUnit => false,
-        UnitPlace::At(p) => same_trimmed(parts::part_of(old, p), new),
-    }
+        &old[from..to]
+    } else {
+        match recall::unit_in(old) {
+            UnitPlace::NoQuantity => return false,
+            UnitPlace::NoUnit => return false,
+            UnitPlace::At(p) => parts::part_of(old, p),
+        }
+    };
+    same_written(u, new)
 }
 
 // Whether the line of the row i draws nothing beside a new unit.

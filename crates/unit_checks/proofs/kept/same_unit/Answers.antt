@@ -2,22 +2,19 @@ use native.Mathlib.Omega.{arith}
 use Rattle.unit_checks.proofs.Codes.{same_absent, same_unitless, same_at, same_placed}
 use Rattle.unit_codes.specs.Codes.{start_in, end_in}
 use Rattle.unit_checks.proofs.kept.same_unit.Goals as goal
+use Rattle.unit_checks.proofs.kept.same_unit.Goals.{then-w-ge16, else-w-ge16+in-At}
 
-pub slice_bounds-same_written-count : goal.slice_bounds-same_written-count
+pub slice_bounds-u-count : goal.slice_bounds-u-count
 unfolding start_in end_in
-slice_bounds-same_written-count c = let u = c.requires.1 c.if-w-ge16.true in omega (arith, u.order, u.ends)
+slice_bounds-u-count c = let u = c.requires.1 c.if-w-ge16.true in omega (arith, u.order, u.ends)
 
-pub slice_bounds-same_written-start : goal.slice_bounds-same_written-start
+pub slice_bounds-u-start : goal.slice_bounds-u-start
 unfolding start_in end_in
-slice_bounds-same_written-start c = let u = c.requires.1 c.if-w-ge16.true in omega (arith, u.order, u.ends)
+slice_bounds-u-start c = let u = c.requires.1 c.if-w-ge16.true in omega (arith, u.order, u.ends)
 
-pub slice_bounds-same_written-end : goal.slice_bounds-same_written-end
+pub slice_bounds-u-end : goal.slice_bounds-u-end
 unfolding start_in end_in
-slice_bounds-same_written-end c = let u = c.requires.1 c.if-w-ge16.true in omega (arith, u.order, u.ends)
-
-pub returns-then-w-ge16 : goal.returns-then-w-ge16
-unfolding start_in end_in
-returns-then-w-ge16 c = same_placed (c.requires.1 c.if-w-ge16.true) c.same_written.ensures
+slice_bounds-u-end c = let u = c.requires.1 c.if-w-ge16.true in omega (arith, u.order, u.ends)
 
 pub returns-in-NoQuantity : goal.returns-in-NoQuantity
 returns-in-NoQuantity c = same_absent c.unit_in.ensures c.in-NoQuantity.is
@@ -25,5 +22,10 @@ returns-in-NoQuantity c = same_absent c.unit_in.ensures c.in-NoQuantity.is
 pub returns-in-NoUnit : goal.returns-in-NoUnit
 returns-in-NoUnit c = same_unitless c.unit_in.ensures c.in-NoUnit.is
 
-pub returns-in-At : goal.returns-in-At
-returns-in-At c = same_at c.unit_in.ensures c.in-At.is c.part_of.ensures c.same_trimmed.ensures
+pub returns : goal.returns
+unfolding start_in end_in
+returns c =
+    elim c.if-w-ge16.branch [
+      | then-w-ge16 w ↦ same_placed (c.requires.1 w.if-w-ge16.true) (rw w.u-is at c.same_written.ensures)
+      | else-w-ge16+in-At w ↦ same_at w.unit_in.ensures w.in-At.is w.part_of.ensures (rw w.u-is at c.same_written.ensures)
+    ]
