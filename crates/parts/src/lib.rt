@@ -234,11 +234,7 @@ fn past_plain(line: &[u8], at: usize) -> usize
     ensures { Lacking is_stop line.now at result }
 {
     let mut i = past_sixteens(line, at);
-    if line.len() < 8 {
-        return i;
-    }
-    let last = line.len() - 8;
-    while i <= last {
+    while 8 <= line.len() - i {
         if !sheet::eight_plain(line, i) {
             return i;
         }

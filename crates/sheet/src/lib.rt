@@ -93,12 +93,8 @@ fn past_sixteens(s: &[u8], at: usize, b: u8) -> usize
     requires { at ≤ length s.now }
     ensures { Lacking (eqb b) s.now at result }
 {
-    if s.len() < 16 {
-        return at;
-    }
-    let last = s.len() - 16;
     let mut i = at;
-    while i <= last {
+    while 16 <= s.len() - i {
         if !sixteen_lack(s, i, b) {
             return i;
         }
@@ -116,11 +112,7 @@ pub fn past_lacking(s: &[u8], at: usize, b: u8) -> usize
         return at;
     }
     let mut i = past_sixteens(s, at, b);
-    if s.len() < 8 {
-        return i;
-    }
-    let last = s.len() - 8;
-    while i <= last {
+    while 8 <= s.len() - i {
         if !eight_lack(s, i, b) {
             return i;
         }
