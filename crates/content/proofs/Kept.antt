@@ -51,7 +51,7 @@ ascii_code : (a : ℕ) (s : List ℕ) → a < 128 → char_of (a ∷ s) ≡ char
 unfolding char_of char_or followers
 ascii_code a s h = let k : a ≤ 127 = omega arith in rw (first_some (one {s = s} k), size_1 a k)
 
--- what an escape stands for
+-- a code point that no escape stands for
 pub record Unescaped (b : ℕ) : Type 0 where
   pub no92 : b ≡ 92 → ⊥
   pub no9 : b ≡ 9 → ⊥

@@ -70,7 +70,7 @@ unfolding escape unescape onto
 unescape_escape [] = refl
 unescape_escape (c ∷ s) = char_read c (escape s) ∙ rw (unescape_escape s)
 
--- a byte that neither is written by an escape nor stands for itself
+-- a byte that no escape is written with, and that is not left as it stands
 record Spelled (b : ℕ) : Type 0 where
   slash : eqb 92 b ≡ false
   letter_t : eqb 116 b ≡ false
