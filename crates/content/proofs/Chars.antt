@@ -5,13 +5,11 @@ use mathlib.Core.List.{List, [], ◌∷◌}
 use Rattle.std.specs.Prelude.{Option, None, Some}
 use native.Mathlib.Numerals.{add-one}
 use native.Mathlib.Omega.{arith}
-use lib.Dec.{eqb}
 use lib.ListN.{length, get_or, drop, length-drop, drop_of_length-le}
 use lib.Seq.{drop-drop, drop-cons}
 use borrow.Author.Tests.{ne_eqb}
 use Rattle.rules.specs.Sheet.{escaped}
 use Rattle.rules.specs.Utf8.{size_of, first_of, char_or, followers, chars_from, chars, Scalar}
-use Rattle.rules.proofs.Basics.{pick_either, no_some}
 use Rattle.rules.proofs.Escaped.{escaped_ascii}
 use Rattle.rules.proofs.Begins.{begins, first_some, one, size_1}
 use Rattle.rules.proofs.Chars.{skip_chars, fits, chars_ascii}

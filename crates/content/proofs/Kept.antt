@@ -58,6 +58,7 @@ pub record Unescaped (b : ℕ) : Type 0 where
   pub no10 : b ≡ 10 → ⊥
   pub no13 : b ≡ 13 → ⊥
 
+-- what an escape stands for
 pair_codes : (d b : ℕ) → Unescaped b → (pair_in (escaped d)).code ≡ b → ⊥
 unfolding escaped pair_in
 pair_codes d b n =

@@ -1,15 +1,15 @@
 -- A field is the spelling of its content, and of no other.
-use Prim.Native.Nat.{ℕ, ◌+◌, ◌≤◌, ◌<◌}
+use Prim.Native.Nat.{ℕ, ◌≤◌, ◌<◌}
 use mathlib.Core.Path.{◌≡◌, refl, sym, ap, ◌∙◌}
 use mathlib.Core.List.{List, [], ◌∷◌, ◌++◌, append-nil, append_assoc}
-use mathlib.Core.Bool.{Bool, true, false}
+use mathlib.Core.Bool.{true}
 use Rattle.std.specs.Prelude.{Option, None, Some}
 use native.Mathlib.Omega.{arith}
 use lib.Dec.{eqb}
 use lib.ListN.{length, take, drop, length-append}
 use lib.Seq.{take-append_seam, drop-append_seam}
 use borrow.Author.Tests.{eqb-true, eqb-false}
-use Rattle.rules.specs.Basic.{pick, tab, lf, is_some}
+use Rattle.rules.specs.Basic.{tab, lf, is_some}
 use Rattle.rules.specs.Sheet.{escaped, unescape, escape_char, escape, Without}
 use Rattle.rules.specs.Utf8.{char_or, followers, is_utf8, encode_char, encode, Scalar}
 use Rattle.rules.proofs.Basics.{pick_either, by_order, no_truth}

@@ -1,5 +1,5 @@
 -- One turn of the search over the bytes of a text.
-use Prim.Native.Nat.{ℕ, ◌+◌, ◌-◌, ◌≤◌, ◌<◌}
+use Prim.Native.Nat.{ℕ, ◌≤◌, ◌<◌}
 use mathlib.Core.Path.{◌≡◌, refl, sym, ap, ◌∙◌}
 use mathlib.Core.Bool.{true, false, ◌&&◌}
 use mathlib.Core.List.{List, [], ◌∷◌, ◌++◌}
@@ -15,7 +15,7 @@ use Rattle.content.specs.Parts.{Field}
 use Rattle.content.proofs.Chars.{content_first, no_content}
 use Rattle.content.proofs.Spells.{content_append, field_append, field_none}
 use Rattle.rules.specs.Units.{NamedUnit, find_unit}
-use Rattle.rules.specs.Inline.{front, behind, is_no_digit, is_digit_or_point, points, is_number, sign, text_if_any, try_unit, inline_pieces}
+use Rattle.rules.specs.Inline.{front, behind, is_no_digit, is_digit_or_point, points, is_number, text_if_any, try_unit, inline_pieces}
 use Rattle.rules.proofs.Basics.{by_order}
 use Rattle.inline.specs.declared.Span.{Span}
 use Rattle.inline.specs.Scans.{is_not_white, part, Front, SignAt, UnitPart}

@@ -1,11 +1,10 @@
 -- A line's writer that puts a text is one that may be handed on.
 use Prim.Native.Nat.{ℕ}
 use mathlib.Core.List.{List}
-use lib.ListN.{drop}
 use Rattle.std.specs.Borrow.{MutBor}
 use Rattle.std.specs.Fn.{Once, FnOnceTakesAtMut, FnOnceReturnsAtMut}
 use Rattle.output.specs.Put.{Put}
-use Rattle.output.specs.Writes.{Writer, Written}
+use Rattle.output.specs.Writes.{Writer}
 use Rattle.output.proofs.Puts.{put_most}
 
 module _ {F : Type 0} {g : Once F (MutBor (List ℕ) × Unit {0}) (ℕ × (MutBor (List ℕ) × Unit {0}))} {f : F} where

@@ -1,5 +1,4 @@
 use native.Mathlib.Omega.{arith}
-use Prim.Native.Nat.{◌-◌}
 use Rattle.content.proofs.Chars.{content_step}
 use Rattle.content.proofs.Paths.{separating, parts_here, parts_not, separated}
 use Rattle.content.proofs.last_separator.Goals as goal

@@ -1,4 +1,3 @@
-use Prim.Native.Nat.{◌-◌}
 use mathlib.Core.Path.{refl}
 use Rattle.content.proofs.Compare.{comparing, content_on, chars_step, plain_content, plain_chars, plain_on, compare_on, compare_differ, compare_longer, compare_end, content_ending, chars_ending}
 use Rattle.content.proofs.same_chars.Goals as goal

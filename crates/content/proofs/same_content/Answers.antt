@@ -1,4 +1,3 @@
-use Prim.Native.Nat.{◌-◌}
 use mathlib.Core.Path.{refl}
 use Rattle.content.proofs.Compare.{comparing, kept_step, chars_step, plain_kept, plain_chars, plain_on, compare_on, compare_differ, compare_longer, compare_end, kept_ending, chars_ending}
 use Rattle.content.proofs.same_content.Goals as goal

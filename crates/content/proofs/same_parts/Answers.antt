@@ -1,5 +1,4 @@
 use native.Mathlib.Omega.{arith}
-use Prim.Native.Nat.{◌-◌}
 use Rattle.content.specs.Contents.{kept_in}
 use Rattle.content.proofs.Compare.{comparing, same_reading, kept_step, compare_on, compare_differ, compare_longer, compare_end, kept_ending}
 use Rattle.content.proofs.same_parts.Goals as goal

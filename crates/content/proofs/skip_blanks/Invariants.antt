@@ -1,4 +1,3 @@
-use lib.ListN.{length}
 use Rattle.content.proofs.Kept.{Skipping}
 use Rattle.content.proofs.skip_blanks.Given as goal
 

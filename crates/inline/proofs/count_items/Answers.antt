@@ -1,5 +1,5 @@
 use native.Mathlib.Omega.{arith}
-use Prim.Native.Nat.{◌+◌, ◌-◌}
+use Prim.Native.Nat.{◌+◌}
 use mathlib.Core.Path.{◌≡◌}
 use Rattle.inline.proofs.Items.{counting_start, counting_end, counting_fits, counting_less, counting_more, items_few}
 use Rattle.inline.proofs.count_items.Goals as goal

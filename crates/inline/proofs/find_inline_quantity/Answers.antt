@@ -1,5 +1,4 @@
 use native.Mathlib.Omega.{arith}
-use Prim.Native.Nat.{◌-◌}
 use Rattle.inline.proofs.Turns.{sought_start, turn_none, turn_last, turn_less, turn_points, turn_unknown, turn_found}
 use Rattle.inline.proofs.Lists.{along_first, along_end, along_linked, along_few, along_less, along_hit, along_on}
 use Rattle.inline.proofs.find_inline_quantity.Goals as goal

@@ -1,5 +1,4 @@
 use native.Mathlib.Omega.{arith}
-use Prim.Native.Nat.{◌-◌}
 use Rattle.inline.proofs.Scans.{going_start, going_stop, going_on, going_end, stops_at, goes_by}
 use Rattle.inline.proofs.Wide.{wide_passed}
 use Rattle.rules.specs.Inline.{is_no_digit}

@@ -1,9 +1,7 @@
-use Prim.Native.Nat.{◌-◌}
 use borrow.Author.Tests.{not-true, not-false}
 use mathlib.Core.Path.{sym, ◌∙◌}
 use Rattle.inline.proofs.Wide.{wide_stops}
 use Rattle.inline.proofs.Scans.{going_start, going_stop, going_on, going_end}
-use Rattle.rules.specs.Inline.{is_digit_or_point}
 use Rattle.inline.proofs.number_end.Goals as goal
 
 pub loop-i-init : goal.loop-i-init

@@ -1,5 +1,4 @@
 use native.Mathlib.Omega.{arith}
-use Prim.Native.Nat.{◌-◌}
 use Rattle.content.proofs.Chars.{content_step}
 use Rattle.inline.proofs.Scans.{pointed_start, pointed_end, point_next, other_next}
 use Rattle.inline.proofs.points.Goals as goal

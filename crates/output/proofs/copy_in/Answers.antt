@@ -1,4 +1,3 @@
-use Prim.Native.Nat.{◌-◌}
 use Rattle.output.proofs.Runs.{copy_start, copy_turn, copy_end}
 use Rattle.output.proofs.copy_in.Goals as goal
 

@@ -1,4 +1,3 @@
-use lib.ListN.{length}
 use Rattle.output.specs.Runs.{PlainTo}
 use Rattle.output.proofs.plain_end.Given as goal
 

@@ -1,5 +1,4 @@
 use native.Mathlib.Omega.{arith}
-use Prim.Native.Nat.{◌-◌}
 use Rattle.output.proofs.Runs.{run_none, run_piece}
 use Rattle.output.proofs.plain_pieces.Goals as goal
 

@@ -1,4 +1,3 @@
-use Prim.Native.Nat.{◌-◌}
 use Rattle.output.proofs.Puts.{starts, turn, step, ends_put}
 use Rattle.output.proofs.Texts.{escape_more}
 use Rattle.output.proofs.Runs.{run_cut, run_last}

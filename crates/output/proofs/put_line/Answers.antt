@@ -1,8 +1,7 @@
 use native.Mathlib.Omega.{arith}
-use Prim.Native.Nat.{◌+◌, ◌-◌, ◌≤◌, ◌^◌, ◌<◌}
-use mathlib.Core.Path.{◌≡◌, refl, sym}
-use mathlib.Core.List.{List}
-use lib.ListN.{length, take, drop, length-drop}
+use Prim.Native.Nat.{◌+◌, ◌^◌, ◌<◌}
+use mathlib.Core.Path.{refl}
+use lib.ListN.{length, length-drop}
 use Rattle.output.proofs.Puts.{put_past, put_rest, whole_rest}
 use Rattle.output.proofs.put_line.Goals as goal
 

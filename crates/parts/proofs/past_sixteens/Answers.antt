@@ -1,4 +1,4 @@
-use Rattle.std.proofs.Common.{◌-◌, arith}
+use Rattle.std.proofs.Common.{arith}
 use Rattle.sheet.proofs.Runs.{lacking_none, lacking_on}
 use Rattle.parts.proofs.past_sixteens.Goals as goal
 

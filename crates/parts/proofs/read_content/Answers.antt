@@ -1,4 +1,4 @@
-use Rattle.std.proofs.Common.{◌-◌, arith}
+use Rattle.std.proofs.Common.{arith}
 use Rattle.rules.specs.Read.{read_content, content_of}
 use Rattle.parts.proofs.Leaves.{leaf_past}
 use Rattle.parts.proofs.Bytes.{at_tab, at_end_lem}

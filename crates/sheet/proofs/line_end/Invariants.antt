@@ -1,4 +1,3 @@
-use lib.ListN.{length}
 use Rattle.sheet.proofs.Scans.{Scan}
 use Rattle.sheet.proofs.line_end.Given as goal
 

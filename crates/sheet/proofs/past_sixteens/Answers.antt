@@ -1,5 +1,4 @@
 use native.Mathlib.Omega.{arith}
-use Prim.Native.Nat.{◌-◌}
 use Rattle.sheet.proofs.Runs.{lacking_on}
 use Rattle.sheet.proofs.past_sixteens.Goals as goal
 

@@ -1,6 +1,6 @@
 use Prim.Native.Nat.{◌≤◌}
 use mathlib.Core.Path.{◌≡◌}
-use lib.ListN.{length, drop}
+use lib.ListN.{drop}
 use Rattle.rules.specs.Sheet.{digits_from, at_most, number_up_to}
 use Rattle.sheet.proofs.read_up_to.Given as goal
 

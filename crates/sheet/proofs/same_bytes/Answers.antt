@@ -1,4 +1,3 @@
-use Prim.Native.Nat.{◌-◌}
 use mathlib.Core.Path.{refl}
 use Rattle.sheet.proofs.Tests.{eq_length, eq_same, eq_other, eq_end}
 use Rattle.sheet.proofs.same_bytes.Goals as goal

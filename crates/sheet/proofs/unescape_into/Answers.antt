@@ -1,5 +1,4 @@
 use native.Mathlib.Omega.{arith}
-use Prim.Native.Nat.{◌-◌}
 use Rattle.rules.proofs.Basics.{no_truth}
 use Rattle.sheet.proofs.Texts.{letter_follows, plain_on, letter_there, letter_on, starts_on, ill_formed, no_room, done}
 use Rattle.sheet.proofs.unescape_into.Goals as goal

@@ -1,5 +1,4 @@
 use native.Mathlib.Omega.{arith}
-use Prim.Native.Nat.{◌-◌}
 use Rattle.sheet.proofs.Texts.{step_plain_lem, step_ill, step_cut, step_wrong, step_escaped, step_none, len_ill, len_on, len_start, len_end}
 use Rattle.sheet.proofs.unescaped_len.Goals as goal
 

@@ -1,6 +1,4 @@
 use native.Mathlib.Omega.{arith}
-use Prim.Native.Nat.{◌-◌}
-use Rattle.rules.specs.Unicode.{is_alphanumeric}
 use Rattle.content.proofs.Chars.{content_step}
 use Rattle.text.proofs.Trims.{seeking, seek_end, seek_found, seek_on}
 use Rattle.text.proofs.has_alphanumeric.Goals as goal

@@ -1,5 +1,4 @@
 use native.Mathlib.Omega.{arith}
-use Prim.Native.Nat.{◌-◌}
 use Rattle.text.proofs.Singles.{stay_none, to_end, past_blank, two_blanks, stay_end}
 use Rattle.text.proofs.is_single.Goals as goal
 

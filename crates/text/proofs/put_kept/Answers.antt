@@ -1,4 +1,3 @@
-use Prim.Native.Nat.{◌-◌}
 use mathlib.Core.Path.{refl}
 use Rattle.output.proofs.Puts.{starts, turn, step, ends_in, ends_out}
 use Rattle.text.proofs.Writes.{retain_goes, retain_stays, retain_none}

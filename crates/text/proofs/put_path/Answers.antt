@@ -1,5 +1,4 @@
 use native.Mathlib.Omega.{arith}
-use Prim.Native.Nat.{◌-◌}
 use Rattle.output.proofs.Puts.{starts, turn, step, ends_in, ends_out}
 use Rattle.text.proofs.Paths.{back_within, path_two, path_goes, path_stays, path_end}
 use Rattle.text.proofs.put_path.Goals as goal

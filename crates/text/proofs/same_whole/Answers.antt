@@ -1,5 +1,4 @@
 use native.Mathlib.Omega.{arith}
-use Prim.Native.Nat.{◌-◌}
 use Rattle.fronts.proofs.Seams.{facing_seam}
 use Rattle.text.proofs.Turns.{facing, facing_answer, facing_on, facing_rest}
 use Rattle.text.proofs.same_whole.Goals as goal

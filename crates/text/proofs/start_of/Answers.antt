@@ -1,4 +1,3 @@
-use Prim.Native.Nat.{◌-◌}
 use Rattle.text.proofs.Trims.{starting, start_end, start_here, start_on}
 use Rattle.text.proofs.start_of.Goals as goal
 

@@ -1,4 +1,3 @@
-use Prim.Native.Nat.{◌-◌}
 use Rattle.text.proofs.Trims.{ending, end_here, end_on, end_moves}
 use Rattle.text.proofs.ends.forward_end.Goals as goal
 

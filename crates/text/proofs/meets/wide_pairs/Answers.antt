@@ -1,5 +1,4 @@
 use native.Mathlib.Omega.{arith}
-use Prim.Native.Nat.{◌-◌}
 use Rattle.fronts.proofs.Seams.{seam_none, seam_on}
 use Rattle.text.proofs.meets.wide_pairs.Goals as goal
 
