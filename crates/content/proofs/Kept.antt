@@ -5,7 +5,6 @@ use mathlib.Core.List.{List, [], ◌∷◌}
 use mathlib.Core.Bool.{and-false}
 use Rattle.std.specs.Prelude.{Option}
 use native.Mathlib.Omega.{arith}
-use lib.Dec.{eqb}
 use lib.ListN.{length, get_or, drop}
 use lib.Seq.{drop-cons}
 use borrow.Author.Tests.{ne_eqb}
@@ -13,7 +12,8 @@ use Rattle.rules.specs.Basic.{blank}
 use Rattle.rules.specs.Sheet.{escaped}
 use Rattle.rules.specs.Text.{retain}
 use Rattle.rules.specs.Utf8.{char_or, followers}
-use Rattle.rules.proofs.Basics.{pick_either, by_order}
+use Rattle.rules.proofs.Basics.{by_order}
+use Rattle.rules.proofs.Fields.{escaped_cases}
 use Rattle.rules.proofs.Begins.{one, first_some, size_1}
 use Rattle.rules.proofs.Ascii.{char_beyond}
 use Rattle.utf8.specs.declared.Char.{Char}
@@ -60,14 +60,10 @@ pub record Unescaped (b : ℕ) : Type 0 where
 
 -- what an escape stands for
 pair_codes : (d b : ℕ) → Unescaped b → (pair_in (escaped d)).code ≡ b → ⊥
-unfolding escaped pair_in
+unfolding pair_in
 pair_codes d b n =
-    pick_either P (eqb d 92) _ _ (λ _ e. n.no92 (sym e))
-    (λ _. pick_either P (eqb d 116) _ _ (λ _ e. n.no9 (sym e))
-    (λ _. pick_either P (eqb d 110) _ _ (λ _ e. n.no10 (sym e)) (λ _. pick_either P (eqb d 114) _ _ (λ _ e. n.no13 (sym e)) (λ _ e. n.no92 (sym e)))))
-  where
-    P : Option ℕ → Type 0
-    P o = (pair_in o).code ≡ b → ⊥
+    escaped_cases (λ (o : Option ℕ). (pair_in o).code ≡ b → ⊥) d
+    (λ _ e. n.no92 (sym e)) (λ _ e. n.no9 (sym e)) (λ _ e. n.no10 (sym e)) (λ _ e. n.no13 (sym e)) (λ e. n.no92 (sym e))
 
 escape_codes : (s : List ℕ) (b : ℕ) → Unescaped b → (char_in (92 ∷ s)).code ≡ b → ⊥
 escape_codes [] b n e = let k : (char_with 92 1).code ≡ b = rw char_last at e in n.no92 (sym k)

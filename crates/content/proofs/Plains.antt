@@ -13,7 +13,7 @@ use Rattle.rules.specs.Sheet.{escaped, bare, onto, unescape}
 use Rattle.rules.specs.Read.{content_of}
 use Rattle.rules.specs.Utf8.{size_of, sized, first_of, chars}
 use Rattle.rules.proofs.Basics.{pick_either, by_order, no_some, some_inj}
-use Rattle.rules.proofs.Fields.{bare_is}
+use Rattle.rules.proofs.Fields.{bare_is, escaped_cases, read}
 use Rattle.rules.proofs.Begins.{Begins, one, two, three, four, second_ascii, later_ascii, second_from, later_from, size_1, size_2, size_3, size_4}
 use Rattle.content.specs.Contents.{pair_or, plain_of, content_in}
 
@@ -36,36 +36,23 @@ by_backslash {P} c f g = by (eqb c 92) refl
 
 -- ---- a well-formed field stands for what the rules say
 
-record Joined (c : Option ℕ) (v : Option (List ℕ)) (u : List ℕ) : Type 0 where
-  head : ℕ
-  tail : List ℕ
-  first : c ≡ Some head
-  then : v ≡ Some tail
-  is : u ≡ head ∷ tail
-
-joined : (c : Option ℕ) (v : Option (List ℕ)) (u : List ℕ) → onto c v ≡ Some u → Joined c v u
-unfolding onto
-joined None v u q = no_some q
-joined (Some c) None u q = no_some q
-joined (Some c) (Some s) u q = record { head = c; tail = s; first = refl; then = refl; is = sym (some_inj q) }
-
 pub plain_unescape : (f : List ℕ) {u : List ℕ} → unescape f ≡ Some u → plain_of f ≡ u
 unfolding plain_of unescape pair_or
 plain_unescape [] e = some_inj e
 plain_unescape (c ∷ []) {u} e =
     pick_either (λ (o : Option (List ℕ)). o ≡ Some u → c ∷ [] ≡ u) (eqb c 92) _ _ (λ b q. no_some q)
-    (λ n q. let j = joined (bare c) (Some []) u q in
-    ap (λ (x : ℕ). x ∷ []) (bare_is c j.head j.first).is ∙ ap (λ (x : List ℕ). j.head ∷ x) (some_inj j.then) ∙ sym j.is)
+    (λ n q. let j = read (bare c) (Some []) u q in
+    ap (λ (x : ℕ). x ∷ []) (bare_is c j.head j.first).is ∙ ap (λ (x : List ℕ). j.head ∷ x) (some_inj j.others) ∙ sym j.is)
     e
 plain_unescape (c ∷ d ∷ s) {u} e =
     by_backslash c
     (λ b. let q : onto (escaped d) (unescape s) ≡ Some u = rw (eq-eqb c 92 b) at e in
-    let j = joined (escaped d) (unescape s) u q in
-    rw (eq-eqb c 92 b, j.first) (ap (λ (x : List ℕ). j.head ∷ x) (plain_unescape s j.then) ∙ sym j.is))
+    let j = read (escaped d) (unescape s) u q in
+    rw (eq-eqb c 92 b, j.first) (ap (λ (x : List ℕ). j.head ∷ x) (plain_unescape s j.others) ∙ sym j.is))
     (λ n. let q : onto (bare c) (unescape (d ∷ s)) ≡ Some u = rw (ne_eqb c 92 n) at e in
-    let j = joined (bare c) (unescape (d ∷ s)) u q in
+    let j = read (bare c) (unescape (d ∷ s)) u q in
     rw (ne_eqb c 92 n)
-    (ap (λ (x : List ℕ). c ∷ x) (plain_unescape (d ∷ s) j.then) ∙ ap (λ (x : ℕ). x ∷ j.tail) (bare_is c j.head j.first).is ∙ sym j.is))
+    (ap (λ (x : List ℕ). c ∷ x) (plain_unescape (d ∷ s) j.others) ∙ ap (λ (x : ℕ). x ∷ j.tail) (bare_is c j.head j.first).is ∙ sym j.is))
 
 pub content_of_lem : (f : List ℕ) {c : List ℕ} → content_of f ≡ Some c → content_in f ≡ c
 unfolding content_of content_in
@@ -78,14 +65,9 @@ content_of_lem f {c} e = go (unescape f) refl e
 -- ---- an escape is ASCII before and after, so that characters of several bytes stand as they are
 
 escaped_low : (d : ℕ) (s t : List ℕ) → get_or (pair_or (escaped d) s t) 0 0 < 128
-unfolding escaped pair_or
+unfolding pair_or
 escaped_low d s t =
-    pick_either P (eqb d 92) _ _ (λ _. omega arith)
-    (λ _. pick_either P (eqb d 116) _ _ (λ _. omega arith)
-    (λ _. pick_either P (eqb d 110) _ _ (λ _. omega arith) (λ _. pick_either P (eqb d 114) _ _ (λ _. omega arith) (λ _. omega arith))))
-  where
-    P : Option ℕ → Type 0
-    P o = get_or (pair_or o s t) 0 0 < 128
+    escaped_cases (λ (o : Option ℕ). get_or (pair_or o s t) 0 0 < 128) d (λ _. omega arith) (λ _. omega arith) (λ _. omega arith) (λ _. omega arith) (omega arith)
 
 plain_low : (c : ℕ) (s : List ℕ) → c < 128 → get_or (plain_of (c ∷ s)) 0 0 < 128
 unfolding plain_of

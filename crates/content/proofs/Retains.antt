@@ -14,6 +14,7 @@ use Rattle.rules.specs.Sheet.{escape, escape_char, Without, without_none, withou
 use Rattle.rules.specs.Text.{trim_start, trim_onto, trim_end, trim_matches, text_outer_trimmed, retain, text_trimmed}
 use Rattle.rules.specs.Utf8.{encode_char, encode, Scalar}
 use Rattle.rules.proofs.Basics.{pick_either, by_order, no_truth}
+use Rattle.rules.proofs.Fields.{escape_cases}
 use Rattle.rules.proofs.Encodes.{encode_1}
 use Rattle.rules.proofs.Escaped.{Highs, highs_none, highs_more, encode_highs}
 use Rattle.rules.proofs.Scalars.{Scalars, scalars_none, scalars_more}
@@ -29,14 +30,13 @@ high_without highs_none = without_none
 high_without (highs_more {a} h g) = without_more (ne_eqb a 32 (λ e. omega arith)) (high_without g)
 
 low_without : (c : ℕ) → (c ≡ 32 → ⊥) → Without 32 (escape (c ∷ []))
-unfolding escape escape_char
+unfolding escape
 low_without c n =
     rw append-nil
-    (pick_either (Without 32) (eqb c 92) _ _ (λ _. without_more refl (without_more refl without_none))
-    (λ _. pick_either (Without 32) (eqb c 9) _ _ (λ _. without_more refl (without_more refl without_none))
-    (λ _. pick_either (Without 32) (eqb c 10) _ _ (λ _. without_more refl (without_more refl without_none))
-    (λ _. pick_either (Without 32) (eqb c 13) _ _ (λ _. without_more refl (without_more refl without_none))
-    (λ _. without_more (ne_eqb c 32 n) without_none)))))
+    (escape_cases (Without 32) c (λ _. pair refl) (λ _. pair refl) (λ _. pair refl) (λ _. pair refl) (λ _ _ _ _. without_more (ne_eqb c 32 n) without_none))
+  where
+    pair : {d : ℕ} → eqb d 32 ≡ false → Without 32 (92 ∷ d ∷ [])
+    pair q = without_more refl (without_more q without_none)
 
 char_without : (c : ℕ) → (c ≡ 32 → ⊥) → Without 32 (escape (encode_char c))
 char_without c n =

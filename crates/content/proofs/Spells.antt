@@ -5,16 +5,15 @@ use mathlib.Core.List.{List, [], ◌∷◌, ◌++◌, append-nil, append_assoc}
 use mathlib.Core.Bool.{true}
 use Rattle.std.specs.Prelude.{Option, None, Some}
 use native.Mathlib.Omega.{arith}
-use lib.Dec.{eqb}
 use lib.ListN.{length, take, drop, length-append}
 use lib.Seq.{take-append_seam, drop-append_seam}
-use borrow.Author.Tests.{eqb-true, eqb-false}
+use borrow.Author.Tests.{eqb-false}
 use Rattle.rules.specs.Basic.{tab, lf, is_some}
-use Rattle.rules.specs.Sheet.{escaped, unescape, escape_char, escape, Without}
+use Rattle.rules.specs.Sheet.{escaped, unescape, escape, Without}
 use Rattle.rules.specs.Utf8.{char_or, followers, is_utf8, encode_char, encode, Scalar}
-use Rattle.rules.proofs.Basics.{pick_either, by_order, no_truth}
+use Rattle.rules.proofs.Basics.{by_order, no_truth}
 use Rattle.rules.proofs.Begins.{one, begins_more, first_some, size_1}
-use Rattle.rules.proofs.Fields.{char_past, escape_unescape, unescape_escape, escape_no_tab, escape_no_lf}
+use Rattle.rules.proofs.Fields.{escape_cases, char_past, escape_unescape, unescape_escape, escape_no_tab, escape_no_lf}
 use Rattle.rules.proofs.Scalars.{Scalars, scalars_none, scalars_more, chars_scalars}
 use Rattle.rules.proofs.Encodes.{Spelled, spelled, encode_1, encode_chars, chars_encode, utf8_encode}
 use Rattle.rules.proofs.Escaped.{Highs, highs_none, highs_more, encode_highs, utf8_escape, utf8_unescape}
@@ -95,15 +94,15 @@ pub record Written (c : ℕ) (w : List ℕ) : Type 0 where
   pub least : 1 ≤ length w
 
 low_char : (c : ℕ) → c < 128 → Written c (escape (c ∷ []))
-unfolding escape escape_char
+unfolding escape escaped
 low_char c h =
     rw append-nil
-    (pick_either (Written c) (eqb c 92) _ _ (λ b. rw (eqb-true c 92 b) (record { is = λ t. unfold char_in pair_in escaped in refl; least = omega arith }))
-    (λ n. pick_either (Written c) (eqb c 9) _ _ (λ b. rw (eqb-true c 9 b) (record { is = λ t. unfold char_in pair_in escaped in refl; least = omega arith }))
-    (λ _. pick_either (Written c) (eqb c 10) _ _ (λ b. rw (eqb-true c 10 b) (record { is = λ t. unfold char_in pair_in escaped in refl; least = omega arith }))
-    (λ _. pick_either (Written c) (eqb c 13) _ _ (λ b. rw (eqb-true c 13 b) (record { is = λ t. unfold char_in pair_in escaped in refl; least = omega arith }))
-    (λ _. itself (eqb-false c 92 n))))))
+    (escape_cases (Written c) c (λ e. rw e (pair 92 92 refl)) (λ e. rw e (pair 9 116 refl)) (λ e. rw e (pair 10 110 refl)) (λ e. rw e (pair 13 114 refl))
+    (λ n _ _ _. itself (eqb-false c 92 n)))
   where
+    pair : (x d : ℕ) → escaped d ≡ Some x → Written x (92 ∷ d ∷ [])
+    pair x d e = record { is = λ t. unfold char_in pair_in in (rw e); least = omega arith }
+
     itself : (c ≡ 92 → ⊥) → Written c (c ∷ [])
     itself n =
         let k : c ≤ 127 = omega arith in

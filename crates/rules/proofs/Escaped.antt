@@ -10,7 +10,7 @@ use borrow.Author.Tests.{ltb-true, eqb-true, eqb-false, ne_eqb}
 use Rattle.rules.specs.Utf8.{is_utf8, encode_char, encode, Scalar}
 use Rattle.rules.specs.Sheet.{escaped, bare, onto, unescape, escape_char, escape}
 use Rattle.rules.proofs.Basics.{pick_either, by_order, no_some, some_inj}
-use Rattle.rules.proofs.Fields.{unescape_one, bare_is, char_past}
+use Rattle.rules.proofs.Fields.{unescape_one, bare_is, escape_cases, escaped_cases, read, char_past}
 use Rattle.rules.proofs.Chars.{well_utf8, utf8_none, utf8_ascii}
 use Rattle.rules.proofs.Scalars.{Scalars, scalars_none, scalars_more, chars_scalars}
 use Rattle.rules.proofs.Encodes.{spelled, spelled_well, encode_1, encode_chars}
@@ -43,18 +43,12 @@ escape_highs t highs_none = refl
 escape_highs t (highs_more {a} {s} h g) = rw (char_past a (omega arith) (λ e. omega arith), escape_highs t g)
 
 escape_ascii : (c : ℕ) (t : List ℕ) → c < 128 → is_utf8 (escape_char c ++ t) ≡ is_utf8 t
-unfolding escape_char
 escape_ascii c t h =
-    pick_either P (eqb c 92) _ _ (λ _. pair 92 92 (omega arith) (omega arith))
-    (λ _. pick_either P (eqb c 9) _ _ (λ _. pair 92 116 (omega arith) (omega arith))
-    (λ _. pick_either P (eqb c 10) _ _ (λ _. pair 92 110 (omega arith) (omega arith))
-    (λ _. pick_either P (eqb c 13) _ _ (λ _. pair 92 114 (omega arith) (omega arith)) (λ _. utf8_ascii c t h))))
+    escape_cases (λ (w : List ℕ). is_utf8 (w ++ t) ≡ is_utf8 t) c (λ _. pair 92 (omega arith)) (λ _. pair 116 (omega arith)) (λ _. pair 110 (omega arith)) (λ _. pair 114 (omega arith))
+    (λ _ _ _ _. utf8_ascii c t h)
   where
-    P : List ℕ → Type 0
-    P w = is_utf8 (w ++ t) ≡ is_utf8 t
-
-    pair : (x y : ℕ) → x < 128 → y < 128 → is_utf8 (x ∷ y ∷ t) ≡ is_utf8 t
-    pair x y h g = utf8_ascii x (y ∷ t) h ∙ utf8_ascii y t g
+    pair : (d : ℕ) → d < 128 → is_utf8 (92 ∷ d ∷ t) ≡ is_utf8 t
+    pair d g = utf8_ascii 92 (d ∷ t) (omega arith) ∙ utf8_ascii d t g
 
 escape_scalars : {cs : List ℕ} → Scalars cs → is_utf8 (escape (encode cs)) ≡ true
 unfolding encode escape
@@ -86,23 +80,10 @@ record Kept (w t u : List ℕ) : Type 0 where
   is : u ≡ w ++ rest
   after : unescape t ≡ Some rest
 
-record Joined (c : Option ℕ) (v : Option (List ℕ)) (u : List ℕ) : Type 0 where
-  head : ℕ
-  tail : List ℕ
-  first : c ≡ Some head
-  then : v ≡ Some tail
-  is : u ≡ head ∷ tail
-
-joined : (c : Option ℕ) (v : Option (List ℕ)) (u : List ℕ) → onto c v ≡ Some u → Joined c v u
-unfolding onto
-joined None v u q = no_some q
-joined (Some c) None u q = no_some q
-joined (Some c) (Some s) u q = record { head = c; tail = s; first = refl; then = refl; is = sym (some_inj q) }
-
 kept_byte : (c : ℕ) (t u : List ℕ) → (c ≡ 92 → ⊥) → unescape (c ∷ t) ≡ Some u → Kept (c ∷ []) t u
 kept_byte c t u n q =
-    let j = joined (bare c) (unescape t) u (sym (unescape_plain c t n) ∙ q) in
-    record { rest = j.tail; is = j.is ∙ ap (λ (x : ℕ). x ∷ j.tail) (sym (bare_is c j.head j.first).is); after = j.then }
+    let j = read (bare c) (unescape t) u (sym (unescape_plain c t n) ∙ q) in
+    record { rest = j.tail; is = j.is ∙ ap (λ (x : ℕ). x ∷ j.tail) (sym (bare_is c j.head j.first).is); after = j.others }
 
 kept : {w : List ℕ} (t u : List ℕ) → Highs w → unescape (w ++ t) ≡ Some u → Kept w t u
 kept t u highs_none q = record { rest = u; is = refl; after = q }
@@ -134,15 +115,9 @@ safe_step c t h f b u q = by_order c 127 low high
 
 -- what an escape stands for is ASCII
 pub escaped_ascii : (d e : ℕ) → escaped d ≡ Some e → e < 128
-unfolding escaped
 escaped_ascii d e =
-    pick_either P (eqb d 92) _ _ (λ _. of 92 (omega arith))
-    (λ _. pick_either P (eqb d 116) _ _ (λ _. of 9 (omega arith))
-    (λ _. pick_either P (eqb d 110) _ _ (λ _. of 10 (omega arith)) (λ _. pick_either P (eqb d 114) _ _ (λ _. of 13 (omega arith)) (λ _ q. no_some q))))
+    escaped_cases (λ (o : Option ℕ). o ≡ Some e → e < 128) d (λ _. of 92 (omega arith)) (λ _. of 9 (omega arith)) (λ _. of 10 (omega arith)) (λ _. of 13 (omega arith)) (λ q. no_some q)
   where
-    P : Option ℕ → Type 0
-    P o = o ≡ Some e → e < 128
-
     of : (x : ℕ) → x < 128 → Some x ≡ Some e → e < 128
     of x h q = let k : x ≡ e = some_inj q in omega arith
 
@@ -153,7 +128,7 @@ escaped_high d h = rw (ne_eqb d 92 (λ e. omega arith), ne_eqb d 116 (λ e. omeg
 high_pair : {w : List ℕ} (t u : List ℕ) → Highs w → (w ≡ [] → ⊥) → unescape (92 ∷ (w ++ t)) ≡ Some u → is_utf8 u ≡ true
 high_pair t u highs_none n q = absurd (n refl)
 high_pair t u (highs_more {a} {s} h g) n q =
-    let j = joined (escaped a) (unescape (s ++ t)) u (sym (unescape_pair a (s ++ t)) ∙ q) in
+    let j = read (escaped a) (unescape (s ++ t)) u (sym (unescape_pair a (s ++ t)) ∙ q) in
     no_some (sym (escaped_high a h) ∙ j.first)
 
 safe_pair : (d : ℕ) (t : List ℕ) → Scalar d → Safe t → Safe (92 ∷ (encode_char d ++ t))
@@ -162,8 +137,8 @@ safe_pair d t h f u q = by_order d 127 low (λ l. high_pair t u (encode_highs d 
     low : d ≤ 127 → is_utf8 u ≡ true
     low l =
         let q2 : unescape (92 ∷ d ∷ t) ≡ Some u = rw (encode_1 d (omega arith)) at q in
-        let j = joined (escaped d) (unescape t) u (sym (unescape_pair d t) ∙ q2) in
-        rw j.is (utf8_ascii j.head j.tail (escaped_ascii d j.head j.first) ∙ f j.tail j.then)
+        let j = read (escaped d) (unescape t) u (sym (unescape_pair d t) ∙ q2) in
+        rw j.is (utf8_ascii j.head j.tail (escaped_ascii d j.head j.first) ∙ f j.tail j.others)
 
     full : (d : ℕ) → Scalar d → encode_char d ≡ [] → ⊥
     full d h e = let z : [] ≡ ((spelled d h).lead ∷ (spelled d h).rest) = sym e ∙ (spelled d h).is in let y : ◌≡◌ {A = ℕ} 0 1 = cc in omega arith

@@ -53,17 +53,31 @@ unfolding unescape
 unescape_one c [] q = rw q
 unescape_one c (d ∷ t) q = rw q
 
+-- by cases: how a byte is spelled, and what a letter after a backslash stands for
+pub escape_cases : (P : List ℕ → Type 0) (c : ℕ) → (c ≡ 92 → P (92 ∷ 92 ∷ [])) → (c ≡ 9 → P (92 ∷ 116 ∷ [])) → (c ≡ 10 → P (92 ∷ 110 ∷ [])) → (c ≡ 13 → P (92 ∷ 114 ∷ []))
+    → (eqb c 92 ≡ false → eqb c 9 ≡ false → eqb c 10 ≡ false → eqb c 13 ≡ false → P (c ∷ [])) → P (escape_char c)
+unfolding escape_char
+escape_cases P c s t n r other =
+    pick_either P (eqb c 92) _ _ (λ b. s (eqb-true c 92 b))
+    (λ n1. pick_either P (eqb c 9) _ _ (λ b. t (eqb-true c 9 b))
+    (λ n2. pick_either P (eqb c 10) _ _ (λ b. n (eqb-true c 10 b)) (λ n3. pick_either P (eqb c 13) _ _ (λ b. r (eqb-true c 13 b)) (other n1 n2 n3))))
+
+pub escaped_cases : (P : Option ℕ → Type 0) (d : ℕ) → (d ≡ 92 → P (Some 92)) → (d ≡ 116 → P (Some 9)) → (d ≡ 110 → P (Some 10)) → (d ≡ 114 → P (Some 13)) → P None → P (escaped d)
+unfolding escaped
+escaped_cases P d s t n r none =
+    pick_either P (eqb d 92) _ _ (λ b. s (eqb-true d 92 b))
+    (λ _. pick_either P (eqb d 116) _ _ (λ b. t (eqb-true d 116 b))
+    (λ _. pick_either P (eqb d 110) _ _ (λ b. n (eqb-true d 110 b)) (λ _. pick_either P (eqb d 114) _ _ (λ b. r (eqb-true d 114 b)) (λ _. none))))
+
 char_read : (c : ℕ) (t : List ℕ) → unescape (escape_char c ++ t) ≡ onto (Some c) (unescape t)
-unfolding escape_char unescape escaped
-char_read c t =
-    pick_either P (eqb c backslash) _ _ (λ b. ap (λ (x : ℕ). onto (Some x) (unescape t)) (sym (eqb-true c 92 b)))
-    (λ n1. pick_either P (eqb c tab) _ _ (λ b. ap (λ (x : ℕ). onto (Some x) (unescape t)) (sym (eqb-true c 9 b)))
-    (λ n2. pick_either P (eqb c lf) _ _ (λ b. ap (λ (x : ℕ). onto (Some x) (unescape t)) (sym (eqb-true c 10 b)))
-    (λ n3. pick_either P (eqb c cr) _ _ (λ b. ap (λ (x : ℕ). onto (Some x) (unescape t)) (sym (eqb-true c 13 b)))
-    (λ n4. unescape_one c t n1 ∙ rw (bare_itself c n4)))))
+unfolding unescape escaped
+char_read c t = escape_cases P c as_read as_read as_read as_read (λ n1 n2 n3 n4. unescape_one c t n1 ∙ rw (bare_itself c n4))
   where
     P : List ℕ → Type 0
     P l = unescape (l ++ t) ≡ onto (Some c) (unescape t)
+
+    as_read : {x : ℕ} → c ≡ x → onto (Some x) (unescape t) ≡ onto (Some c) (unescape t)
+    as_read e = ap (λ (y : ℕ). onto (Some y) (unescape t)) (sym e)
 
 pub unescape_escape : (s : List ℕ) → unescape (escape s) ≡ Some s
 unfolding escape unescape onto
@@ -79,13 +93,12 @@ record Spelled (b : ℕ) : Type 0 where
   other : (c : ℕ) → eqb c tab ≡ false → eqb c lf ≡ false → eqb c cr ≡ false → eqb c b ≡ false
 
 char_without : {b : ℕ} → Spelled b → (c : ℕ) → Without b (escape_char c)
-unfolding escape_char
 char_without {b} e c =
-    pick_either (Without b) (eqb c backslash) _ _ (λ h. without_more e.slash (without_more e.slash without_none))
-    (λ n1. pick_either (Without b) (eqb c tab) _ _ (λ h. without_more e.slash (without_more e.letter_t without_none))
-    (λ n2. pick_either (Without b) (eqb c lf) _ _ (λ h. without_more e.slash (without_more e.letter_n without_none))
-    (λ n3. pick_either (Without b) (eqb c cr) _ _ (λ h. without_more e.slash (without_more e.letter_r without_none))
-    (λ n4. without_more (e.other c n2 n3 n4) without_none))))
+    escape_cases (Without b) c (λ _. pair e.slash) (λ _. pair e.letter_t) (λ _. pair e.letter_n) (λ _. pair e.letter_r)
+    (λ n1 n2 n3 n4. without_more (e.other c n2 n3 n4) without_none)
+  where
+    pair : {d : ℕ} → eqb d b ≡ false → Without b (92 ∷ d ∷ [])
+    pair q = without_more e.slash (without_more q without_none)
 
 escape_without : {b : ℕ} → Spelled b → (s : List ℕ) → Without b (escape s)
 unfolding escape
@@ -115,34 +128,29 @@ unfolding escape
 escape_plain without_none without_none without_none without_none = refl
 escape_plain (without_more {c} p f) (without_more q g) (without_more r h) (without_more t k) = rw (char_itself c p q r t, escape_plain f g h k)
 
--- what an escape says was read, taken apart
-record Read (o : Option ℕ) (p : Option (List ℕ)) (s : List ℕ) : Type 0 where
-  head : ℕ
-  tail : List ℕ
-  first : o ≡ Some head
-  others : p ≡ Some tail
-  is : s ≡ head ∷ tail
+-- a text that was read, taken apart: its first byte, and the others
+pub record Read (o : Option ℕ) (p : Option (List ℕ)) (s : List ℕ) : Type 0 where
+  pub head : ℕ
+  pub tail : List ℕ
+  pub first : o ≡ Some head
+  pub others : p ≡ Some tail
+  pub is : s ≡ head ∷ tail
 
-read : (o : Option ℕ) (p : Option (List ℕ)) (s : List ℕ) → onto o p ≡ Some s → Read o p s
+pub read : (o : Option ℕ) (p : Option (List ℕ)) (s : List ℕ) → onto o p ≡ Some s → Read o p s
 unfolding onto
 read None p s e = no_some e
 read (Some c) None s e = no_some e
 read (Some c) (Some t) s e = record { head = c; tail = t; first = refl; others = refl; is = sym (some_inj e) }
 
 letter_back : (d x : ℕ) → escaped d ≡ Some x → escape_char x ≡ backslash ∷ d ∷ []
-unfolding escaped escape_char
-letter_back d x =
-    pick_either P (eqb d backslash) _ _ (λ b e. back backslash (some_inj e) (ap (λ (y : ℕ). backslash ∷ y ∷ []) (sym (eqb-true d 92 b))))
-    (λ n1. pick_either P (eqb d 116) _ _ (λ b e. back tab (some_inj e) (ap (λ (y : ℕ). backslash ∷ y ∷ []) (sym (eqb-true d 116 b))))
-    (λ n2. pick_either P (eqb d 110) _ _ (λ b e. back lf (some_inj e) (ap (λ (y : ℕ). backslash ∷ y ∷ []) (sym (eqb-true d 110 b))))
-    (λ n3. pick_either P (eqb d 114) _ _ (λ b e. back cr (some_inj e) (ap (λ (y : ℕ). backslash ∷ y ∷ []) (sym (eqb-true d 114 b))))
-    (λ n4 e. no_some e))))
+unfolding escape_char
+letter_back d x = escaped_cases P d (back 92 refl) (back 9 refl) (back 10 refl) (back 13 refl) (λ e. no_some e)
   where
     P : Option ℕ → Type 0
     P o = o ≡ Some x → escape_char x ≡ backslash ∷ d ∷ []
 
-    back : (y : ℕ) → y ≡ x → escape_char y ≡ backslash ∷ d ∷ [] → escape_char x ≡ backslash ∷ d ∷ []
-    back y q e = rw q at e
+    back : (y : ℕ) {l : ℕ} → escape_char y ≡ backslash ∷ l ∷ [] → d ≡ l → Some y ≡ Some x → escape_char x ≡ backslash ∷ d ∷ []
+    back y q u e = let k : y ≡ x = some_inj e in rw (← k, u) q
 
 -- a field as it stands in a sheet is the escaped form of its text
 pub escape_unescape : (f : List ℕ) {s : List ℕ} → Without tab f → Without lf f → unescape f ≡ Some s → escape s ≡ f
@@ -166,15 +174,7 @@ escape_unescape (c ∷ d ∷ f) {s} (without_more q (without_more q' t)) (withou
 
 -- a field that was read has no bare CR
 letter_no_cr : (d x : ℕ) → escaped d ≡ Some x → eqb d cr ≡ false
-unfolding escaped
-letter_no_cr d x =
-    pick_either P (eqb d backslash) _ _ (λ b e. rw (eqb-true d 92 b))
-    (λ n1. pick_either P (eqb d 116) _ _ (λ b e. rw (eqb-true d 116 b))
-    (λ n2. pick_either P (eqb d 110) _ _ (λ b e. rw (eqb-true d 110 b))
-    (λ n3. pick_either P (eqb d 114) _ _ (λ b e. rw (eqb-true d 114 b)) (λ n4 e. no_some e))))
-  where
-    P : Option ℕ → Type 0
-    P o = o ≡ Some x → eqb d cr ≡ false
+letter_no_cr d x = escaped_cases (λ (o : Option ℕ). o ≡ Some x → eqb d cr ≡ false) d (λ q e. rw q) (λ q e. rw q) (λ q e. rw q) (λ q e. rw q) (λ e. no_some e)
 
 pub unescape_no_cr : (f : List ℕ) {s : List ℕ} → unescape f ≡ Some s → Without cr f
 unfolding unescape
