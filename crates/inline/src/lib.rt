@@ -242,16 +242,16 @@ pub fn find_inline_quantity(units: &UnitList, s: &[u8], from: usize) -> Option<I
     ensures { InlineAt (units_or (read_units units.now.lines.now)) s.now from result }
 {
     let mut i = from;
-    loop {
+    'numbers: loop {
         let digit = next_digit(s, i);
         if digit == s.len() {
-            return None;
+            break None;
         }
         let number_from = sign_start(s, i, digit);
         let number_to = number_end(s, digit);
         let word = blanks_end(s, number_to);
         if word == s.len() {
-            return None;
+            break None;
         }
         let after = word_end(s, word);
         let span = unit_part(s, word, after);
@@ -262,7 +262,7 @@ pub fn find_inline_quantity(units: &UnitList, s: &[u8], from: usize) -> Option<I
             let mut p = unit_index::first_of(units.words, name);
             while p != 0 {
                 if unit_index::is_named(units, p, name) {
-                    return Some(Inline {
+                    break 'numbers Some(Inline {
                         number_from,
                         number_to,
                         unit_from,

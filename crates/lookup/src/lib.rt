@@ -69,7 +69,7 @@ pub fn same_name_before(
 }
 
 // The same among the components of a kind.
-fn same_component(
+pub fn same_component(
     sheet: &[u8],
     stored: &Stored,
     kind: Kind,

@@ -1,30 +1,36 @@
 -- Runs of bytes that need no escape, and a text that is copied byte by byte.
 use Prim.Native.Nat.{ℕ, ◌+◌, ◌-◌, ◌≤◌, ◌<◌}
 use mathlib.Core.Path.{◌≡◌, refl, ap, sym, ◌∙◌}
-use mathlib.Core.Bool.{Bool, true, false, not, ◌&&◌}
+use mathlib.Core.Bool.{Bool, true, false, not, ◌&&◌, ◌||◌}
 use mathlib.Core.List.{List, [], ◌∷◌, ◌++◌, append-nil}
 use native.Mathlib.Numerals.{add-one}
 use native.Mathlib.Omega.{arith}
-use borrow.Author.Tests.{ltb-true, eqb-false, not-true, not-false, le-leb, lt-leb}
+use borrow.Author.Tests.{ltb-true, eqb-true, eqb-false, not-true, not-false, le-leb, lt-leb}
 use lib.Dec.{eqb, leb, ltb}
 use lib.ListN.{length, get_or, take, drop, set, take-append-drop, drop_of_length-le, length-set}
 use lib.Seq.{drop-cons, drop-drop, take-add, take-suc, take_all}
 use Rattle.rules.specs.Sheet.{escape_char, escape}
-use Rattle.rules.proofs.Basics.{and_left, and_right, and_both, by_order, and_assoc, and_true}
+use Rattle.rules.proofs.Basics.{no_truth, and_left, and_right, and_both, by_order, and_assoc, and_true}
 use Rattle.rules.proofs.Fields.{char_past}
 use Rattle.output.specs.Put.{Put}
-use Rattle.output.specs.Runs.{is_plain, all_plain, PlainTo}
+use Rattle.output.specs.Runs.{is_plain, is_copied, all_of, PlainTo}
 use Rattle.output.proofs.Puts.{put_seq, one_in, put_none}
 
 -- ---- all bytes asked
-module _ (f : List ℕ) (i : ℕ) where
-  pub all_turn : (p : Bool) {r b : Bool} → (p && all_plain (drop i f)) ≡ b → i < length f → r ≡ is_plain (get_or f i 0) → ((p && r) && all_plain (drop (i + 1) f)) ≡ b
-  unfolding all_plain
-  all_turn p {r} e h q = and_assoc p r (all_plain (drop (i + 1) f)) ∙ rw (q, add-one) (rw (drop-cons f i 0 h) at e)
+module _ (is : ℕ → Bool) (f : List ℕ) (i : ℕ) where
+  pub all_turn : (p : Bool) {r b : Bool} → (p && all_of is (drop i f)) ≡ b → i < length f → r ≡ is (get_or f i 0) → ((p && r) && all_of is (drop (i + 1) f)) ≡ b
+  unfolding all_of
+  all_turn p {r} e h q = and_assoc p r (all_of is (drop (i + 1) f)) ∙ rw (q, add-one) (rw (drop-cons f i 0 h) at e)
 
-  pub all_end : {p b : Bool} → (p && all_plain (drop i f)) ≡ b → length f ≤ i → p ≡ b
-  unfolding all_plain
+  pub all_end : {p b : Bool} → (p && all_of is (drop i f)) ≡ b → length f ≤ i → p ≡ b
+  unfolding all_of
   all_end {p} e h = sym (and_true p) ∙ (rw (drop_of_length-le f h) at e)
+
+all_join : (is : ℕ → Bool) (xs ys : List ℕ) → all_of is xs ≡ true → all_of is ys ≡ true → all_of is (xs ++ ys) ≡ true
+unfolding all_of
+all_join is [] ys p q = q
+all_join is (c ∷ xs) ys p q =
+    and_both (is c) (all_of is (xs ++ ys)) (and_left (is c) (all_of is xs) p) (all_join is xs ys (and_right (is c) (all_of is xs) p) q)
 
 -- ---- such bytes stand for themselves
 pub plain_char : (c : ℕ) → is_plain c ≡ true → escape_char c ≡ c ∷ []
@@ -34,26 +40,43 @@ plain_char c e =
     let n : c ≡ 92 → ⊥ = eqb-false c 92 (not-true (eqb c 92) (and_right (ltb 13 c) (not (eqb c 92)) e)) in
     char_past c l n
 
-plain_front : (xs t : List ℕ) → all_plain xs ≡ true → escape (xs ++ t) ≡ xs ++ escape t
-unfolding all_plain escape
-plain_front [] t e = refl
-plain_front (c ∷ xs) t e =
-    rw (plain_char c (and_left (is_plain c) (all_plain xs) e), plain_front xs t (and_right (is_plain c) (all_plain xs) e))
+-- by a glance, or as one of the two that it does not tell
+copied_cases : (c : ℕ) (p q r : Bool) → ((p || q) || r) ≡ true → eqb c 11 ≡ q → eqb c 12 ≡ r → (p ≡ true → escape_char c ≡ c ∷ []) → escape_char c ≡ c ∷ []
+unfolding escape_char
+copied_cases c true q r e m n g = g refl
+copied_cases c false true r e m n g = rw (eqb-true c 11 m)
+copied_cases c false false true e m n g = rw (eqb-true c 12 n)
+copied_cases c false false false e m n g = no_truth e
 
-all_join : (xs ys : List ℕ) → all_plain xs ≡ true → all_plain ys ≡ true → all_plain (xs ++ ys) ≡ true
-unfolding all_plain
-all_join [] ys p q = q
-all_join (c ∷ xs) ys p q =
-    and_both (is_plain c) (all_plain (xs ++ ys)) (and_left (is_plain c) (all_plain xs) p) (all_join xs ys (and_right (is_plain c) (all_plain xs) p) q)
+copied_char : (c : ℕ) → is_copied c ≡ true → escape_char c ≡ c ∷ []
+unfolding is_copied
+copied_char c e = copied_cases c (is_plain c) (eqb c 11) (eqb c 12) e refl refl (plain_char c)
+
+copied_front : (xs t : List ℕ) → all_of is_copied xs ≡ true → escape (xs ++ t) ≡ xs ++ escape t
+unfolding all_of escape
+copied_front [] t e = refl
+copied_front (c ∷ xs) t e =
+    rw (copied_char c (and_left (is_copied c) (all_of is_copied xs) e), copied_front xs t (and_right (is_copied c) (all_of is_copied xs) e))
+
+plain_copied : (c : ℕ) → is_plain c ≡ true → is_copied c ≡ true
+unfolding is_copied
+plain_copied c e = rw e
+
+all_plain_copied : (f : List ℕ) → all_of is_plain f ≡ true → all_of is_copied f ≡ true
+unfolding all_of
+all_plain_copied [] e = refl
+all_plain_copied (c ∷ f) e =
+    and_both (is_copied c) (all_of is_copied f) (plain_copied c (and_left (is_plain c) (all_of is_plain f) e))
+    (all_plain_copied f (and_right (is_plain c) (all_of is_plain f) e))
 
 -- ---- a run grows
 pub run_none : (f : List ℕ) (at : ℕ) → at ≤ length f → PlainTo f at at
-unfolding all_plain
+unfolding all_of
 run_none f at h =
     let k : at - at ≡ 0 = omega arith in
     record { from = omega arith; upto = h; is = rw k }
 
-run_more : {f : List ℕ} {at i : ℕ} (e : ℕ) → PlainTo f at i → i ≤ e → e ≤ length f → all_plain (take (e - i) (drop i f)) ≡ true
+run_more : {f : List ℕ} {at i : ℕ} (e : ℕ) → PlainTo f at i → i ≤ e → e ≤ length f → all_of is_copied (take (e - i) (drop i f)) ≡ true
     → PlainTo f at e
 run_more {f} {at} {i} e p l h q =
     let a : at ≤ i = p.from in
@@ -62,22 +85,31 @@ run_more {f} {at} {i} e p l h q =
     record {
       from = omega arith;
       upto = h;
-      is = rw (k, take-add (i - at) (e - i) (drop at f), drop-drop (i - at) at f, t) (all_join (take (i - at) (drop at f)) (take (e - i) (drop i f)) p.is q);
+      is = rw (k, take-add (i - at) (e - i) (drop at f), drop-drop (i - at) at f, t) (all_join is_copied (take (i - at) (drop at f)) (take (e - i) (drop i f)) p.is q);
     }
 
 pub run_join : {f : List ℕ} {at i e : ℕ} → PlainTo f at i → PlainTo f i e → PlainTo f at e
 run_join {f} {at} {i} {e} p q = run_more e p q.from q.upto q.is
 
-pub run_piece : {f : List ℕ} {at i : ℕ} {r : Bool} (e : ℕ) → PlainTo f at i → i ≤ e → e ≤ length f → r ≡ all_plain (take (e - i) (drop i f)) → not r ≡ false
-    → PlainTo f at e
-run_piece {f} {at} {i} {r} e p l h q y = run_more e p l h (sym q ∙ not-false r y)
-
-pub run_byte : {f : List ℕ} {at i : ℕ} {r : Bool} → PlainTo f at i → i < length f → r ≡ is_plain (get_or f i 0) → not r ≡ false → PlainTo f at (i + 1)
-unfolding all_plain
-run_byte {f} {at} {i} {r} p h q y =
+run_one : {f : List ℕ} {at i : ℕ} → PlainTo f at i → i < length f → is_copied (get_or f i 0) ≡ true → PlainTo f at (i + 1)
+unfolding all_of
+run_one {f} {at} {i} p h q =
     let k : i + 1 - i ≡ 1 = omega arith in
     let b : take (i + 1 - i) (drop i f) ≡ get_or f i 0 ∷ [] = rw (k, drop-cons f i 0 h) in
-    run_more (i + 1) p (omega arith) (omega arith) (rw b (and_both (is_plain (get_or f i 0)) true (sym q ∙ not-false r y) refl))
+    run_more (i + 1) p (omega arith) (omega arith) (rw b (and_both (is_copied (get_or f i 0)) true q refl))
+
+module _ {f : List ℕ} {at i : ℕ} {r : Bool} where
+  pub run_copied : (e : ℕ) → PlainTo f at i → i ≤ e → e ≤ length f → r ≡ all_of is_copied (take (e - i) (drop i f)) → not r ≡ false → PlainTo f at e
+  run_copied e p l h q y = run_more e p l h (sym q ∙ not-false r y)
+
+  pub run_piece : (e : ℕ) → PlainTo f at i → i ≤ e → e ≤ length f → r ≡ all_of is_plain (take (e - i) (drop i f)) → not r ≡ false → PlainTo f at e
+  run_piece e p l h q y = run_more e p l h (all_plain_copied (take (e - i) (drop i f)) (sym q ∙ not-false r y))
+
+  pub run_copied_byte : PlainTo f at i → i < length f → r ≡ is_copied (get_or f i 0) → not r ≡ false → PlainTo f at (i + 1)
+  run_copied_byte p h q y = run_one p h (sym q ∙ not-false r y)
+
+  pub run_byte : PlainTo f at i → i < length f → r ≡ is_plain (get_or f i 0) → not r ≡ false → PlainTo f at (i + 1)
+  run_byte p h q y = run_one p h (plain_copied (get_or f i 0) (sym q ∙ not-false r y))
 
 -- a run up to the field's end
 pub run_whole : {f : List ℕ} {at i : ℕ} → PlainTo f at i → length f ≤ i → PlainTo f at (length f)
@@ -92,7 +124,7 @@ module _ {f : List ℕ} {i e : ℕ} where
   run_cut p =
       let l : i ≤ e = p.from in
       let t : i + (e - i) ≡ e = omega arith in
-      ap escape (sym (take-append-drop (e - i) (drop i f))) ∙ plain_front (take (e - i) (drop i f)) (drop (e - i) (drop i f)) p.is ∙ rw (drop-drop (e - i) i f, t)
+      ap escape (sym (take-append-drop (e - i) (drop i f))) ∙ copied_front (take (e - i) (drop i f)) (drop (e - i) (drop i f)) p.is ∙ rw (drop-drop (e - i) i f, t)
 
   pub run_last : PlainTo f i e → length f ≤ e → escape (drop i f) ≡ take (e - i) (drop i f)
   unfolding escape

@@ -7,7 +7,7 @@ ghost use Rattle.rules.specs.Basic.{decimal};
 ghost use Rattle.rules.specs.Sheet.{escape_char, escape, refused_line};
 ghost use Rattle.output.specs.Put.{Put, tabbed};
 ghost use Rattle.output.specs.Writes.{Writer, Written};
-ghost use Rattle.output.specs.Runs.{is_plain, all_plain, PlainTo};
+ghost use Rattle.output.specs.Runs.{is_plain, is_copied, all_of, PlainTo};
 
 pub fn put_byte(out: &mut [u8], at: usize, b: u8) -> usize
     ensures { Put (b ∷ []) out.old at out.new result }
@@ -117,7 +117,7 @@ fn put_each_escaped(out: &mut [u8], at: usize, f: &[u8]) -> usize
 
 // Whether all bytes are; every byte is asked, so that the machine can ask many at once.
 fn all_plain(f: &[u8]) -> bool
-    ensures { result ≡ all_plain f.now }
+    ensures { result ≡ all_of is_plain f.now }
 {
     let mut plain = true;
     for &c in f {
@@ -142,6 +142,55 @@ fn plain_pieces(f: &[u8], at: usize, size: usize) -> usize
     i
 }
 
+// Whether a byte needs no escape, VT and FF among them, which a glance does not tell.
+fn is_copied(c: u8) -> bool
+    ensures { result ≡ is_copied c }
+{
+    is_plain(c) | (c == 11) | (c == 12)
+}
+
+// Whether none of the bytes needs one; every byte is asked, as above.
+fn all_copied(f: &[u8]) -> bool
+    ensures { result ≡ all_of is_copied f.now }
+{
+    let mut copied = true;
+    for &c in f {
+        copied &= is_copied(c);
+    }
+    copied
+}
+
+// Where pieces of 16 bytes from a place on end that need no escape, VT and FF among them.
+fn copied_pieces(f: &[u8], at: usize) -> usize
+    requires { at ≤ length f.now }
+    ensures { PlainTo f.now at result }
+{
+    let mut i = at;
+    while 16 <= f.len() - i {
+        let e = i + 16;
+        if !all_copied(&f[i..e]) {
+            return i;
+        }
+        i = e;
+    }
+    i
+}
+
+// Where bytes from a place on end that need no escape, in a text with VT or FF.
+#[cold]
+fn copied_end(f: &[u8], at: usize) -> usize
+    requires { at ≤ length f.now }
+    ensures { PlainTo f.now at result }
+{
+    let a = copied_pieces(f, at);
+    for i in a..f.len() {
+        if !is_copied(f[i]) {
+            return i;
+        }
+    }
+    f.len()
+}
+
 // Where bytes from a place on end that need no escape.
 fn plain_end(f: &[u8], at: usize) -> usize
     requires { at ≤ length f.now }
@@ -151,7 +200,7 @@ fn plain_end(f: &[u8], at: usize) -> usize
     let b = plain_pieces(f, a, 4);
     for i in b..f.len() {
         if !is_plain(f[i]) {
-            return i;
+            return if is_copied(f[i]) { copied_end(f, i) } else { i };
         }
     }
     f.len()

@@ -3,11 +3,11 @@ use Rattle.inline.proofs.Turns.{sought_start, turn_none, turn_last, turn_less, t
 use Rattle.inline.proofs.Lists.{along_first, along_end, along_linked, along_few, along_less, along_hit, along_on}
 use Rattle.inline.proofs.find_inline_quantity.Goals as goal
 
-pub loop-from-init : goal.loop-from-init
-loop-from-init c = sought_start _ _ _ c.requires.0 c.requires.1
+pub numbers-init : goal.numbers-init
+numbers-init c = sought_start _ _ _ c.requires.0 c.requires.1
 
 pub next_digit-digit-requires : goal.next_digit-digit-requires
-next_digit-digit-requires c = (c.loop-from.invariant.end, c.loop-from.invariant.left)
+next_digit-digit-requires c = (c.numbers.invariant.end, c.numbers.invariant.left)
 
 pub sign_start-number_from-requires : goal.sign_start-number_from-requires
 sign_start-number_from-requires c = (c.next_digit-digit.ensures.from, c.next_digit-digit.ensures.to, c.next_digit-digit.ensures.whole)
@@ -57,23 +57,23 @@ loop-p-smaller c = along_less _ c.args.units.now.indexed c.loop-p.invariant c.lo
 pub loop-p-preserved : goal.loop-p-preserved
 loop-p-preserved c = along_on _ c.args.units.now.indexed c.loop-p.invariant c.loop-p-test.true c.is_named.ensures c.if-is_named.false c.next_of-p.ensures
 
-pub loop-from-smaller-after-loop-p : goal.loop-from-smaller-after-loop-p
-loop-from-smaller-after-loop-p c = omega (arith, turn_less c.loop-from.invariant c.next_digit-digit.ensures c.if-digit-s.false c.sign_start-number_from.ensures c.number_end-number_to.ensures c.blanks_end-word.ensures c.if-word-s.false c.word_end-after.ensures c.unit_part-span.ensures, c.blanks_end-word.ensures.to, c.word_end-after.ensures.from, c.word_end-after.ensures.to)
+pub numbers-smaller-after-loop-p : goal.numbers-smaller-after-loop-p
+numbers-smaller-after-loop-p c = omega (arith, turn_less c.numbers.invariant c.next_digit-digit.ensures c.if-digit-s.false c.sign_start-number_from.ensures c.number_end-number_to.ensures c.blanks_end-word.ensures c.if-word-s.false c.word_end-after.ensures c.unit_part-span.ensures, c.blanks_end-word.ensures.to, c.word_end-after.ensures.from, c.word_end-after.ensures.to)
 
-pub loop-from-preserved-after-loop-p : goal.loop-from-preserved-after-loop-p
-loop-from-preserved-after-loop-p c = turn_unknown c.loop-from.invariant c.next_digit-digit.ensures c.if-digit-s.false c.sign_start-number_from.ensures c.number_end-number_to.ensures c.blanks_end-word.ensures c.if-word-s.false c.word_end-after.ensures c.unit_part-span.ensures c.points.ensures (omega (arith, c.if-points-le1.true)) (along_end _ c.args.units.now.indexed c.loop-p.invariant c.loop-p-test.false)
+pub numbers-preserved-after-loop-p : goal.numbers-preserved-after-loop-p
+numbers-preserved-after-loop-p c = turn_unknown c.numbers.invariant c.next_digit-digit.ensures c.if-digit-s.false c.sign_start-number_from.ensures c.number_end-number_to.ensures c.blanks_end-word.ensures c.if-word-s.false c.word_end-after.ensures c.unit_part-span.ensures c.points.ensures (omega (arith, c.if-points-le1.true)) (along_end _ c.args.units.now.indexed c.loop-p.invariant c.loop-p-test.false)
 
-pub loop-from-smaller : goal.loop-from-smaller
-loop-from-smaller c = omega (arith, turn_less c.loop-from.invariant c.next_digit-digit.ensures c.if-digit-s.false c.sign_start-number_from.ensures c.number_end-number_to.ensures c.blanks_end-word.ensures c.if-word-s.false c.word_end-after.ensures c.unit_part-span.ensures, c.blanks_end-word.ensures.to, c.word_end-after.ensures.from, c.word_end-after.ensures.to)
+pub numbers-smaller : goal.numbers-smaller
+numbers-smaller c = omega (arith, turn_less c.numbers.invariant c.next_digit-digit.ensures c.if-digit-s.false c.sign_start-number_from.ensures c.number_end-number_to.ensures c.blanks_end-word.ensures c.if-word-s.false c.word_end-after.ensures c.unit_part-span.ensures, c.blanks_end-word.ensures.to, c.word_end-after.ensures.from, c.word_end-after.ensures.to)
 
-pub loop-from-preserved : goal.loop-from-preserved
-loop-from-preserved c = turn_points c.loop-from.invariant c.next_digit-digit.ensures c.if-digit-s.false c.sign_start-number_from.ensures c.number_end-number_to.ensures c.blanks_end-word.ensures c.if-word-s.false c.word_end-after.ensures c.unit_part-span.ensures c.points.ensures c.if-points-le1.false
+pub numbers-preserved : goal.numbers-preserved
+numbers-preserved c = turn_points c.numbers.invariant c.next_digit-digit.ensures c.if-digit-s.false c.sign_start-number_from.ensures c.number_end-number_to.ensures c.blanks_end-word.ensures c.if-word-s.false c.word_end-after.ensures c.unit_part-span.ensures c.points.ensures c.if-points-le1.false
 
 pub returns-then-digit-s : goal.returns-then-digit-s
-returns-then-digit-s c = turn_none c.loop-from.invariant c.next_digit-digit.ensures c.if-digit-s.true
+returns-then-digit-s c = turn_none c.numbers.invariant c.next_digit-digit.ensures c.if-digit-s.true
 
 pub returns-then-word-s : goal.returns-then-word-s
-returns-then-word-s c = turn_last c.loop-from.invariant c.next_digit-digit.ensures c.if-digit-s.false c.sign_start-number_from.ensures c.number_end-number_to.ensures c.blanks_end-word.ensures c.if-word-s.true
+returns-then-word-s c = turn_last c.numbers.invariant c.next_digit-digit.ensures c.if-digit-s.false c.sign_start-number_from.ensures c.number_end-number_to.ensures c.blanks_end-word.ensures c.if-word-s.true
 
 pub returns-then-is_named : goal.returns-then-is_named
-returns-then-is_named c = turn_found c.loop-from.invariant c.next_digit-digit.ensures c.if-digit-s.false c.sign_start-number_from.ensures c.number_end-number_to.ensures c.blanks_end-word.ensures c.if-word-s.false c.word_end-after.ensures c.unit_part-span.ensures c.points.ensures (omega (arith, c.if-points-le1.true)) (along_hit _ c.args.units.now.indexed c.loop-p.invariant c.loop-p-test.true c.is_named.ensures c.if-is_named.true)
+returns-then-is_named c = turn_found c.numbers.invariant c.next_digit-digit.ensures c.if-digit-s.false c.sign_start-number_from.ensures c.number_end-number_to.ensures c.blanks_end-word.ensures c.if-word-s.false c.word_end-after.ensures c.unit_part-span.ensures c.points.ensures (omega (arith, c.if-points-le1.true)) (along_hit _ c.args.units.now.indexed c.loop-p.invariant c.loop-p-test.true c.is_named.ensures c.if-is_named.true)

@@ -12,8 +12,8 @@ invariant-loop-p l = Along l.units.lines.now l.units.words.now (part l.unit_from
 abbrev pub decreases-loop-p : goal.decreases-loop-p
 decreases-loop-p l = l.p
 
-abbrev pub invariant-loop-from : goal.invariant-loop-from
-invariant-loop-from l = Sought (units_or (read_units l.units.lines.now)) l.s l.from l.i
+abbrev pub invariant-numbers : goal.invariant-numbers
+invariant-numbers l = Sought (units_or (read_units l.units.lines.now)) l.s l.from l.i
 
-abbrev pub decreases-loop-from : goal.decreases-loop-from
-decreases-loop-from l = length l.s - l.i
+abbrev pub decreases-numbers : goal.decreases-numbers
+decreases-numbers l = length l.s - l.i

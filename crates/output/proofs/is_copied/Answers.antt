@@ -1,0 +1,6 @@
+use Rattle.output.specs.Runs.{is_copied}
+use Rattle.output.proofs.is_copied.Goals as goal
+
+pub returns : goal.returns
+unfolding is_copied
+returns c = rw c.is_plain.ensures
