@@ -160,14 +160,14 @@ fn all_copied(f: &[u8]) -> bool
     copied
 }
 
-// Where pieces of 16 bytes from a place on end that need no escape, VT and FF among them.
-fn copied_pieces(f: &[u8], at: usize) -> usize
-    requires { at ≤ length f.now }
+// Where pieces of so many bytes from a place on end that need no escape, VT and FF among them, up to another place.
+fn copied_pieces(f: &[u8], at: usize, upto: usize, size: usize) -> usize
+    requires { (at ≤ upto) × (upto ≤ length f.now) × (0 < size) }
     ensures { PlainTo f.now at result }
 {
     let mut i = at;
-    while 16 <= f.len() - i {
-        let e = i + 16;
+    while size <= upto - i {
+        let e = i + size;
         if !all_copied(&f[i..e]) {
             return i;
         }
@@ -176,13 +176,30 @@ fn copied_pieces(f: &[u8], at: usize) -> usize
     i
 }
 
+// The same of a text's pieces, larger ones once some have followed one another.
+fn copied_far(f: &[u8], at: usize) -> usize
+    requires { at ≤ length f.now }
+    ensures { PlainTo f.now at result }
+{
+    if f.len() - at < 64 {
+        return at;
+    }
+    let near = at + 64;
+    let a = copied_pieces(f, at, near, 16);
+    if a < near {
+        return a;
+    }
+    let b = copied_pieces(f, a, f.len(), 64);
+    copied_pieces(f, b, f.len(), 16)
+}
+
 // Where bytes from a place on end that need no escape, in a text with VT or FF.
 #[cold]
 fn copied_end(f: &[u8], at: usize) -> usize
     requires { at ≤ length f.now }
     ensures { PlainTo f.now at result }
 {
-    let a = copied_pieces(f, at);
+    let a = copied_far(f, at);
     for i in a..f.len() {
         if !is_copied(f[i]) {
             return i;

@@ -2,7 +2,7 @@ use Rattle.output.proofs.Runs.{run_copied_byte, run_whole}
 use Rattle.output.proofs.copied_end.Goals as goal
 
 pub loop-i-init : goal.loop-i-init
-loop-i-init c = c.copied_pieces-a.ensures
+loop-i-init c = c.copied_far-a.ensures
 
 pub returns-then-not-is_copied : goal.returns-then-not-is_copied
 returns-then-not-is_copied c = c.loop-i.invariant
