@@ -1,13 +1,13 @@
 -- Bytes of a field that need no escape.
-use Rattle.std.specs.Prelude.{ℕ, ◌-◌, ◌≤◌, ◌≡◌, Bool, true, not, ◌&&◌, ◌||◌, List, [], ◌∷◌, eqb, ltb, length, take, drop}
+use Rattle.std.specs.Prelude.{ℕ, ◌-◌, ◌≤◌, ◌≡◌, Bool, true, not, ◌&&◌, List, [], ◌∷◌, eqb, ltb, length, take, drop}
 
--- past the CR and no backslash: a byte that a glance tells to stand for itself
+-- past the CR and no backslash: a byte that is told at a glance to stand for itself
 unfoldable pub is_plain : ℕ → Bool
 is_plain c = ltb 13 c && not (eqb c 92)
 
--- VT and FF stand for themselves too
+-- past the LF, no CR and no backslash: a byte that stands for itself
 unfoldable pub is_copied : ℕ → Bool
-is_copied c = is_plain c || eqb c 11 || eqb c 12
+is_copied c = ltb 10 c && not (eqb c 13) && not (eqb c 92)
 
 unfoldable pub all_of : (ℕ → Bool) → List ℕ → Bool
 all_of p [] = true

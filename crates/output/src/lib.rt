@@ -146,61 +146,32 @@ fn plain_pieces(f: &[u8], at: usize, size: usize) -> usize
 fn is_copied(c: u8) -> bool
     ensures { result ≡ is_copied c }
 {
-    is_plain(c) | (c == 11) | (c == 12)
+    (10 < c) & (c != b'\r') & (c != b'\\')
 }
 
-// Whether none of the bytes needs one; every byte is asked, as above.
-fn all_copied(f: &[u8]) -> bool
-    ensures { result ≡ all_of is_copied f.now }
+// How many of 32 bytes stand before the first that needs an escape; every byte is asked, as above.
+fn copied_run(w: &[u8]) -> usize
+    requires { length w.now ≡ 32 }
+    ensures { PlainTo w.now 0 result }
 {
-    let mut copied = true;
-    for &c in f {
-        copied &= is_copied(c);
-    }
-    copied
-}
-
-// Where pieces of so many bytes from a place on end that need no escape, VT and FF among them, up to another place.
-fn copied_pieces(f: &[u8], at: usize, upto: usize, size: usize) -> usize
-    requires { (at ≤ upto) × (upto ≤ length f.now) × (0 < size) }
-    ensures { PlainTo f.now at result }
-{
-    let mut i = at;
-    while size <= upto - i {
-        let e = i + size;
-        if !all_copied(&f[i..e]) {
-            return i;
+    let mut k: u8 = 32;
+    for j in 0..w.len() {
+        let s = if is_copied(w[j]) { 32 } else { j as u8 };
+        if s < k {
+            k = s;
         }
-        i = e;
     }
-    i
+    k as usize
 }
 
-// The same of a text's pieces, larger ones once some have followed one another.
-fn copied_far(f: &[u8], at: usize) -> usize
+// Where bytes from a place on end that need no escape, near the end of a text: pieces of it are told at a glance.
+fn plain_tail(f: &[u8], at: usize) -> usize
     requires { at ≤ length f.now }
     ensures { PlainTo f.now at result }
 {
-    if f.len() - at < 64 {
-        return at;
-    }
-    let near = at + 64;
-    let a = copied_pieces(f, at, near, 16);
-    if a < near {
-        return a;
-    }
-    let b = copied_pieces(f, a, f.len(), 64);
-    copied_pieces(f, b, f.len(), 16)
-}
-
-// Where bytes from a place on end that need no escape, in a text with VT or FF.
-#[cold]
-fn copied_end(f: &[u8], at: usize) -> usize
-    requires { at ≤ length f.now }
-    ensures { PlainTo f.now at result }
-{
-    let a = copied_far(f, at);
-    for i in a..f.len() {
+    let a = plain_pieces(f, at, 16);
+    let b = plain_pieces(f, a, 4);
+    for i in b..f.len() {
         if !is_copied(f[i]) {
             return i;
         }
@@ -213,14 +184,16 @@ fn plain_end(f: &[u8], at: usize) -> usize
     requires { at ≤ length f.now }
     ensures { PlainTo f.now at result }
 {
-    let a = plain_pieces(f, at, 16);
-    let b = plain_pieces(f, a, 4);
-    for i in b..f.len() {
-        if !is_plain(f[i]) {
-            return if is_copied(f[i]) { copied_end(f, i) } else { i };
+    let mut i = at;
+    while 32 <= f.len() - i {
+        let e = i + 32;
+        let k = copied_run(&f[i..e]);
+        if k < 32 {
+            return i + k;
         }
+        i = e;
     }
-    f.len()
+    plain_tail(f, i)
 }
 
 // A field, escaped: what needs no escape is copied as it stands.
