@@ -164,14 +164,13 @@ fn copied_run(w: &[u8]) -> usize
     k as usize
 }
 
-// Where bytes from a place on end that need no escape, near the end of a text: pieces of it are told at a glance.
+// Where bytes from a place on end that need no escape, near the end of a text.
 fn plain_tail(f: &[u8], at: usize) -> usize
     requires { at ≤ length f.now }
     ensures { PlainTo f.now at result }
 {
-    let a = plain_pieces(f, at, 16);
-    let b = plain_pieces(f, a, 4);
-    for i in b..f.len() {
+    let a = plain_pieces(f, at, 4);
+    for i in a..f.len() {
         if !is_copied(f[i]) {
             return i;
         }
@@ -179,12 +178,13 @@ fn plain_tail(f: &[u8], at: usize) -> usize
     f.len()
 }
 
-// Where bytes from a place on end that need no escape.
+// Where bytes from a place on end that need no escape. Most are told at a glance, sixteen at a time; where that ends,
+// the next escape is looked for, thirty-two at a time.
 fn plain_end(f: &[u8], at: usize) -> usize
     requires { at ≤ length f.now }
     ensures { PlainTo f.now at result }
 {
-    let mut i = at;
+    let mut i = plain_pieces(f, at, 16);
     while 32 <= f.len() - i {
         let e = i + 32;
         let k = copied_run(&f[i..e]);

@@ -1,9 +1,9 @@
 use native.Mathlib.Omega.{arith}
-use Rattle.output.proofs.Runs.{run_none, run_join, run_within, run_through}
+use Rattle.output.proofs.Runs.{run_join, run_within, run_through}
 use Rattle.output.proofs.plain_end.Goals as goal
 
 pub loop-i-init : goal.loop-i-init
-loop-i-init c = run_none _ _ c.requires
+loop-i-init c = c.plain_pieces-i.ensures
 
 pub returns-then-k-lt32 : goal.returns-then-k-lt32
 returns-then-k-lt32 c = run_within _ _ _ c.loop-i.invariant c.copied_run-k.ensures (omega arith) (omega arith)

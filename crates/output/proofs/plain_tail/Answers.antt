@@ -1,8 +1,8 @@
-use Rattle.output.proofs.Runs.{run_join, run_byte, run_whole}
+use Rattle.output.proofs.Runs.{run_byte, run_whole}
 use Rattle.output.proofs.plain_tail.Goals as goal
 
 pub loop-i-init : goal.loop-i-init
-loop-i-init c = run_join c.plain_pieces-a.ensures c.plain_pieces-b.ensures
+loop-i-init c = c.plain_pieces-a.ensures
 
 pub returns-then-not-is_copied : goal.returns-then-not-is_copied
 returns-then-not-is_copied c = c.loop-i.invariant
